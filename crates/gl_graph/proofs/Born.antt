@@ -121,13 +121,6 @@ module _ (g : Graph) (law : IsLawfulGraph g) (ns : List Node) where
       ∙ ap (λ xs. xs ++ new_indexes f) (map_same (index_born g f) (index_born grown f) 1 g.births (λ b low high. old_index f b (omega arith))
       ∙ sym (indexes_are g f))
 
-  -- which of them is one of f
-  pub new_index : (f : NodeId) (k : ℕ) (node : Node) → place_in ns k ≡ Some node
-      → index_born grown f (g.births + 1 + k) ≡ (if is_index_of_shape f (Some node.shape) then Some (new_id node k) else None)
-  new_index f k node e =
-      ap (λ o. kept (λ q. is_index_of_shape f (shape_of grown q)) (id_of (g.births + 1 + k) o)) (new_at g ns k (g.births + 1 + k) none_above refl ∙ e)
-      ∙ ap (λ o. if is_index_of_shape f (shape_in o) then Some (new_id node k) else None) (new_node k node e)
-
   count_grown : node_count grown ≤ node_count g + length ns
   count_grown =
       let h : ℕ → Option NodeId = λ b. id_of b (grown.at b) in

@@ -1,13 +1,11 @@
 -- A node is removed with its children: what remains, and that it is lawful. For crates that read a graph after a drop.
-use Rattle.std.specs.Prelude.{◌≡◌, ◌≢◌, ℕ, zero, suc, ◌+◌, ◌-◌, ◌<◌, ◌≤◌, Bool, true, false, not, ◌&&◌, ◌||◌, ◌==◌, nat_lt, nat_le, List, [], ◌∷◌, ◌++◌, length}
-use Rattle.std.specs.Prelude.{Option, Some, None, is_some, if◌then◌else◌, cond, count_by}
-use Rattle.std.specs.List.{cons_option, filter, filter_map, list_all, list_any, range_with_len}
+use Rattle.std.specs.Prelude.{◌≡◌, ◌≢◌, ℕ, suc, ◌+◌, ◌-◌, ◌<◌, ◌≤◌, Bool, true, false, not, ◌&&◌, ◌||◌, ◌==◌, nat_lt, nat_le, List, [], ◌∷◌, length}
+use Rattle.std.specs.Prelude.{Option, Some, None, is_some, if◌then◌else◌}
+use Rattle.std.specs.List.{filter, filter_map, list_all, list_any, range_with_len}
 use Rattle.std.proofs.Math.Path.{fun_ext}
 use Rattle.std.proofs.lemmas.Bool.Decides.{nat_tests}
-use Rattle.std.proofs.lemmas.List.Elements.{filter_map-append}
 use Rattle.std.proofs.lemmas.List.Sums.{count_by-le-length}
-use Rattle.std.proofs.lemmas.List.{length-append}
-use Rattle.std.proofs.Common.{refl, sym, ap, ap₂, ◌∙◌, subst, arith, inl, inr, zero-add}
+use Rattle.std.proofs.Common.{refl, sym, ap, ap₂, ◌∙◌, subst, arith, inl, inr}
 use Rattle.gl_modes.proofs.NodeLemmas.{node_is, same_node-equal, same_node-refl, same_node-from_equal}
 use Rattle.gl_modes.proofs.Words.{split, cases_of, or_elim, or_left, or_right, and_both, both, clash, no, none_some, some_is, not_true}
 use Rattle.gl_modes.proofs.Words.{number_same, number_other, same_number, other_number}
@@ -15,20 +13,20 @@ use Rattle.gl_modes.specs.declared.node.NodeId.{NodeId}
 use Rattle.gl_modes.specs.Nodes.{same_node}
 use Rattle.gl_graph.specs.Shapes.{Shape, Inner, File, Index, Interval, Rec, is_inner_shape, is_file_shape, is_index_shape, is_record_shape, is_index_of_shape}
 use Rattle.gl_graph.specs.Shapes.{is_movable_shape, bounds_in, place_in}
-use Rattle.gl_graph.specs.Graph.{Graph, Node, id_of, nodes, node_count, with_key, node_at, is_live, parents_in, parents_of, shape_in, shape_of, is_child}
+use Rattle.gl_graph.specs.Graph.{Graph, Node, id_of, nodes, node_count, with_key, node_at, is_live, parents_in, shape_in, shape_of, is_child, parents_of}
 use Rattle.gl_graph.specs.Graph.{indexes_of, interval, interval_at, interval_of, interval_place, intervals_of, record_parents, key_or_zero, is_record_of}
 use Rattle.gl_graph.specs.Lawful.{AreInnerParents, HasShape, IsLawfulGraph, are_inner}
 use Rattle.gl_graph.specs.Changes.{without_node, without_branch}
 use Rattle.gl_graph.specs.Refusals.{has_records, is_in_use, is_shape_in_use}
 use Rattle.gl_graph.proofs.Look.{all_at, all_filter, finds, found_at, live_node, child_live, child_node, there_is, one_birth}
-use Rattle.gl_graph.proofs.KindRules.{is_plain, inner_plain, file_plain, index_plain, plain_live, index_of, index_node, interval_is}
-use Rattle.gl_graph.proofs.Listings.{kept, filter_of_map, map_fewer, map_same, map_none, range_append}
+use Rattle.gl_graph.proofs.KindRules.{index_in, is_plain, inner_plain, file_plain, index_plain, plain_live, index_of, index_node, interval_is}
+use Rattle.gl_graph.proofs.Listings.{kept, filter_of_map, map_fewer}
 use Rattle.gl_graph.proofs.Routes.{acyclic_fewer}
 use Rattle.gl_graph.proofs.RouteLengths.{listed}
 use Rattle.gl_graph.proofs.Moved.{some_at}
 use Rattle.gl_graph.proofs.Distinct.{index_listed}
+use Rattle.gl_graph.proofs.Tally.{picked, list_same, sifted, count_kept, tally_gap, node_tally}
 use Rattle.gl_graph.proofs.Unrefused.{or_no}
-use Rattle.gl_graph.proofs.Counts.{count_cons, count_same, nodes_live}
 use Rattle.gl_graph.specs.View.{record_count}
 
 -- the shape of an interval
@@ -41,55 +39,27 @@ interval_count (Some (Index file bounds)) = length bounds + 1
 interval_count o = 0
 
 no_interval_inner : (o : Option Shape) → is_inner_shape o ≡ true → is_interval_shape o ≡ false
-no_interval_inner None h = refl
-no_interval_inner (Some Inner) h = refl
-no_interval_inner (Some (File adopted)) h = refl
-no_interval_inner (Some (Index f bs)) h = refl
 no_interval_inner (Some (Interval place)) h = absurd (no h)
-no_interval_inner (Some (Rec keys)) h = refl
+no_interval_inner _ h = refl
 
 pub no_interval_file : (o : Option Shape) → is_file_shape o ≡ true → is_interval_shape o ≡ false
-no_interval_file None h = refl
-no_interval_file (Some Inner) h = refl
-no_interval_file (Some (File adopted)) h = refl
-no_interval_file (Some (Index f bs)) h = refl
 no_interval_file (Some (Interval place)) h = absurd (no h)
-no_interval_file (Some (Rec keys)) h = refl
+no_interval_file _ h = refl
 
 no_interval_index : (o : Option Shape) → is_index_shape o ≡ true → is_interval_shape o ≡ false
-no_interval_index None h = refl
-no_interval_index (Some Inner) h = refl
-no_interval_index (Some (File adopted)) h = refl
-no_interval_index (Some (Index f bs)) h = refl
 no_interval_index (Some (Interval place)) h = absurd (no h)
-no_interval_index (Some (Rec keys)) h = refl
-
-no_interval_record : (o : Option Shape) → is_record_shape o ≡ true → is_interval_shape o ≡ false
-no_interval_record None h = refl
-no_interval_record (Some Inner) h = refl
-no_interval_record (Some (File adopted)) h = refl
-no_interval_record (Some (Index f bs)) h = refl
-no_interval_record (Some (Interval place)) h = absurd (no h)
-no_interval_record (Some (Rec keys)) h = refl
+no_interval_index _ h = refl
 
 pub movable_no_interval : (o : Option Shape) → is_movable_shape o ≡ true → is_interval_shape o ≡ false
-movable_no_interval None h = refl
-movable_no_interval (Some Inner) h = refl
-movable_no_interval (Some (File adopted)) h = refl
-movable_no_interval (Some (Index f bs)) h = refl
 movable_no_interval (Some (Interval place)) h = absurd (no h)
-movable_no_interval (Some (Rec keys)) h = refl
+movable_no_interval _ h = refl
 
 pub movable_no_record : (o : Option Shape) → is_movable_shape o ≡ true → is_record_shape o ≡ false
-movable_no_record None h = refl
-movable_no_record (Some Inner) h = refl
-movable_no_record (Some (File adopted)) h = refl
-movable_no_record (Some (Index f bs)) h = refl
-movable_no_record (Some (Interval place)) h = refl
 movable_no_record (Some (Rec keys)) h = absurd (no h)
+movable_no_record _ h = refl
 
 -- a parent of a record is a file or an interval
-abbrev file_or_interval : Option Shape → Bool
+abbrev pub file_or_interval : Option Shape → Bool
 file_or_interval o = is_file_shape o || is_interval_shape o
 
 pub movable_live : (g : Graph) (n : NodeId) → is_movable_shape (shape_of g n) ≡ true → is_live g n ≡ true
@@ -101,46 +71,6 @@ filter_whole q p [] all each = refl
 filter_whole q p (x ∷ xs) all each =
     let t = and_both (q x) (list_all q xs) all in
     ap (λ b. if b then x ∷ filter p xs else filter p xs) (each x t.0) ∙ ap (λ ys. x ∷ ys) (filter_whole q p xs t.1 each)
-
--- two filters, in either order
-filter_twice : (q a b a' b' : NodeId → Bool) (xs : List NodeId) → list_all q xs ≡ true
-    → ((x : NodeId) → q x ≡ true → (a x && b x) ≡ (a' x && b' x)) → filter b (filter a xs) ≡ filter b' (filter a' xs)
-filter_twice q a b a' b' [] all each = refl
-filter_twice q a b a' b' (x ∷ xs) all each =
-    let t = and_both (q x) (list_all q xs) all in
-    once a b x xs ∙ ap₂ (λ t' (ys : List NodeId). if t' then x ∷ ys else ys) (each x t.0) (filter_twice q a b a' b' xs t.1 each) ∙ sym (once a' b' x xs)
-  where
-    once : (c d : NodeId → Bool) (y : NodeId) (ys : List NodeId)
-        → filter d (filter c (y ∷ ys)) ≡ (if c y && d y then y ∷ filter d (filter c ys) else filter d (filter c ys))
-    once c d y ys =
-        split (c y) (λ e. ap (λ b. filter d (if b then y ∷ filter c ys else filter c ys)) e
-        ∙ sym (ap (λ b. if b && d y then y ∷ filter d (filter c ys) else filter d (filter c ys)) e))
-        (λ e. ap (λ b. filter d (if b then y ∷ filter c ys else filter c ys)) e
-        ∙ sym (ap (λ b. if b && d y then y ∷ filter d (filter c ys) else filter d (filter c ys)) e))
-
--- each counted item passes the filter
-count_filtered : (q keep p : NodeId → Bool) (xs : List NodeId) → list_all q xs ≡ true → ((x : NodeId) → q x ≡ true → p x ≡ true → keep x ≡ true)
-    → count_by p (filter keep xs) ≡ count_by p xs
-count_filtered q keep p [] all each = refl
-count_filtered q keep p (x ∷ xs) all each =
-    let t = and_both (q x) (list_all q xs) all in
-    split (keep x)
-    (λ e. ap (λ b. count_by p (if b then x ∷ filter keep xs else filter keep xs)) e ∙ count_cons p x (filter keep xs)
-    ∙ ap (λ k. cond (p x) 1 0 + k) (count_filtered q keep p xs t.1 each) ∙ sym (count_cons p x xs))
-    (λ e. ap (λ b. count_by p (if b then x ∷ filter keep xs else filter keep xs)) e ∙ count_filtered q keep p xs t.1 each
-    ∙ sym (count_cons p x xs ∙ ap (λ b. cond b 1 0 + count_by p xs) (not_true (p x) (λ h. no (sym e ∙ each x t.0 h)))
-    ∙ zero-add (count_by p xs)))
-
--- a listing that gives a node for each birth
-map_full : (h : ℕ → Option NodeId) (a n : ℕ) → ((b : ℕ) → a ≤ b → b < a + n → is_some (h b) ≡ true) → length (filter_map h (range_with_len a n)) ≡ n
-map_full h a zero full = refl
-map_full h a (suc n) full =
-    by (h a) (full a (omega arith) (omega arith)) (map_full h (a + 1) n (λ b low high. full b (omega arith) (omega arith)))
-  where
-    by : (o : Option NodeId) → is_some o ≡ true → length (filter_map h (range_with_len (a + 1) n)) ≡ n
-        → length (cons_option o (filter_map h (range_with_len (a + 1) n))) ≡ suc n
-    by None e rest = absurd (no e)
-    by (Some x) e rest = ap suc rest
 
 module _ (g : Graph) (n : NodeId) where
   -- the node with this birth is removed
@@ -178,9 +108,6 @@ module _ (g : Graph) (n : NodeId) where
   pub left_is : (q : NodeId) → is_live left q ≡ true → node_at left q ≡ node_at g q
   left_is q h = let x = live_node (node_at left q) h in left_same q (left_birth q x.0 x.1)
 
-  pub left_parents : (q : NodeId) → is_live left q ≡ true → parents_of left q ≡ parents_of g q
-  left_parents q h = ap parents_in (left_is q h)
-
   pub left_shape : (q : NodeId) → is_live left q ≡ true → shape_of left q ≡ shape_of g q
   left_shape q h = ap shape_in (left_is q h)
 
@@ -210,8 +137,7 @@ module _ (g : Graph) (n : NodeId) where
     -- a node lives then exactly if it lived, is not the one, and is no child of it
     pub left_live : (q : NodeId) → is_live left q ≡ (is_live g q && not (same_node n q || is_child g n q))
     left_live q =
-        split (is_live g q)
-        (λ h. split (same_node n q || is_child g n q)
+        split (is_live g q) (λ h. split (same_node n q || is_child g n q)
         (λ t. ap (λ o. is_some (with_key q.key o)) (at_gone q.birth (gone_is q h ∙ t)) ∙ sym (ap₂ (λ a b. a && not b) h t))
         (λ t. ap is_some (left_same q (gone_is q h ∙ t)) ∙ h ∙ sym (ap₂ (λ a b. a && not b) h t)))
         (λ h. not_true (is_live left q) (λ k. no (sym h ∙ left_was_live q k)) ∙ sym (ap (λ a. a && not (same_node n q || is_child g n q)) h))
@@ -228,10 +154,8 @@ module _ (g : Graph) (n : NodeId) where
             let q : NodeId = record { key = x.key; birth = b } in
             let h : is_live g (record { key = x.key; birth = b }) ≡ true = ap is_some (finds x.key (g.at b) x e refl) in
             let is = gone_is (record { key = x.key; birth = b }) h in
-            split (gone b)
-            (λ t. ap (id_of b) (at_gone b t)
-            ∙ sym (ap (λ c. if not c then Some (record { key = x.key; birth = b }) else None) (sym is ∙ t)))
-            (λ t. ap (id_of b) (at_beside b t ∙ e)
+            split (gone b) (λ t. ap (id_of b) (at_gone b t)
+            ∙ sym (ap (λ c. if not c then Some (record { key = x.key; birth = b }) else None) (sym is ∙ t))) (λ t. ap (id_of b) (at_beside b t ∙ e)
             ∙ sym (ap (λ c. if not c then Some (record { key = x.key; birth = b }) else None) (sym is ∙ t)))
 
         each : (b : ℕ) → id_of b (left.at b) ≡ kept (λ q. not (same_node n q || is_child g n q)) (id_of b (g.at b))
@@ -261,16 +185,14 @@ module _ (g : Graph) (law : IsLawfulGraph g) where
   interval_among f p (i ∷ is) [] h k = absurd (no k)
   interval_among f p (i ∷ is) (key ∷ keys) h k =
       let t = and_both _ _ h in
-      or_elim _ _ k
-      (λ here. let it = interval_is g law f i key t.0 in
+      or_elim _ _ k (λ here. let it = interval_is g law f i key t.0 in
       ap (λ q. is_interval_shape (shape_of g q)) (same_node-equal p _ here) ∙ ap (λ o. is_interval_shape (shape_in o)) it)
       (λ there. interval_among f p is keys t.1 there)
 
-  parent_of_record : (f p : NodeId) (keys : List ℕ) → is_file_shape (shape_of g f) ≡ true → list_any (same_node p) (record_parents g f keys) ≡ true
+  pub parent_of_record : (f p : NodeId) (keys : List ℕ) → is_file_shape (shape_of g f) ≡ true → list_any (same_node p) (record_parents g f keys) ≡ true
       → file_or_interval (shape_of g p) ≡ true
   parent_of_record f p keys h k =
-      or_elim _ _ k
-      (λ here. or_left (is_file_shape (shape_of g p)) _ (ap (λ q. is_file_shape (shape_of g q)) (same_node-equal p f here) ∙ h))
+      or_elim _ _ k (λ here. or_left (is_file_shape (shape_of g p)) _ (ap (λ q. is_file_shape (shape_of g q)) (same_node-equal p f here) ∙ h))
       (λ there. or_right (is_file_shape (shape_of g p)) _ (interval_among f p (indexes_of g f) keys
       (all_filter (λ i. is_index_of_shape f (shape_of g i)) (nodes g)) there))
 
@@ -281,13 +203,12 @@ module _ (g : Graph) (law : IsLawfulGraph g) where
   parent_kind sh o = is_inner_shape o
 
   parent_by : (sh : Shape) (ps : List NodeId) (q p : NodeId) → HasShape g q sh ps → list_any (same_node p) ps ≡ true → parent_kind sh (shape_of g p) ≡ true
-  parent_by Inner ps q p h k = all_at (λ x. is_inner_shape (shape_of g x)) ps p k h.inner
-  parent_by (File adopted) ps q p h k = all_at (λ x. is_inner_shape (shape_of g x)) ps p k h.inner
   parent_by (Index f bs) ps q p h k = all_at (λ x. is_inner_shape (shape_of g x)) ps p k h.0.inner
   parent_by (Interval place) ps q p h k =
       or_elim _ _ (sym (ap (list_any (same_node p)) h.1) ∙ k)
       (λ here. ap (λ x. is_index_shape (shape_of g x)) (same_node-equal p h.0 here) ∙ h.2) (λ none. absurd (no none))
   parent_by (Rec keys) ps q p h k = parent_of_record h.0 p keys h.1.file_is (sym (ap (list_any (same_node p)) h.1.parents) ∙ k)
+  parent_by _ ps q p h k = all_at (λ x. is_inner_shape (shape_of g x)) ps p k h.inner
 
   pub parent_is : (q p : NodeId) → is_child g p q ≡ true → (sh : Shape) × (shape_of g q ≡ Some sh) × (parent_kind sh (shape_of g p) ≡ true)
   parent_is q p h =
@@ -308,19 +229,14 @@ module _ (g : Graph) (law : IsLawfulGraph g) (n f : NodeId) (bs : List ℕ) (sha
     where
       by : (sh : Shape) (ps : List NodeId) → is_interval_shape (Some sh) ≡ true → HasShape g q sh ps → list_any (same_node n) ps ≡ true
           → (place : ℕ) × (place ≤ length bs) × (q ≡ interval g n place)
-      by Inner ps i h l = absurd (no i)
-      by (File adopted) ps i h l = absurd (no i)
-      by (Index f' bs') ps i h l = absurd (no i)
       by (Interval place) ps i h l =
-          or_elim (same_node n h.0) false (sym (ap (list_any (same_node n)) h.1) ∙ l)
-          (λ here.
+          or_elim (same_node n h.0) false (sym (ap (list_any (same_node n)) h.1) ∙ l) (λ here.
           let same : h.0 ≡ n = sym (same_node-equal n h.0 here) in (
             place,
             subst (λ (bounds : List ℕ). place ≤ length bounds) (ap (λ m. bounds_in (shape_of g m)) same ∙ ap bounds_in shape) h.3,
             h.4 ∙ ap (λ m. interval g m place) same,
-          ))
-          (λ none. absurd (no none))
-      by (Rec keys) ps i h l = absurd (no i)
+          )) (λ none. absurd (no none))
+      by _ ps i h l = absurd (no i)
 
 -- a movable node is removed with its children, if it is not in use
 module _ (g : Graph) (law : IsLawfulGraph g) (n : NodeId) (movable : is_movable_shape (shape_of g n) ≡ true) (free : is_in_use g n ≡ false) where
@@ -330,30 +246,22 @@ module _ (g : Graph) (law : IsLawfulGraph g) (n : NodeId) (movable : is_movable_
   -- a child of it is an interval, and it is an index
   child_of : (o : Option Shape) → shape_of g n ≡ o → (q : NodeId) → is_child g n q ≡ true
       → (is_index_shape o ≡ true) × (is_interval_shape (shape_of g q) ≡ true)
-  child_of None e q c = absurd (no (sym (ap is_movable_shape e) ∙ movable))
   child_of (Some Inner) e q c =
       absurd (clash (some_at (is_child g n) (nodes g) q (listed g law q (child_live g q n c)) c) (sym (ap (is_shape_in_use g n) e) ∙ free))
   child_of (Some (File adopted)) e q c = let p = parent_is g law q n c in absurd (by p.0 p.1 (ap (parent_kind g law p.0) (sym e) ∙ p.2))
     where
       by : (sh : Shape) → shape_of g q ≡ Some sh → parent_kind g law sh (Some (File adopted)) ≡ true → ⊥
-      by Inner s h = no h
-      by (File adopted') s h = no h
-      by (Index f bs) s h = no h
-      by (Interval place) s h = no h
       by (Rec keys) s h =
           clash (some_at (is_record_of g n) (nodes g) q (listed g law q (child_live g q n c)) (both _ _ (ap is_record_shape s) c))
           (or_no (has_records g n) _ (sym (ap (is_shape_in_use g n) e) ∙ free)).0
+      by _ s h = no h
   child_of (Some (Index f bs)) e q c = let p = parent_is g law q n c in by p.0 p.1 (ap (parent_kind g law p.0) (sym e) ∙ p.2)
     where
       by : (sh : Shape) → shape_of g q ≡ Some sh → parent_kind g law sh (Some (Index f bs)) ≡ true
           → (true ≡ true) × (is_interval_shape (shape_of g q) ≡ true)
-      by Inner s h = absurd (no h)
-      by (File adopted') s h = absurd (no h)
-      by (Index f' bs') s h = absurd (no h)
       by (Interval place) s h = (refl, ap is_interval_shape s)
-      by (Rec keys) s h = absurd (no h)
-  child_of (Some (Interval place)) e q c = absurd (no (sym (ap is_movable_shape e) ∙ movable))
-  child_of (Some (Rec keys)) e q c = absurd (no (sym (ap is_movable_shape e) ∙ movable))
+      by _ s h = absurd (no h)
+  child_of _ e q c = absurd (no (sym (ap is_movable_shape e) ∙ movable))
 
   -- the children are intervals
   pub children_are : (q : NodeId) → is_child g n q ≡ true → (is_index_shape (shape_of g n) ≡ true) × (is_interval_shape (shape_of g q) ≡ true)
@@ -361,40 +269,23 @@ module _ (g : Graph) (law : IsLawfulGraph g) (n : NodeId) (movable : is_movable_
 
   -- each is the interval at a place, and each interval is a child
   pub child_at : (q : NodeId) → is_child g n q ≡ true → (place : ℕ) × (interval_at g n place ≡ Some q)
-  child_at q c = let kinds = children_are q c in by (shape_of g n) refl kinds.0 kinds.1
-    where
-      by : (o : Option Shape) → shape_of g n ≡ o → is_index_shape o ≡ true → is_interval_shape (shape_of g q) ≡ true
-          → (place : ℕ) × (interval_at g n place ≡ Some q)
-      by None s h k = absurd (no h)
-      by (Some Inner) s h k = absurd (no h)
-      by (Some (File adopted)) s h k = absurd (no h)
-      by (Some (Index f bs)) s h k =
-          let it = child_interval g law n f bs s q c k in
-          let low : nat_le it.0 (length bs) ≡ true = (let l = it.1 in grind (arith, nat_tests)) in (
-            it.0,
-            ap (λ o. if is_index_shape o && nat_le it.0 (length (bounds_in o)) then Some (interval g n it.0) else None) s
-                ∙ ap (λ b. if b then Some (interval g n it.0) else None) low ∙ ap Some (sym it.2),
-          )
-      by (Some (Interval place)) s h k = absurd (no h)
-      by (Some (Rec keys)) s h k = absurd (no h)
+  child_at q c =
+      let kinds = children_are q c in
+      let i = index_in (shape_of g n) kinds.0 in
+      let it = child_interval g law n i.0 (bounds_in (shape_of g n)) i.1 q c kinds.1 in
+      let low : nat_le it.0 (length (bounds_in (shape_of g n))) ≡ true = (let l = it.1 in grind (arith, nat_tests)) in
+      (it.0, ap₂ (λ a b. if a && b then Some (interval g n it.0) else None) kinds.0 low ∙ ap Some (sym it.2))
 
   pub at_child : (place : ℕ) (q : NodeId) → interval_at g n place ≡ Some q → is_child g n q ≡ true
-  at_child place q e = by (shape_of g n) refl e
-    where
-      by : (o : Option Shape) → shape_of g n ≡ o
-          → (if is_index_shape o && nat_le place (length (bounds_in o)) then Some (interval g n place) else None) ≡ Some q → is_child g n q ≡ true
-      by None s h = absurd (none_some h)
-      by (Some Inner) s h = absurd (none_some h)
-      by (Some (File adopted)) s h = absurd (none_some h)
-      by (Some (Index f bs)) s h =
-          split (nat_le place (length bs))
-          (λ t.
-          let low : place ≤ length bs = grind (arith, nat_tests) in
-          let same : interval g n place ≡ q = some_is (sym (ap (λ b. if b then Some (interval g n place) else None) t) ∙ h) in
-          ap (is_child g n) (sym same) ∙ interval_child g law n f bs s place low)
-          (λ t. absurd (none_some (sym (ap (λ b. if b then Some (interval g n place) else None) t) ∙ h)))
-      by (Some (Interval place')) s h = absurd (none_some h)
-      by (Some (Rec keys)) s h = absurd (none_some h)
+  at_child place q e =
+      split (is_index_shape (shape_of g n) && nat_le place (length (bounds_in (shape_of g n)))) (λ t.
+      let tests = and_both (is_index_shape (shape_of g n)) (nat_le place (length (bounds_in (shape_of g n)))) t in
+      let test = tests.1 in
+      let low : place ≤ length (bounds_in (shape_of g n)) = grind (arith, nat_tests) in
+      let i = index_in (shape_of g n) tests.0 in
+      ap (is_child g n) (some_is (sym e ∙ ap (λ b. if b then Some (interval g n place) else None) t))
+      ∙ interval_child g law n i.0 (bounds_in (shape_of g n)) i.1 place low)
+      (λ t. absurd (none_some (sym (ap (λ b. if b then Some (interval g n place) else None) t) ∙ e)))
 
   -- a node that is no index has no children
   pub no_children : is_index_shape (shape_of g n) ≡ false → (q : NodeId) → is_child g n q ≡ false
@@ -417,22 +308,15 @@ module _ (g : Graph) (law : IsLawfulGraph g) (n : NodeId) (movable : is_movable_
       let file : is_file_shape (shape_of g n) ≡ true = ap (λ q. is_file_shape (shape_of g q)) same ∙ node.file in
       let listed_there = index_listed g law n i (plain_live g i (ap is_plain e))
       (ap (is_index_of_shape n) e ∙ t) in
-      by (shape_of g n) file free (indexes_of g n) refl listed_there)
+      none_there (indexes_of g n) (unlisted (shape_of g n) file free) listed_there)
     where
-      some_there : (k : ℕ) → nat_lt 0 (suc k) ≡ true
-      some_there k = grind (arith, nat_tests)
+      unlisted : (o : Option Shape) → is_file_shape o ≡ true → is_shape_in_use g n o ≡ false → nat_lt 0 (length (indexes_of g n)) ≡ false
+      unlisted (Some (File adopted)) h k = (or_no (has_records g n) (nat_lt 0 (length (indexes_of g n))) k).1
+      unlisted _ h k = absurd (no h)
 
-      by : (o : Option Shape) → is_file_shape o ≡ true → is_shape_in_use g n o ≡ false → (is : List NodeId) → indexes_of g n ≡ is
-          → list_any (same_node i) is ≡ true → ⊥
-      by None h k is e' l = no h
-      by (Some Inner) h k is e' l = no h
-      by (Some (File adopted)) h k [] e' l = no l
-      by (Some (File adopted)) h k (x ∷ is) e' l =
-          no (sym (or_no (has_records g n) (nat_lt 0 (length (indexes_of g n))) k).1 ∙ ap (λ (xs : List NodeId). nat_lt 0 (length xs)) e'
-          ∙ some_there (length is))
-      by (Some (Index f' bs')) h k is e' l = no h
-      by (Some (Interval place)) h k is e' l = no h
-      by (Some (Rec keys)) h k is e' l = no h
+      none_there : (is : List NodeId) → nat_lt 0 (length is) ≡ false → list_any (same_node i) is ≡ true → ⊥
+      none_there [] h l = no l
+      none_there (x ∷ is) h l = let some : nat_lt 0 (suc (length is)) ≡ true = grind (arith, nat_tests) in no (sym h ∙ some)
 
   -- and no index of the file of a record
   no_index : (f r : NodeId) → is_record_shape (shape_of g r) ≡ true → is_child g f r ≡ true → is_index_of_shape f (shape_of g n) ≡ false
@@ -446,39 +330,43 @@ module _ (g : Graph) (law : IsLawfulGraph g) (n : NodeId) (movable : is_movable_
   -- the indexes of a file are those that it had, without the node
   pub indexes_left : (f : NodeId) → indexes_of (left g n) f ≡ filter (λ i. not (same_node n i)) (indexes_of g f)
   indexes_left f =
-      ap (filter (λ i. is_index_of_shape f (shape_of (left g n) i))) (nodes_left g n live)
-      ∙ filter_twice (is_live g) (λ q. not (same_node n q || is_child g n q)) (λ i. is_index_of_shape f (shape_of (left g n) i))
-      (λ i. is_index_of_shape f (shape_of g i)) (λ i. not (same_node n i)) (nodes g) (nodes_live g) each
+      list_same (λ q o. is_index_of_shape f (shape_in o) && not (same_node n q)) (λ q o. is_index_of_shape f (shape_in o)) g (left g n) refl (λ b.
+      by b (g.at b) refl)
+      ∙ sym (sifted (λ q. is_index_of_shape f (shape_of g q)) (λ q. not (same_node n q)) (nodes g))
     where
       index_no_interval : (o : Option Shape) → is_interval_shape o ≡ true → is_index_of_shape f o ≡ false
-      index_no_interval None h = absurd (no h)
-      index_no_interval (Some Inner) h = absurd (no h)
-      index_no_interval (Some (File adopted)) h = absurd (no h)
-      index_no_interval (Some (Index f' bs)) h = absurd (no h)
       index_no_interval (Some (Interval place)) h = refl
-      index_no_interval (Some (Rec keys)) h = absurd (no h)
+      index_no_interval _ h = absurd (no h)
 
       nothing : (b : Bool) → (b && false) ≡ false
       nothing true = refl
       nothing false = refl
 
-      each : (x : NodeId) → is_live g x ≡ true
-          → (not (same_node n x || is_child g n x) && is_index_of_shape f (shape_of (left g n) x))
-          ≡ (is_index_of_shape f (shape_of g x) && not (same_node n x))
-      each x h =
-          split (same_node n x)
-          (λ t. ap (λ b. not (b || is_child g n x) && is_index_of_shape f (shape_of (left g n) x)) t
-          ∙ sym (ap (λ b. is_index_of_shape f (shape_of g x) && not b) t ∙ nothing (is_index_of_shape f (shape_of g x))))
-          (λ t. split (is_child g n x)
-          (λ c. ap₂ (λ a b. not (a || b) && is_index_of_shape f (shape_of (left g n) x)) t c
-          ∙ sym (ap (λ b. b && not (same_node n x)) (index_no_interval (shape_of g x) (children_are x c).1)))
-          (λ c. ap₂ (λ a b. not (a || b) && is_index_of_shape f (shape_of (left g n) x)) t c
-          ∙ ap (λ o. is_index_of_shape f (shape_in o)) (stays_left g n live x h t c)
-          ∙ sym (ap (λ b. is_index_of_shape f (shape_of g x) && not b) t ∙ whole (is_index_of_shape f (shape_of g x)))))
-        where
-          whole : (b : Bool) → (b && true) ≡ b
-          whole true = refl
-          whole false = refl
+      whole : (b : Bool) → (b && true) ≡ b
+      whole true = refl
+      whole false = refl
+
+      by : (b : ℕ) (o : Option Node) → g.at b ≡ o → picked (λ q o'. is_index_of_shape f (shape_in o')) b ((left g n).at b)
+          ≡ picked (λ q o'. is_index_of_shape f (shape_in o') && not (same_node n q)) b (g.at b)
+      by b None e =
+          ap (picked (λ q o'. is_index_of_shape f (shape_in o')) b) (split (gone g n b) (λ t. at_gone g n b t) (λ t. at_beside g n b t ∙ e))
+          ∙ sym (ap (picked (λ q o'. is_index_of_shape f (shape_in o') && not (same_node n q)) b) e)
+      by b (Some x) e =
+          let id : NodeId = record { key = x.key; birth = b } in
+          let there : node_at g (record { key = x.key; birth = b }) ≡ Some x = finds x.key (g.at b) x e refl in
+          let is = gone_is g n live (record { key = x.key; birth = b }) (ap is_some there) in
+          split (gone g n b) (λ t. ap (picked (λ q o'. is_index_of_shape f (shape_in o')) b) (at_gone g n b t)
+          ∙ sym (ap (picked (λ q o'. is_index_of_shape f (shape_in o') && not (same_node n q)) b) e
+          ∙ ap (λ z. if z then Some (record { key = x.key; birth = b }) else None)
+          (or_elim (same_node n (record { key = x.key; birth = b })) (is_child g n (record { key = x.key; birth = b })) (sym is ∙ t)
+          (λ same. ap (λ z. is_index_of_shape f (Some x.shape) && not z) same ∙ nothing (is_index_of_shape f (Some x.shape)))
+          (λ c. ap (λ z. z && not (same_node n (record { key = x.key; birth = b })))
+          (index_no_interval (Some x.shape) (sym (ap (λ o. is_interval_shape (shape_in o)) there) ∙ (children_are (record { key = x.key; birth = b }) c).1))))))
+          (λ t. ap (picked (λ q o'. is_index_of_shape f (shape_in o')) b) (at_beside g n b t ∙ e)
+          ∙ sym (ap (picked (λ q o'. is_index_of_shape f (shape_in o') && not (same_node n q)) b) e
+          ∙ ap (λ z. if is_index_of_shape f (Some x.shape) && not z then Some (record { key = x.key; birth = b }) else None)
+          (or_no (same_node n (record { key = x.key; birth = b })) (is_child g n (record { key = x.key; birth = b })) (sym is ∙ t)).0
+          ∙ ap (λ z. if z then Some (record { key = x.key; birth = b }) else None) (whole (is_index_of_shape f (Some x.shape)))))
 
   -- another file keeps its indexes
   pub other_indexes : (f : NodeId) → is_index_of_shape f (shape_of g n) ≡ false → indexes_of (left g n) f ≡ indexes_of g f
@@ -510,8 +398,7 @@ module _ (g : Graph) (law : IsLawfulGraph g) (n : NodeId) (movable : is_movable_
   index_above f p (i ∷ is) [] h k c = absurd (no k)
   index_above f p (i ∷ is) (key ∷ keys) h k c =
       let t = and_both (is_index_of_shape f (shape_of g i)) (list_all (λ i'. is_index_of_shape f (shape_of g i')) is) h in
-      or_elim (same_node p (interval_of g i key)) (list_any (same_node p) (intervals_of g is keys)) k
-      (λ here.
+      or_elim (same_node p (interval_of g i key)) (list_any (same_node p) (intervals_of g is keys)) k (λ here.
       let it = interval_is g law f i key t.0 in
       let one : (same_node n i || false) ≡ true =
       sym (ap (λ o. list_any (same_node n) (parents_in o)) it) ∙ ap (is_child g n) (sym (same_node-equal p (interval_of g i key) here)) ∙ c in
@@ -538,8 +425,7 @@ module _ (g : Graph) (law : IsLawfulGraph g) (n : NodeId) (movable : is_movable_
           ap (λ o. list_any (same_node k.0) (parents_in o)) e ∙ ap (list_any (same_node k.0)) (ep ∙ k.1.parents) ∙ or_left _ _ (same_node-refl k.0) in
           or_elim (same_node p k.0) (list_any (same_node p) (intervals_of g (indexes_of g k.0) keys)) (sym (ap (list_any (same_node p)) k.1.parents) ∙ l)
           (λ here. no (sym (no_interval_file (shape_of g p) (ap (λ m. is_file_shape (shape_of g m)) (same_node-equal p k.0 here) ∙ k.1.file_is))
-          ∙ (children_are p c).1))
-          (λ there. clash (index_above k.0 p (indexes_of g k.0) keys
+          ∙ (children_are p c).1)) (λ there. clash (index_above k.0 p (indexes_of g k.0) keys
           (all_filter (λ i. is_index_of_shape k.0 (shape_of g i)) (nodes g)) there c) (no_index k.0 q rec child))
 
   -- the remaining parents of a list
@@ -548,8 +434,7 @@ module _ (g : Graph) (law : IsLawfulGraph g) (n : NodeId) (movable : is_movable_
   inner_left (p ∷ ps) h k =
       let t = and_both (is_inner_shape (shape_of g p)) (are_inner g ps) h in
       let u = or_no (same_node n p) (list_any (same_node n) ps) k in
-      both _ _
-      (ap (λ o. is_inner_shape (shape_in o)) (other_stays p (plain_live g p (inner_plain _ t.0)) (no_interval_inner (shape_of g p) t.0) u.0) ∙ t.0)
+      both _ _ (ap (λ o. is_inner_shape (shape_in o)) (other_stays p (plain_live g p (inner_plain _ t.0)) (no_interval_inner (shape_of g p) t.0) u.0) ∙ t.0)
       (inner_left ps t.1 u.1)
 
   parents_left : (least : ℕ) (ps : List NodeId) → AreInnerParents g least ps → list_any (same_node n) ps ≡ false → AreInnerParents (left g n) least ps
@@ -573,10 +458,8 @@ module _ (g : Graph) (law : IsLawfulGraph g) (n : NodeId) (movable : is_movable_
       let low : interval_place (bounds_in (shape_of g i)) key ≤ length (bounds_in (shape_of g i)) =
       count_by-le-length (λ b. nat_le b key) (bounds_in (shape_of g i)) in
       let few : length (bounds_in (shape_of g i)) ≡ length index.1 = ap (λ o. length (bounds_in o)) index.2 in
-      ap₂ (λ x xs. x ∷ xs)
-      (ap (λ o. interval (left g n) i (interval_place (bounds_in (shape_in o)) key)) stays
-      ∙ (interval_stays i index.0 index.1 index.2 not_n (interval_place (bounds_in (shape_of g i)) key) (omega arith)).1)
-      (intervals_left f is keys t.1 other)
+      ap₂ (λ x xs. x ∷ xs) (ap (λ o. interval (left g n) i (interval_place (bounds_in (shape_in o)) key)) stays
+      ∙ (interval_stays i index.0 index.1 index.2 not_n (interval_place (bounds_in (shape_of g i)) key) (omega arith)).1) (intervals_left f is keys t.1 other)
 
   -- what its kind requires of a remaining node
   shape_asks : (sh : Shape) (ps : List NodeId) (q : NodeId) (node : Node) → node_at (left g n) q ≡ Some node → node.shape ≡ sh → node.parents ≡ ps
@@ -667,36 +550,24 @@ module _ (g : Graph) (law : IsLawfulGraph g) (n : NodeId) (movable : is_movable_
   span = interval_count (shape_of g n)
 
   within_span : (b : ℕ) → is_some (g.at b) ≡ true → gone g n b ≡ true → (n.birth ≤ b) × (b ≤ n.birth + span)
-  within_span b there e = by (shape_of g n) refl
-    where
-      by : (o : Option Shape) → shape_of g n ≡ o → (n.birth ≤ b) × (b ≤ n.birth + interval_count o)
-      by o s =
-          split (b == n.birth) (λ t. let same = same_number b n.birth t in (omega arith, omega arith))
-          (λ t.
-          let x = live_node (g.at b) there in
-          let id : NodeId = record { key = x.0.key; birth = b } in
-          let c : is_child g n (record { key = x.0.key; birth = b }) ≡ true =
-          ap (λ o'. list_any (same_node n) (parents_in o')) (finds x.0.key (g.at b) x.0 x.1 refl ∙ sym x.1)
-          ∙ or_elim (b == n.birth) (list_any (same_node n) (parents_in (g.at b))) e (λ h. absurd (no (sym t ∙ h))) (λ h. h) in
-          child o s (record { key = x.0.key; birth = b }) refl c)
-        where
-          child : (o' : Option Shape) → shape_of g n ≡ o' → (q : NodeId) → q.birth ≡ b → is_child g n q ≡ true
-              → (n.birth ≤ b) × (b ≤ n.birth + interval_count o')
-          child None s' q here c = absurd (no (sym (ap is_index_shape s') ∙ (children_are q c).0))
-          child (Some Inner) s' q here c = absurd (no (sym (ap is_index_shape s') ∙ (children_are q c).0))
-          child (Some (File adopted)) s' q here c = absurd (no (sym (ap is_index_shape s') ∙ (children_are q c).0))
-          child (Some (Index f bs)) s' q here c =
-              let it = child_interval g law n f bs s' q c (children_are q c).1 in
-              let low = it.1 in
-              let birth : q.birth ≡ n.birth + 1 + it.0 = ap (λ m. m.birth) it.2 in
-              (omega arith, omega arith)
-          child (Some (Interval place)) s' q here c = absurd (no (sym (ap is_index_shape s') ∙ (children_are q c).0))
-          child (Some (Rec keys)) s' q here c = absurd (no (sym (ap is_index_shape s') ∙ (children_are q c).0))
+  within_span b there e =
+      split (b == n.birth) (λ t. let same = same_number b n.birth t in (omega arith, omega arith)) (λ t.
+      let x = live_node (g.at b) there in
+      let q : NodeId = record { key = x.0.key; birth = b } in
+      let c : is_child g n (record { key = x.0.key; birth = b }) ≡ true =
+      ap (λ o'. list_any (same_node n) (parents_in o')) (finds x.0.key (g.at b) x.0 x.1 refl ∙ sym x.1)
+      ∙ or_elim (b == n.birth) (list_any (same_node n) (parents_in (g.at b))) e (λ h. absurd (no (sym t ∙ h))) (λ h. h) in
+      let kinds = children_are (record { key = x.0.key; birth = b }) c in
+      let i = index_in (shape_of g n) kinds.0 in
+      let it = child_interval g law n i.0 (bounds_in (shape_of g n)) i.1 (record { key = x.0.key; birth = b }) c kinds.1 in
+      let low = it.1 in
+      let birth : b ≡ n.birth + 1 + it.0 = ap (λ m. m.birth) it.2 in
+      let many : interval_count (shape_of g n) ≡ length (bounds_in (shape_of g n)) + 1 = ap interval_count i.1 in
+      (omega arith, omega arith))
 
   all_span : (b : ℕ) → n.birth ≤ b → b < n.birth + suc span → (is_some (g.at b) ≡ true) × (gone g n b ≡ true)
   all_span b low high =
-      split (b == n.birth)
-      (λ t.
+      split (b == n.birth) (λ t.
       let node = live_node (node_at g n) live in
       (there_is (g.at b) node.0 (ap g.at (same_number b n.birth t) ∙ (found_at g n node.0 node.1).0), or_left (b == n.birth) _ t))
       (λ t. by (shape_of g n) refl (let ne = other_number b n.birth t in above (omega_less b n.birth low ne)) high)
@@ -713,9 +584,6 @@ module _ (g : Graph) (law : IsLawfulGraph g) (n : NodeId) (movable : is_movable_
 
       by : (o : Option Shape) → shape_of g n ≡ o → n.birth + 1 + (b - n.birth - 1) ≡ b → b < n.birth + suc (interval_count o)
           → (is_some (g.at b) ≡ true) × (gone g n b ≡ true)
-      by None s e h = absurd (omega arith)
-      by (Some Inner) s e h = absurd (omega arith)
-      by (Some (File adopted)) s e h = absurd (omega arith)
       by (Some (Index f bs)) s e h =
           let place : ℕ = b - n.birth - 1 in
           let low' : b - n.birth - 1 ≤ length bs = omega arith in
@@ -724,61 +592,45 @@ module _ (g : Graph) (law : IsLawfulGraph g) (n : NodeId) (movable : is_movable_
             there_is (g.at b) _ at,
             or_right (b == n.birth) _ (ap (λ o. list_any (same_node n) (parents_in o)) at ∙ or_left _ _ (same_node-refl n)),
           )
-      by (Some (Interval place)) s e h = absurd (omega arith)
-      by (Some (Rec keys)) s e h = absurd (omega arith)
-
-  parts : (h : ℕ → Option NodeId)
-      → length (filter_map h (range_with_len 1 g.births)) ≡ length (filter_map h (range_with_len 1 (n.birth - 1)))
-      + (length (filter_map h (range_with_len n.birth (suc span))) + length (filter_map h (range_with_len (n.birth + suc span) (g.births - (n.birth + span)))))
-  parts h =
-      let first = law.born n.birth (all_span n.birth (omega arith) (omega arith)).0 in
-      let last = law.born (n.birth + span) (all_span (n.birth + span) (omega arith) (omega arith)).0 in
-      ap (λ bs. length (filter_map h bs))
-      (range_append 1 (n.birth - 1) (suc span + (g.births - (n.birth + span))) g.births n.birth (omega arith) (omega arith)
-      ∙ ap (λ bs. range_with_len 1 (n.birth - 1) ++ bs)
-      (range_append n.birth (suc span) (g.births - (n.birth + span)) (suc span + (g.births - (n.birth + span))) (n.birth + suc span) refl refl))
-      ∙ ap length (filter_map-append h (range_with_len 1 (n.birth - 1))
-      (range_with_len n.birth (suc span) ++ range_with_len (n.birth + suc span) (g.births - (n.birth + span))))
-      ∙ length-append (filter_map h (range_with_len 1 (n.birth - 1))) _
-      ∙ ap (λ k. length (filter_map h (range_with_len 1 (n.birth - 1))) + k)
-      (ap length (filter_map-append h (range_with_len n.birth (suc span)) (range_with_len (n.birth + suc span) (g.births - (n.birth + span))))
-      ∙ length-append (filter_map h (range_with_len n.birth (suc span))) _)
-
-  beside_span : (b : ℕ) → ((n.birth ≤ b) × (b ≤ n.birth + span) → ⊥) → (left g n).at b ≡ g.at b
-  beside_span b out =
-      cases_of (g.at b) (λ e. split (gone g n b) (λ t. at_gone g n b t ∙ sym e) (λ t. at_beside g n b t))
-      (λ x e. at_beside g n b (not_true (gone g n b) (λ t. out (within_span b (there_is (g.at b) x e) t))))
+      by _ s e h = absurd (omega arith)
 
   -- the node and its intervals are that many
   pub count_left : node_count g ≡ node_count (left g n) + (1 + interval_count (shape_of g n))
   count_left =
-      let h : ℕ → Option NodeId = λ b. id_of b (g.at b) in
-      let all = parts (λ b. id_of b (g.at b)) in
-      let rest = parts (λ b. id_of b ((left g n).at b)) in
-      let full : length (filter_map (λ b. id_of b (g.at b)) (range_with_len n.birth (suc span))) ≡ suc span =
-      map_full (λ b. id_of b (g.at b)) n.birth (suc span) (λ b low high. named b (g.at b) (all_span b low high).0) in
-      let none : length (filter_map (λ b. id_of b ((left g n).at b)) (range_with_len n.birth (suc span))) ≡ 0 =
-      ap length (map_none (λ b. id_of b ((left g n).at b)) n.birth (suc span)
-      (λ b low high. ap (id_of b) (at_gone g n b (all_span b low high).1))) in
-      let before = ap length (map_same (λ b. id_of b (g.at b)) (λ b. id_of b ((left g n).at b)) 1 (n.birth - 1)
-      (λ b low high. ap (id_of b) (beside_span b (λ t. let x = t.0 in absurd (omega arith))))) in
-      let after = ap length (map_same (λ b. id_of b (g.at b)) (λ b. id_of b ((left g n).at b)) (n.birth + suc span) (g.births - (n.birth + span))
-      (λ b low high. ap (id_of b) (beside_span b (λ t. let x = t.1 in absurd (omega arith))))) in
+      let first = law.born n.birth (all_span n.birth (omega arith) (omega arith)).0 in
+      let last = law.born (n.birth + span) (all_span (n.birth + span) (omega arith) (omega arith)).0 in
+      let all = node_tally g in
+      let rest = node_tally (left g n) in
+      let gap = tally_gap (λ b. is_some (g.at b)) (λ b. is_some ((left g n).at b)) n.birth (suc span) 1 g.births
+      (λ b low out. ap is_some (split (gone g n b) (λ t. at_gone g n b t ∙ sym (cases_of (g.at b) (λ e. e) (λ x e.
+      let in_span = within_span b (ap is_some e) t in
+      let low' = in_span.0 in
+      let high' = in_span.1 in
+      absurd (out (omega arith) (omega arith))))) (λ t. at_beside g n b t)))
+      (λ b low high. let s = all_span b low high in (s.0, ap is_some (at_gone g n b s.1))) (omega arith) (omega arith) in
       omega arith
-    where
-      named : (b : ℕ) (o : Option Node) → is_some o ≡ true → is_some (id_of b o) ≡ true
-      named b None h = h
-      named b (Some x) h = refl
 
   -- no record is removed
   pub records_left : (f : NodeId) → record_count (left g n) f ≡ record_count g f
   records_left f =
-      count_same (is_live (left g n)) (is_record_of g f) (is_record_of (left g n) f) (nodes (left g n)) (nodes_live (left g n))
-      (λ q h. ap (λ o. is_record_shape (shape_in o) && list_any (same_node f) (parents_in o)) (left_is g n q h))
-      ∙ ap (count_by (is_record_of g f)) (nodes_left g n live)
-      ∙ count_filtered (is_live g) (λ q. not (same_node n q || is_child g n q)) (is_record_of g f) (nodes g) (nodes_live g) (λ q h rec.
-      let r = (and_both (is_record_shape (shape_of g q)) (is_child g f q) rec).0 in
-      ap₂ (λ a b. not (a || b))
-      (not_true (same_node n q) (λ t. no (sym (movable_no_record (shape_of g n) movable)
-      ∙ ap (λ m. is_record_shape (shape_of g m)) (same_node-equal n q t) ∙ r)))
-      (not_true (is_child g n q) (λ c. no (sym (no_interval_record (shape_of g q) r) ∙ (children_are q c).1))))
+      count_kept (λ o. is_record_shape (shape_in o) && list_any (same_node f) (parents_in o)) refl g (left g n) refl (λ b.
+      split (gone g n b) (λ t. ap (λ o. is_record_shape (shape_in o) && list_any (same_node f) (parents_in o)) (at_gone g n b t) ∙ sym (by b t (g.at b) refl))
+      (λ t. ap (λ o. is_record_shape (shape_in o) && list_any (same_node f) (parents_in o)) (at_beside g n b t)))
+    where
+      no_interval : (o : Option Shape) → is_interval_shape o ≡ true → is_record_shape o ≡ false
+      no_interval (Some (Interval place)) h = refl
+      no_interval _ h = absurd (no h)
+
+      by : (b : ℕ) → gone g n b ≡ true → (o : Option Node) → g.at b ≡ o →
+          (is_record_shape (shape_in (g.at b)) && list_any (same_node f) (parents_in (g.at b))) ≡ false
+      by b t None e = ap (λ o. is_record_shape (shape_in o) && list_any (same_node f) (parents_in o)) e
+      by b t (Some x) e =
+          let id : NodeId = record { key = x.key; birth = b } in
+          let there : node_at g (record { key = x.key; birth = b }) ≡ Some x = finds x.key (g.at b) x e refl in
+          ap (λ o. is_record_shape (shape_in o) && list_any (same_node f) (parents_in o)) (e ∙ sym there)
+          ∙ ap (λ z. z && list_any (same_node f) (parents_of g (record { key = x.key; birth = b })))
+          (or_elim (same_node n (record { key = x.key; birth = b })) (is_child g n (record { key = x.key; birth = b }))
+          (sym (gone_is g n live (record { key = x.key; birth = b }) (ap is_some there)) ∙ t)
+          (λ same. ap (λ q. is_record_shape (shape_of g q)) (sym (same_node-equal n (record { key = x.key; birth = b }) same))
+          ∙ movable_no_record (shape_of g n) movable)
+          (λ c. no_interval (shape_of g (record { key = x.key; birth = b })) (children_are (record { key = x.key; birth = b }) c).1))

@@ -1,8 +1,8 @@
 -- One node with another shape or other parents: the law of the graph is kept.
-use Rattle.std.specs.Prelude.{◌≡◌, ◌≢◌, ℕ, ◌≤◌, Bool, true, ◌==◌, List, length, Option, Some, is_some, if◌then◌else◌}
-use Rattle.std.specs.List.{list_any, filter, filter_map, range_with_len}
+use Rattle.std.specs.Prelude.{◌≡◌, ◌≢◌, ℕ, ◌≤◌, true, ◌==◌, List, length, Option, Some, None, is_some, if◌then◌else◌}
+use Rattle.std.specs.List.{list_any, filter_map, range_with_len}
 use Rattle.std.proofs.Math.Path.{fun_ext}
-use Rattle.std.proofs.Common.{refl, sym, ap, ◌∙◌, subst}
+use Rattle.std.proofs.Common.{refl, sym, ap, ap₂, ◌∙◌, subst}
 use Rattle.gl_modes.proofs.NodeLemmas.{node_is, same_node-equal, same_node-other}
 use Rattle.gl_modes.proofs.Words.{split, some_is, number_same, number_other, same_number, other_number}
 use Rattle.gl_modes.specs.declared.node.NodeId.{NodeId}
@@ -15,6 +15,7 @@ use Rattle.gl_graph.specs.Changes.{with_node}
 use Rattle.gl_graph.proofs.Look.{found_at, finds, misses, there_is}
 use Rattle.gl_graph.proofs.KindRules.{is_plain, Frames, well_formed_kept, AreAlike, one_shape}
 use Rattle.gl_graph.proofs.Routes.{acyclic_moved}
+use Rattle.gl_graph.proofs.Tally.{picked, list_same}
 
 -- the shape is the same except for a file's mark, or a record's keys
 pub record IsAlike (was is : Shape) : Type 0 where
@@ -40,8 +41,7 @@ module _ (g : Graph) (n : NodeId) (was is : Node) (there : node_at g n ≡ Some 
   pub at_other : (q : NodeId) → q ≢ n → node_at after q ≡ node_at g q
   at_other q ne =
       let here = found_at g n was there in
-      split (q.birth == n.birth)
-      (λ e.
+      split (q.birth == n.birth) (λ e.
       let b : q.birth ≡ n.birth = same_number q.birth n.birth e in
       let k : was.key ≢ q.key = λ same. ne (node_is q n (sym same ∙ here.1) b) in
       misses q.key (after.at q.birth) is (at_birth q.birth b) (λ same. k (sym key ∙ same)) ∙ sym (misses q.key (g.at q.birth) was (ap g.at b ∙ here.0) k))
@@ -49,8 +49,7 @@ module _ (g : Graph) (n : NodeId) (was is : Node) (there : node_at g n ≡ Some 
 
   id_same : (b : ℕ) → id_of b (after.at b) ≡ id_of b (g.at b)
   id_same b =
-      split (b == n.birth)
-      (λ e.
+      split (b == n.birth) (λ e.
       let same : b ≡ n.birth = same_number b n.birth e in
       ap (id_of b) (at_birth b same) ∙ ap (λ k. Some (record { key = k; birth = b })) key ∙ sym (ap (id_of b) (ap g.at same ∙ (found_at g n was there).0)))
       (λ e. ap (id_of b) (at_beside b (other_number b n.birth e)))
@@ -69,12 +68,6 @@ module _ (g : Graph) (n : NodeId) (was is : Node) (there : node_at g n ≡ Some 
     shape_was : shape_of g n ≡ Some was.shape
     shape_was = ap shape_in there
 
-    pub index_same : (f q : NodeId) → is_index_of_shape f (shape_of after q) ≡ is_index_of_shape f (shape_of g q)
-    index_same f q =
-        split (same_node q n) (λ e. ap (λ x. is_index_of_shape f (shape_of after x)) (same_node-equal q n e) ∙ ap (is_index_of_shape f) shape_here
-        ∙ alike.index f ∙ sym (ap (λ x. is_index_of_shape f (shape_of g x)) (same_node-equal q n e) ∙ ap (is_index_of_shape f) shape_was))
-        (λ e. ap (λ o. is_index_of_shape f (shape_in o)) (at_other q (same_node-other q n e)))
-
     pub rec_same : (q : NodeId) → is_record_shape (shape_of after q) ≡ is_record_shape (shape_of g q)
     rec_same q =
         split (same_node q n) (λ e. ap (λ x. is_record_shape (shape_of after x)) (same_node-equal q n e) ∙ ap is_record_shape shape_here ∙ alike.rec
@@ -82,8 +75,14 @@ module _ (g : Graph) (n : NodeId) (was is : Node) (there : node_at g n ≡ Some 
         (λ e. ap (λ o. is_record_shape (shape_in o)) (at_other q (same_node-other q n e)))
 
     pub indexes_same : (f : NodeId) → indexes_of after f ≡ indexes_of g f
-    indexes_same f = ap (filter (λ q. is_index_of_shape f (shape_of after q))) nodes_same
-        ∙ ap (λ (p : NodeId → Bool). filter p (nodes g)) (fun_ext (index_same f))
+    indexes_same f =
+        list_same (λ q o. is_index_of_shape f (shape_in o)) (λ q o. is_index_of_shape f (shape_in o)) g after refl (λ b.
+        split (b == n.birth) (λ e.
+        let same = same_number b n.birth e in
+        ap (picked (λ q o. is_index_of_shape f (shape_in o)) b) (at_birth b same)
+        ∙ ap₂ (λ t k. if t then Some (record { key = k; birth = b }) else None) (alike.index f) key
+        ∙ sym (ap (picked (λ q o. is_index_of_shape f (shape_in o)) b) (ap g.at same ∙ (found_at g n was there).0)))
+        (λ e. ap (picked (λ q o. is_index_of_shape f (shape_in o)) b) (at_beside b (other_number b n.birth e))))
 
     pub changed_frames : Frames g after
     changed_frames = record {

@@ -1,22 +1,21 @@
 -- The nodes and the records of a file, counted.
-use Rattle.std.specs.Prelude.{◌≡◌, ℕ, suc, ◌+◌, Bool, true, false, ◌&&◌, List, [], ◌∷◌, ◌++◌, length, Option, Some, None, cond, if◌then◌else◌, count_by}
-use Rattle.std.specs.List.{cons_option, filter, filter_map, list_all, list_any, range_with_len}
-use Rattle.std.proofs.lemmas.List.Sums.{sum_by-cons, sum_by-append}
+use Rattle.std.specs.Prelude.{◌≡◌, ℕ, suc, ◌+◌, Bool, true, false, List, [], ◌∷◌, ◌++◌, length, Option, Some, None, cond, if◌then◌else◌, count_by}
+use Rattle.std.specs.List.{cons_option, filter, filter_map, list_all, range_with_len}
+use Rattle.std.proofs.lemmas.List.Sums.{sum_by-cons}
 use Rattle.std.proofs.lemmas.List.{length-append}
 use Rattle.std.proofs.Common.{refl, sym, ap, ap₂, ◌∙◌, arith}
 use Rattle.gl_modes.proofs.NodeLemmas.{same_node-equal}
 use Rattle.gl_modes.proofs.Words.{split, no, none_some, some_is, both, and_both}
 use Rattle.gl_modes.specs.declared.node.NodeId.{NodeId}
-use Rattle.gl_modes.specs.Nodes.{same_node}
 use Rattle.gl_graph.specs.Shapes.{is_record_shape, is_file_shape, is_index_of_shape}
-use Rattle.gl_graph.specs.Graph.{Graph, Node, id_of, nodes, node_count, node_at, is_live, shape_in, shape_of, parents_in, is_child, is_record_of, indexes_of}
+use Rattle.gl_graph.specs.Graph.{Graph, Node, id_of, nodes, node_count, is_live, shape_of, is_child, is_record_of, indexes_of}
 use Rattle.gl_graph.specs.Lawful.{IsLawfulGraph}
 use Rattle.gl_graph.specs.Changes.{born_nodes}
 use Rattle.gl_graph.specs.View.{record_count}
 use Rattle.gl_graph.proofs.Look.{finds, there_is}
 use Rattle.gl_graph.proofs.KindRules.{plain_live, file_plain, index_of, index_node}
 use Rattle.gl_graph.proofs.Listings.{map_same}
-use Rattle.gl_graph.proofs.Born.{place_in, old_at, new_at, none_above, old_same, parts, new_node}
+use Rattle.gl_graph.proofs.Born.{place_in, old_at, new_at, none_above, parts}
 
 pub count_cons : {A : Type 0} (p : A → Bool) (x : A) (xs : List A) → count_by p (x ∷ xs) ≡ cond (p x) 1 0 + count_by p xs
 count_cons p x xs = sum_by-cons (λ y. cond (p y) 1 0) x xs
@@ -84,38 +83,6 @@ module _ (g : Graph) (law : IsLawfulGraph g) (ns : List Node) where
 
   pub count_grown : node_count grown ≡ node_count g + length ns
   count_grown = ap length nodes_grown ∙ length-append (nodes g) (new_ids (g.births + 1) ns) ∙ ap (λ k. node_count g + k) (count_ids (g.births + 1) ns)
-
-  record_same : (f q : NodeId) → is_live g q ≡ true → is_record_of grown f q ≡ is_record_of g f q
-  record_same f q live = ap (λ o. is_record_shape (shape_in o) && list_any (same_node f) (parents_in o)) (old_same g law ns q live)
-
-  -- the records of a file are those it had, and those that are born
-  pub records_grown : (f : NodeId) → record_count grown f ≡ record_count g f + count_by (is_record_of grown f) (new_ids (g.births + 1) ns)
-  records_grown f =
-      ap (count_by (is_record_of grown f)) nodes_grown ∙ sum_by-append (λ q. cond (is_record_of grown f q) 1 0) (nodes g) (new_ids (g.births + 1) ns)
-      ∙ ap (λ k. k + count_by (is_record_of grown f) (new_ids (g.births + 1) ns))
-      (count_same (is_live g) (is_record_of g f) (is_record_of grown f) (nodes g) (nodes_live g) (record_same f))
-
-  -- if no record is born, a file has those it had
-  module _ (none : (k : ℕ) (node : Node) → place_in ns k ≡ Some node → is_record_shape (Some node.shape) ≡ false) where
-    not_among : (f : NodeId) (ms : List Node) (k b : ℕ) → g.births + 1 + k ≡ b → ((j : ℕ) → place_in ms j ≡ place_in ns (k + j))
-        → count_by (is_record_of grown f) (new_ids b ms) ≡ 0
-    not_among f [] k b e part = refl
-    not_among f (m ∷ ms) k b e part =
-        let at : place_in ns k ≡ Some m = (let same : k ≡ k + 0 = omega arith in ap (place_in ns) same) ∙ sym (part 0) in
-        let there : node_at grown (record { key = m.key; birth = b }) ≡ Some m =
-        ap (λ c. node_at grown (record { key = m.key; birth = c })) (sym e) ∙ new_node g law ns k m at in
-        let other : is_record_of grown f (record { key = m.key; birth = b }) ≡ false =
-        ap (λ o. is_record_shape (shape_in o) && is_child grown f (record { key = m.key; birth = b })) there
-        ∙ ap (λ t. t && is_child grown f (record { key = m.key; birth = b })) (none k m at) in
-        count_cons (is_record_of grown f) (record { key = m.key; birth = b }) (new_ids (b + 1) ms)
-        ∙ ap₂ (λ t n. cond t 1 0 + n) other
-        (not_among f ms (k + 1) (b + 1) (omega arith) (λ j. part (suc j) ∙ (let same : k + suc j ≡ k + 1 + j = omega arith in ap (place_in ns) same)))
-
-    pub same_records : (f : NodeId) → record_count grown f ≡ record_count g f
-    same_records f =
-        let all = records_grown f in
-        let new = not_among f ns 0 (g.births + 1) (omega arith) (λ j. let same : j ≡ 0 + j = omega arith in ap (place_in ns) same) in
-        omega arith
 
 -- an id that names no node has no records and no indexes
 module _ (g : Graph) (law : IsLawfulGraph g) (f : NodeId) (dead : is_live g f ≡ false) where

@@ -1,17 +1,17 @@
 -- The interval of a key is the one that contains it.
-use Rattle.std.specs.Prelude.{◌≡◌, ℕ, zero, suc, ◌+◌, ◌<◌, ◌≤◌, ◌⊎◌, true, nat_le, List, [], ◌∷◌, ◌&&◌, length, Option, Some, None, slice_index_or}
+use Rattle.std.specs.Prelude.{◌≡◌, ℕ, zero, suc, ◌+◌, ◌<◌, ◌≤◌, ◌⊎◌, true, nat_le, List, [], ◌∷◌, ◌&&◌, length, Some, None, slice_index_or}
 use Rattle.std.specs.Prelude.{if◌then◌else◌}
-use Rattle.std.proofs.Common.{refl, sym, ap, subst, arith, rules, add-one, ⊎_elim, ◌∙◌}
+use Rattle.std.proofs.Common.{sym, ap, subst, arith, rules, add-one, ⊎_elim, ◌∙◌}
 use Rattle.std.proofs.lemmas.Bool.Decides.{nat_tests}
-use Rattle.gl_modes.proofs.Words.{and_both, both, no, none_some, some_is, split}
+use Rattle.gl_modes.proofs.Words.{and_both, both, none_some, some_is, split}
 use Rattle.gl_modes.specs.declared.node.NodeId.{NodeId}
 use Rattle.gl_graph.specs.Graph.{Graph, interval, interval_at, interval_of, interval_place, shape_of}
 use Rattle.gl_graph.specs.Intervals.{HoldsKey, beginning}
 use Rattle.gl_graph.specs.Laws.{IntervalsHoldKeys, KeysHaveIntervals}
 use Rattle.gl_graph.specs.Lawful.{IsLawfulGraph, IsRising}
-use Rattle.gl_graph.specs.Shapes.{Shape, Inner, File, Index, Interval, Rec, bounds_in, is_index_shape}
+use Rattle.gl_graph.specs.Shapes.{bounds_in, is_index_shape}
 use Rattle.gl_graph.proofs.KeyPlace.{place_counted, rising_at}
-use Rattle.gl_graph.proofs.KindRules.{index_node}
+use Rattle.gl_graph.proofs.KindRules.{index_in, index_node}
 
 -- the bounds before the place of the key are not above it, and the others are
 record IsPlace (bs : List ℕ) (key k : ℕ) : Type 0 where
@@ -87,21 +87,12 @@ held_there bs key k rising low holds = record {
       omega arith;
 }
 
--- the shape of an index
-index_shape : (o : Option Shape) → is_index_shape o ≡ true → (file : NodeId) × (bounds : List ℕ) × (o ≡ Some (Index file bounds))
-index_shape None h = absurd (no h)
-index_shape (Some Inner) h = absurd (no h)
-index_shape (Some (File adopted)) h = absurd (no h)
-index_shape (Some (Index file bounds)) h = (file, bounds, refl)
-index_shape (Some (Interval place)) h = absurd (no h)
-index_shape (Some (Rec keys)) h = absurd (no h)
-
 module _ (g : Graph) (law : IsLawfulGraph g) (index : NodeId) (shape : is_index_shape (shape_of g index) ≡ true) where
   abbrev bs : List ℕ
   bs = bounds_in (shape_of g index)
 
   rising : IsRising (0 ∷ bs)
-  rising = let i = index_shape (shape_of g index) shape in subst (λ o. IsRising (0 ∷ bounds_in o)) (sym i.2) (index_node g law index i.0 i.1 i.2).rising
+  rising = let i = index_in (shape_of g index) shape in (index_node g law index i.0 bs i.1).rising
 
   its_place : (key : ℕ) → IsPlace bs key (interval_place bs key)
   its_place key = place_is bs key rising.1

@@ -33,21 +33,18 @@ pub plain_live : (g : Graph) (q : NodeId) → is_plain (shape_of g q) ≡ true �
 plain_live g q h = cases_of (node_at g q) (λ e. absurd (no (sym (ap (λ o. is_plain (shape_in o)) e) ∙ h))) (λ x e. there_is (node_at g q) x e)
 
 pub rec_not_plain : (o : Option Shape) → is_record_shape o ≡ true → is_plain o ≡ true → ⊥
-rec_not_plain None h k = no h
-rec_not_plain (Some Inner) h k = no h
-rec_not_plain (Some (File adopted)) h k = no h
-rec_not_plain (Some (Index file bounds)) h k = no h
-rec_not_plain (Some (Interval place)) h k = no h
 rec_not_plain (Some (Rec keys)) h k = no k
+rec_not_plain _ h k = no h
 
 -- an index of a file
 pub index_of : (f : NodeId) (o : Option Shape) → is_index_of_shape f o ≡ true → (file : NodeId) × (bounds : List ℕ) × (o ≡ Some (Index file bounds))
-index_of f None h = absurd (no h)
-index_of f (Some Inner) h = absurd (no h)
-index_of f (Some (File adopted)) h = absurd (no h)
 index_of f (Some (Index file bounds)) h = (file, bounds, refl)
-index_of f (Some (Interval place)) h = absurd (no h)
-index_of f (Some (Rec keys)) h = absurd (no h)
+index_of f _ h = absurd (no h)
+
+-- an index, with its bounds
+pub index_in : (o : Option Shape) → is_index_shape o ≡ true → (file : NodeId) × (o ≡ Some (Index file (bounds_in o)))
+index_in (Some (Index file bounds)) k = (file, refl)
+index_in _ k = absurd (no k)
 
 -- the same shape, or files of which one may have a mark that the other does not have
 pub record AreAlike (o' o : Option Shape) : Type 0 where
@@ -105,13 +102,12 @@ module _ (g : Graph) (law : IsLawfulGraph g) where
       (λ there. among_intervals f p (indexes_of g f) keys (all_filter (λ i. is_index_of_shape f (shape_of g i)) (nodes g)) there)
 
   parent_plain_of : (sh : Shape) (ps : List NodeId) (n p : NodeId) → HasShape g n sh ps → list_any (same_node p) ps ≡ true → is_plain (shape_of g p) ≡ true
-  parent_plain_of Inner ps n p h k = inner_plain _ (all_at (λ q. is_inner_shape (shape_of g q)) ps p k h.inner)
-  parent_plain_of (File adopted) ps n p h k = inner_plain _ (all_at (λ q. is_inner_shape (shape_of g q)) ps p k h.inner)
   parent_plain_of (Index f bs) ps n p h k = inner_plain _ (all_at (λ q. is_inner_shape (shape_of g q)) ps p k h.0.inner)
   parent_plain_of (Interval place) ps n p h k =
       or_elim _ _ (sym (ap (list_any (same_node p)) h.1) ∙ k)
       (λ here. ap (λ q. is_plain (shape_of g q)) (same_node-equal p h.0 here) ∙ index_plain _ h.2) (λ none. absurd (no none))
   parent_plain_of (Rec keys) ps n p h k = record_parent_plain h.0 p keys h.1.file_is (sym (ap (list_any (same_node p)) h.1.parents) ∙ k)
+  parent_plain_of _ ps n p h k = inner_plain _ (all_at (λ q. is_inner_shape (shape_of g q)) ps p k h.inner)
 
   pub parent_plain : (n p : NodeId) → is_child g p n ≡ true → is_plain (shape_of g p) ≡ true
   parent_plain n p h = let c = child_node g n p h in parent_plain_of c.0.shape c.0.parents n p (law.well_formed n c.0 c.1) c.2

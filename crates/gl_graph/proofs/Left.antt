@@ -1,22 +1,18 @@
 -- A node is removed: the remaining nodes, and their number.
-use Rattle.std.specs.Prelude.{◌≡◌, ◌≢◌, ℕ, suc, ◌+◌, ◌-◌, ◌≤◌, Bool, true, ◌&&◌, List, ◌∷◌, ◌++◌, length, Option, Some, None, cond, count_by}
-use Rattle.std.specs.List.{cons_option, filter_map, list_any, range_with_len}
+use Rattle.std.specs.Prelude.{◌≡◌, ◌≢◌, ℕ, suc, ◌+◌, ◌-◌, ◌≤◌, Bool, true, List, ◌∷◌, ◌++◌, length, Option, Some, None, cond, count_by}
+use Rattle.std.specs.List.{cons_option, filter_map, range_with_len}
 use Rattle.std.proofs.lemmas.List.Elements.{filter_map-append}
 use Rattle.std.proofs.lemmas.List.Sums.{sum_by-append}
 use Rattle.std.proofs.lemmas.List.{length-append}
-use Rattle.std.proofs.Common.{refl, sym, ap, ap₂, ◌∙◌, arith}
+use Rattle.std.proofs.Common.{refl, ap, ap₂, ◌∙◌, arith}
 use Rattle.gl_modes.proofs.Words.{number_same, number_other}
 use Rattle.gl_modes.specs.declared.node.NodeId.{NodeId}
-use Rattle.gl_modes.specs.Nodes.{same_node}
-use Rattle.gl_graph.specs.Shapes.{is_record_shape}
-use Rattle.gl_graph.specs.Graph.{Graph, id_of, nodes, node_count, node_at, is_live, shape_in, parents_in, is_record_of}
+use Rattle.gl_graph.specs.Graph.{Graph, id_of, nodes, node_count, node_at, is_live}
 use Rattle.gl_graph.specs.Lawful.{IsLawfulGraph}
 use Rattle.gl_graph.specs.Changes.{without_node}
-use Rattle.gl_graph.specs.View.{record_count}
 use Rattle.gl_graph.proofs.Look.{live_node, found_at, there_is}
 use Rattle.gl_graph.proofs.Listings.{range_append, map_same}
-use Rattle.gl_graph.proofs.Counts.{count_cons, count_same, nodes_live}
-use Rattle.gl_graph.proofs.Removed.{was_there}
+use Rattle.gl_graph.proofs.Counts.{count_cons}
 
 module _ (g : Graph) (law : IsLawfulGraph g) (r : NodeId) (live : is_live g r ≡ true) where
   within : (1 ≤ r.birth) × (r.birth ≤ g.births)
@@ -73,13 +69,3 @@ module _ (g : Graph) (law : IsLawfulGraph g) (r : NodeId) (live : is_live g r �
       let all : node_count g ≡ length earlier + length (r ∷ later) = ap length nodes_there ∙ length-append earlier (r ∷ later) in
       let left : node_count (without_node g r) ≡ length earlier + length later = ap length nodes_left ∙ length-append earlier later in
       omega arith
-
-  pub records_there : (rec : is_record_shape (shape_in (node_at g r)) ≡ true) (f : NodeId)
-      → record_count g f ≡ record_count (without_node g r) f + cond (is_record_of g f r) 1 0
-  records_there rec f =
-      count_there (is_record_of g f)
-      ∙ ap (λ k. k + cond (is_record_of g f r) 1 0)
-      (count_same (is_live (without_node g r)) (is_record_of (without_node g r) f) (is_record_of g f) (nodes (without_node g r))
-      (nodes_live (without_node g r))
-      (λ q h. let n = live_node (node_at (without_node g r) q) h in
-      ap (λ o. is_record_shape (shape_in o) && list_any (same_node f) (parents_in o)) (was_there g law r rec q n.0 n.1 ∙ sym n.1)))

@@ -34,10 +34,6 @@ pub map_same : (h h' : ℕ → Option NodeId) (a n : ℕ) → ((b : ℕ) → a �
 map_same h h' a zero same = refl
 map_same h h' a (suc n) same = ap₂ cons_option (same a (omega arith) (omega arith)) (map_same h h' (a + 1) n (λ b low high. same b (omega arith) (omega arith)))
 
-pub map_none : (h : ℕ → Option NodeId) (a n : ℕ) → ((b : ℕ) → a ≤ b → b < a + n → h b ≡ None) → filter_map h (range_with_len a n) ≡ []
-map_none h a zero none = refl
-map_none h a (suc n) none = ap₂ cons_option (none a (omega arith) (omega arith)) (map_none h (a + 1) n (λ b low high. none b (omega arith) (omega arith)))
-
 cons_short : (o : Option NodeId) (xs : List NodeId) → length (cons_option o xs) ≤ suc (length xs)
 cons_short None xs = omega arith
 cons_short (Some x) xs = omega arith

@@ -1,23 +1,22 @@
 -- A file is marked as one of which rows were adopted: all else in the graph stays, and the graph is lawful. For crates that read a graph after `mark_adopted`.
-use Rattle.std.specs.Prelude.{◌≡◌, ℕ, ◌+◌, ◌≤◌, Bool, true, false, ◌==◌, ◌&&◌, List, [], ◌∷◌, length, Option, Some, None, is_some, nat_le, if◌then◌else◌}
+use Rattle.std.specs.Prelude.{◌≡◌, ℕ, ◌+◌, ◌≤◌, Bool, true, false, ◌==◌, List, [], ◌∷◌, length, Option, Some, None, is_some, if◌then◌else◌}
 use Rattle.std.specs.List.{filter, filter_map, list_any, range_with_len}
 use Rattle.std.proofs.Math.Path.{fun_ext}
-use Rattle.std.proofs.Common.{refl, sym, ap, ap₂, ◌∙◌, subst, rules}
+use Rattle.std.proofs.Common.{refl, sym, ap, ◌∙◌, subst, rules}
 use Rattle.gl_modes.proofs.NodeLemmas.{node_is}
 use Rattle.gl_modes.proofs.Words.{no, none_some, some_is, number_same}
 use Rattle.gl_modes.specs.declared.node.NodeId.{NodeId}
 use Rattle.gl_modes.specs.Nodes.{same_node}
-use Rattle.gl_graph.specs.Shapes.{Shape, Inner, File, Index, Interval, Rec, kind_in, is_inner_shape, is_file_shape, is_adopted, is_record_shape}
-use Rattle.gl_graph.specs.Shapes.{is_index_shape, is_index_of_shape, is_movable_shape}
-use Rattle.gl_graph.specs.Shapes.{least_parents, bounds_in, keys_in, place_in}
+use Rattle.gl_graph.specs.Shapes.{Shape, File, is_inner_shape, is_file_shape, is_adopted, is_record_shape}
+use Rattle.gl_graph.specs.Shapes.{is_index_shape, is_index_of_shape}
+use Rattle.gl_graph.specs.Shapes.{bounds_in, keys_in}
 use Rattle.gl_graph.specs.Graph.{Graph, Node, with_key, node_at, is_live, parents_in, parents_of, shape_in, shape_of, id_of, nodes, node_count}
 use Rattle.gl_graph.specs.Graph.{is_child, indexes_of}
-use Rattle.gl_graph.specs.Graph.{interval_place, key_or_zero, interval, interval_at, interval_of, intervals_of, record_parents, is_record_of}
+use Rattle.gl_graph.specs.Graph.{interval_place, key_or_zero, interval, interval_of}
 use Rattle.gl_graph.specs.Graph.{first_in, first_parent}
 use Rattle.gl_graph.specs.Routes.{IsRoute}
 use Rattle.gl_graph.specs.Lawful.{HasShape, IsWellFormed, IsLawfulGraph}
 use Rattle.gl_graph.specs.Changes.{marked_shape, marked_node, marked, with_node}
-use Rattle.gl_graph.specs.Refusals.{has_records}
 use Rattle.gl_graph.proofs.Look.{found_at}
 use Rattle.gl_graph.proofs.KindRules.{Frames, well_formed_kept}
 use Rattle.gl_graph.proofs.Moved.{graph_at}
@@ -37,11 +36,8 @@ with_key_marked key (Some n) = by (n.key == key)
 
 -- a shape with the mark requires of a node what the shape without it requires
 shape_marked : (g : Graph) (n : NodeId) (sh : Shape) (ps : List NodeId) → HasShape g n sh ps → HasShape g n (marked_shape sh) ps
-shape_marked g n Inner ps h = h
 shape_marked g n (File adopted) ps h = h
-shape_marked g n (Index f bs) ps h = h
-shape_marked g n (Interval place) ps h = h
-shape_marked g n (Rec keys) ps h = h
+shape_marked g n _ ps h = h
 
 module _ (g : Graph) (f : NodeId) where
   -- a function that ignores the mark reads of each birth what it read before
@@ -91,9 +87,6 @@ module _ (g : Graph) (f : NodeId) where
   pub marked_first_parent : (n : NodeId) → first_parent (marked g f) n ≡ first_parent g n
   marked_first_parent n = ap first_in (marked_parents n)
 
-  pub marked_kind : (n : NodeId) → kind_in (shape_of (marked g f) n) ≡ kind_in (shape_of g n)
-  marked_kind n = read_shape kind_in (λ sh. search rules) n
-
   pub marked_inner : (n : NodeId) → is_inner_shape (shape_of (marked g f) n) ≡ is_inner_shape (shape_of g n)
   marked_inner n = read_shape is_inner_shape (λ sh. search rules) n
 
@@ -106,20 +99,11 @@ module _ (g : Graph) (f : NodeId) where
   pub marked_index : (n : NodeId) → is_index_shape (shape_of (marked g f) n) ≡ is_index_shape (shape_of g n)
   marked_index n = read_shape is_index_shape (λ sh. search rules) n
 
-  pub marked_movable : (n : NodeId) → is_movable_shape (shape_of (marked g f) n) ≡ is_movable_shape (shape_of g n)
-  marked_movable n = read_shape is_movable_shape (λ sh. search rules) n
-
-  pub marked_least : (n : NodeId) → least_parents (shape_of (marked g f) n) ≡ least_parents (shape_of g n)
-  marked_least n = read_shape least_parents (λ sh. search rules) n
-
   pub marked_bounds : (n : NodeId) → bounds_in (shape_of (marked g f) n) ≡ bounds_in (shape_of g n)
   marked_bounds n = read_shape bounds_in (λ sh. search rules) n
 
   pub marked_keys : (n : NodeId) → keys_in (shape_of (marked g f) n) ≡ keys_in (shape_of g n)
   marked_keys n = read_shape keys_in (λ sh. search rules) n
-
-  pub marked_place : (n : NodeId) → place_in (shape_of (marked g f) n) ≡ place_in (shape_of g n)
-  marked_place n = read_shape place_in (λ sh. search rules) n
 
   pub marked_index_of : (file : NodeId) (n : NodeId) → is_index_of_shape file (shape_of (marked g f) n) ≡ is_index_of_shape file (shape_of g n)
   marked_index_of file n = read_shape (is_index_of_shape file) (λ sh. search rules) n
@@ -139,13 +123,6 @@ module _ (g : Graph) (f : NodeId) where
       ap (filter (λ n. is_index_of_shape file (shape_of (marked g f) n))) marked_nodes
       ∙ ap (λ (p : NodeId → Bool). filter p (nodes g)) (fun_ext (λ n. marked_index_of file n))
 
-  pub marked_record_of : (file n : NodeId) → is_record_of (marked g f) file n ≡ is_record_of g file n
-  marked_record_of file n = ap₂ (λ a b. a && b) (marked_record n) (marked_child file n)
-
-  pub marked_has_records : (file : NodeId) → has_records (marked g f) file ≡ has_records g file
-  marked_has_records file =
-      ap (list_any (is_record_of (marked g f) file)) marked_nodes ∙ ap (λ (p : NodeId → Bool). list_any p (nodes g)) (fun_ext (marked_record_of file))
-
   pub marked_interval : (index : NodeId) (place : ℕ) → interval (marked g f) index place ≡ interval g index place
   marked_interval index place = node_is (interval (marked g f) index place) (interval g index place) (read key_or_zero by (index.birth + 1 + place)) refl
     where
@@ -153,26 +130,10 @@ module _ (g : Graph) (f : NodeId) where
       by None = refl
       by (Some x) = refl
 
-  pub marked_interval_at : (index : NodeId) (place : ℕ) → interval_at (marked g f) index place ≡ interval_at g index place
-  marked_interval_at index place =
-      let o = shape_of (marked g f) index in
-      ap (λ n. if is_index_shape o && nat_le place (length (bounds_in o)) then Some n else None) (marked_interval index place)
-      ∙ ap₂ (λ (b : Bool) (bs : List ℕ). if b && nat_le place (length bs) then Some (interval g index place) else None) (marked_index index)
-      (marked_bounds index)
-
   pub marked_interval_of : (index : NodeId) (key : ℕ) → interval_of (marked g f) index key ≡ interval_of g index key
   marked_interval_of index key =
       ap (λ bs. interval (marked g f) index (interval_place bs key)) (marked_bounds index)
       ∙ marked_interval index (interval_place (bounds_in (shape_of g index)) key)
-
-  pub marked_intervals_of : (is : List NodeId) (keys : List ℕ) → intervals_of (marked g f) is keys ≡ intervals_of g is keys
-  marked_intervals_of [] keys = refl
-  marked_intervals_of (i ∷ is) [] = refl
-  marked_intervals_of (i ∷ is) (k ∷ ks) = ap₂ (λ x xs. x ∷ xs) (marked_interval_of i k) (marked_intervals_of is ks)
-
-  pub marked_record_parents : (file : NodeId) (keys : List ℕ) → record_parents (marked g f) file keys ≡ record_parents g file keys
-  marked_record_parents file keys =
-      ap (λ is. file ∷ intervals_of (marked g f) is keys) (marked_indexes file) ∙ ap (λ is. file ∷ is) (marked_intervals_of (indexes_of g file) keys)
 
   -- the file itself has the mark
   pub marked_is_adopted : is_file_shape (shape_of g f) ≡ true → is_adopted (shape_of (marked g f) f) ≡ true
@@ -181,11 +142,8 @@ module _ (g : Graph) (f : NodeId) where
       ∙ ap (λ o. is_adopted (shape_in o)) (with_key_marked f.key (g.at f.birth)) ∙ by (node_at g f) h
     where
       by_shape : (sh : Shape) → is_file_shape (Some sh) ≡ true → is_adopted (Some (marked_shape sh)) ≡ true
-      by_shape Inner k = absurd (no k)
       by_shape (File adopted) k = refl
-      by_shape (Index i bs) k = absurd (no k)
-      by_shape (Interval place) k = absurd (no k)
-      by_shape (Rec keys) k = absurd (no k)
+      by_shape _ k = absurd (no k)
 
       by : (o : Option Node) → is_file_shape (shape_in o) ≡ true → is_adopted (shape_in (marked_node o)) ≡ true
       by None k = absurd (no k)

@@ -7,7 +7,7 @@ use Rattle.gl_modes.proofs.NodeLemmas.{same_node-equal, same_node-from_equal, sa
 use Rattle.gl_modes.proofs.Words.{split, or_elim, or_left, or_right, no, same_number, number_same}
 use Rattle.gl_modes.specs.declared.node.NodeId.{NodeId}
 use Rattle.gl_modes.specs.Nodes.{same_node}
-use Rattle.gl_graph.specs.Shapes.{Shape, Inner, File, Index, Interval, Rec, is_file_shape, is_record_shape, is_index_of_shape, is_movable_shape, keys_in}
+use Rattle.gl_graph.specs.Shapes.{Shape, Inner, File, Index, Rec, is_file_shape, is_record_shape, is_index_of_shape, is_movable_shape, keys_in}
 use Rattle.gl_graph.specs.Graph.{Graph, Node, node_count, node_at, is_live, parents_in, parents_of, shape_in, shape_of, is_child, indexes_of}
 use Rattle.gl_graph.specs.Graph.{record_parents, first_in, first_parent}
 use Rattle.gl_graph.specs.Routes.{IsRoute, is_at_or_below}
@@ -104,8 +104,7 @@ module _ (g : Graph) (law : IsLawfulGraph g) (n : NodeId) (was : Node) (there : 
   move_well ps g' Inner e m same inner h = parents_kept g g' law same 0 ps inner
   move_well ps g' (File adopted) e m same inner h = parents_kept g g' law same 1 ps inner
   move_well ps g' (Index f bs) e m same inner h = (parents_kept g g' law same 1 ps inner, index_kept g g' law same n f bs h.1)
-  move_well ps g' (Interval place) e m same inner h = absurd (no m)
-  move_well ps g' (Rec keys) e m same inner h = absurd (no m)
+  move_well ps g' _ e m same inner h = absurd (no m)
 
   pub move_lawful : (ps : List NodeId) → is_movable_shape (Some was.shape) ≡ true → AreInnerParents g (least_parents (Some was.shape)) ps
       → list_all (is_live g) ps ≡ true

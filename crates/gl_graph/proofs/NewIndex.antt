@@ -1,9 +1,9 @@
 -- A new index with its intervals: the law of the graph is kept.
-use Rattle.std.specs.Prelude.{◌≡◌, ◌⊎◌, ℕ, zero, suc, ◌+◌, ◌<◌, ◌≤◌, true, false, ◌&&◌, ◌==◌, List, [], ◌∷◌, ◌++◌, length, Option, Some, None}
+use Rattle.std.specs.Prelude.{◌≡◌, ℕ, zero, suc, ◌+◌, ◌≤◌, true, false, ◌&&◌, ◌==◌, List, [], ◌∷◌, ◌++◌, length, Option, Some, None}
 use Rattle.std.specs.Prelude.{is_some, if◌then◌else◌}
-use Rattle.std.specs.List.{cons_option, list_any, filter_map, range_with_len}
+use Rattle.std.specs.List.{cons_option, list_any}
 use Rattle.std.proofs.lemmas.List.{length-append}
-use Rattle.std.proofs.Common.{refl, sym, ap, ap₂, ◌∙◌, subst, arith, inl, inr, ⊎_elim}
+use Rattle.std.proofs.Common.{refl, sym, ap, ◌∙◌, subst, arith, inl, inr}
 use Rattle.gl_modes.proofs.NodeLemmas.{same_node-equal, same_node-refl, node_is}
 use Rattle.gl_modes.proofs.Words.{split, or_elim, both, no, none_some, some_is}
 use Rattle.gl_modes.specs.declared.node.NodeId.{NodeId}
@@ -12,15 +12,15 @@ use Rattle.gl_graph.specs.Shapes.{Index, Interval, bounds_in, is_inner_shape, is
 use Rattle.gl_graph.specs.Graph.{Graph, Node, nodes, node_count, node_at, is_live, parents_in, shape_in, shape_of, is_child, indexes_of, interval}
 use Rattle.gl_graph.specs.Graph.{key_or_zero, IsFreeKey}
 use Rattle.gl_graph.specs.Lawful.{IsRising, AreInnerParents, HasShape, IsWellFormed, IsLawfulGraph}
-use Rattle.gl_graph.specs.Changes.{keys_of, are_apart, born_nodes, born_index, interval_nodes}
+use Rattle.gl_graph.specs.Changes.{keys_of, are_apart, born_node, born_nodes, born_index, interval_nodes}
+use Rattle.gl_graph.proofs.Tally.{list_born, list_borns}
 use Rattle.gl_graph.proofs.Look.{all_at}
 use Rattle.gl_graph.proofs.KindRules.{Frames, inner_plain, file_plain, plain_live, parents_kept}
 use Rattle.gl_graph.proofs.Moved.{some_at}
 use Rattle.gl_graph.proofs.RouteLengths.{listed}
-use Rattle.gl_graph.proofs.Listings.{index_born}
-use Rattle.gl_graph.proofs.Born.{place_in, new_index, place_below, new_at, none_above, new_id, new_node, new_indexes, indexes_grown, born_frames}
+use Rattle.gl_graph.proofs.Born.{place_in, place_below, new_at, none_above, new_id, new_node, born_frames}
 use Rattle.gl_graph.proofs.Born.{born_lawful, IsFresh}
-use Rattle.gl_graph.proofs.NewNodes.{place_there, key_listed, places_apart, no_index_born, indexes_kept}
+use Rattle.gl_graph.proofs.NewNodes.{place_there, key_listed, places_apart}
 
 pub keys_of_intervals : (id : NodeId) (place : ℕ) (keys : List ℕ) → keys_of (interval_nodes id place keys) ≡ keys
 keys_of_intervals id place [] = refl
@@ -63,49 +63,18 @@ module _ (g : Graph) (law : IsLawfulGraph g) (key : ℕ) (ps : List NodeId) (fil
 
   -- other files keep their indexes
   pub others : (f : NodeId) → same_node f file ≡ false → indexes_of grown f ≡ indexes_of g f
-  others f other = indexes_kept g law ns f by
+  others f other = list_borns (λ n o. is_index_of_shape f (shape_in o)) g ns (λ k node e n. by k node e)
     where
       by : (k : ℕ) (node : Node) → place_in ns k ≡ Some node → is_index_of_shape f (Some node.shape) ≡ false
       by zero node e = ap (λ x. is_index_of_shape f (Some x.shape)) (sym (some_is e)) ∙ other
       by (suc k) node e = no_interval_index f k node e
 
-  one_more : (f : NodeId) → length (indexes_of grown f) ≤ length (indexes_of g f) + 1
-  one_more f =
-      let rest : filter_map (index_born grown f) (range_with_len (g.births + 1 + 1) (length (interval_nodes id 0 keys))) ≡ [] =
-      no_index_born g law ns f (g.births + 1 + 1) (length (interval_nodes id 0 keys)) (omega arith) (omega arith) by in
-      let few : length (cons_option (index_born grown f (g.births + 1)) []) ≤ 1 = short (index_born grown f (g.births + 1)) in
-      let new : new_indexes g law ns f ≡ cons_option (index_born grown f (g.births + 1)) [] = ap (cons_option (index_born grown f (g.births + 1))) rest in
-      let all : length (indexes_of grown f) ≡ length (indexes_of g f) + length (new_indexes g law ns f) =
-      ap length (indexes_grown g law ns f) ∙ length-append (indexes_of g f) (new_indexes g law ns f) in
-      let size : length (new_indexes g law ns f) ≡ length (cons_option (index_born grown f (g.births + 1)) []) = ap length new in
-      omega arith
-    where
-      short : (o : Option NodeId) → length (cons_option o []) ≤ 1
-      short None = omega arith
-      short (Some x) = omega arith
-
-      by : (k : ℕ) (node : Node) → (g.births + 1 + k ≡ g.births + 1 + 1) ⊎ (g.births + 1 + 1 < g.births + 1 + k) → place_in ns k ≡ Some node
-          → is_index_of_shape f (Some node.shape) ≡ false
-      by zero node high e = absurd (⊎_elim (λ (h : g.births + 1 + 0 ≡ g.births + 1 + 1). omega arith)
-          (λ (h : g.births + 1 + 1 < g.births + 1 + 0). omega arith) high)
-      by (suc k) node high e = no_interval_index f k node e
-
   -- the file has the index, last
   pub file_index : indexes_of grown file ≡ indexes_of g file ++ id ∷ []
   file_index =
-      let rest : filter_map (index_born grown file) (range_with_len (g.births + 1 + 1) (length (interval_nodes id 0 keys))) ≡ [] =
-      no_index_born g law ns file (g.births + 1 + 1) (length (interval_nodes id 0 keys)) (omega arith) (omega arith) by in
-      let birth : g.births + 1 ≡ g.births + 1 + 0 = omega arith in
-      let here : index_born grown file (g.births + 1) ≡ Some id =
-      ap (index_born grown file) birth ∙ new_index g law ns file 0 index refl
-      ∙ ap (λ b. if b then Some (new_id g law ns index 0) else None) (same_node-refl file) ∙ (λ i. Some (record { key = key; birth = sym birth i })) in
-      indexes_grown g law ns file ∙ ap (λ xs. indexes_of g file ++ xs) (ap₂ cons_option here rest)
-    where
-      by : (k : ℕ) (node : Node) → (g.births + 1 + k ≡ g.births + 1 + 1) ⊎ (g.births + 1 + 1 < g.births + 1 + k) → place_in ns k ≡ Some node
-          → is_index_of_shape file (Some node.shape) ≡ false
-      by zero node high e = absurd (⊎_elim (λ (h : g.births + 1 + 0 ≡ g.births + 1 + 1). omega arith)
-          (λ (h : g.births + 1 + 1 < g.births + 1 + 0). omega arith) high)
-      by (suc k) node high e = no_interval_index file k node e
+      list_borns (λ n o. is_index_of_shape file (shape_in o)) (born_node g index) (interval_nodes id 0 keys) (λ k node e n. no_interval_index file k node e)
+      ∙ list_born (λ n o. is_index_of_shape file (shape_in o)) g index
+      ∙ ap (λ b. indexes_of g file ++ cons_option (if b then Some id else None) []) (same_node-refl file)
 
   pub no_record_born : (k : ℕ) (node : Node) → place_in ns k ≡ Some node → is_record_shape (Some node.shape) ≡ false
   no_record_born zero node e = ap (λ x. is_record_shape (Some x.shape)) (sym (some_is e))
@@ -121,15 +90,12 @@ module _ (g : Graph) (law : IsLawfulGraph g) (key : ℕ) (ps : List NodeId) (fil
   module _ (inner : AreInnerParents g 1 ps) (is_file : is_file_shape (shape_of g file) ≡ true) (few : length bounds ≤ g.most_bounds)
       (rising : IsRising (0 ∷ bounds)) (no_records : list_any (λ r. is_record_shape (shape_of g r) && is_child g file r) (nodes g) ≡ false)
       (room_for : length (indexes_of g file) + 1 ≤ 7) (each : length keys ≡ length bounds + 1) (apart : are_apart (key ∷ keys) ≡ true)
-      (free : (k : ℕ) → list_any (λ x. x == k) (key ∷ keys) ≡ true → IsFreeKey g k)
-      (room : node_count g + (2 + length bounds) ≤ g.most) where
+      (free : (k : ℕ) → list_any (λ x. x == k) (key ∷ keys) ≡ true → IsFreeKey g k) (room : node_count g + (2 + length bounds) ≤ g.most) where
     unused : (f r : NodeId) → is_record_shape (shape_of g r) ≡ true → is_child g f r ≡ true → indexes_of grown f ≡ indexes_of g f
     unused f r rec child =
-        others f (split (same_node f file)
-        (λ e. absurd (no (sym no_records
+        others f (split (same_node f file) (λ e. absurd (no (sym no_records
         ∙ some_at (λ q. is_record_shape (shape_of g q) && is_child g file q) (nodes g) r (listed g law r (rec_live rec))
-        (both _ _ rec (subst (λ x. is_child g x r ≡ true) (same_node-equal f file e) child)))))
-        (λ e. e))
+        (both _ _ rec (subst (λ x. is_child g x r ≡ true) (same_node-equal f file e) child))))) (λ e. e))
       where
         rec_live : is_record_shape (shape_of g r) ≡ true → is_live g r ≡ true
         rec_live h = by (node_at g r) h
@@ -190,18 +156,15 @@ module _ (g : Graph) (law : IsLawfulGraph g) (key : ℕ) (ps : List NodeId) (fil
         let is = interval_node id 0 keys k k node (omega arith) e in
         or_elim (same_node p id) false (ap (λ (y : Node). list_any (same_node p) y.parents) (sym is) ∙ h)
         (λ here. subst (IsFresh g law ns) (sym (same_node-equal p id here))
-        (inr (ap is_some index_there, λ q c. inner_live q (sym (ap (λ o. list_any (same_node q) (parents_in o)) index_there) ∙ c))))
-        (λ none. absurd (no none))
+        (inr (ap is_some index_there, λ q c. inner_live q (sym (ap (λ o. list_any (same_node q) (parents_in o)) index_there) ∙ c)))) (λ none. absurd (no none))
 
     keys_are : keys_of ns ≡ key ∷ keys
     keys_are = ap (λ xs. key ∷ xs) (keys_of_intervals id 0 keys)
 
     pub index_lawful : IsLawfulGraph (born_index g key ps file bounds keys)
     index_lawful =
-        born_lawful g law ns unused well up
-        (λ k node e. free node.key (ap (list_any (λ x. x == node.key)) (sym keys_are) ∙ key_listed ns k node e))
+        born_lawful g law ns unused well up (λ k node e. free node.key (ap (list_any (λ x. x == node.key)) (sym keys_are) ∙ key_listed ns k node e))
         (places_apart ns (ap are_apart keys_are ∙ apart))
-        (λ f. split (same_node f file) (λ e. let more = one_more f in let same : length (indexes_of g f) ≡ length (indexes_of g file) =
-        ap (λ x. length (indexes_of g x)) (same_node-equal f file e) in omega arith)
-        (λ e. subst (λ (is : List NodeId). length is ≤ 7) (sym (others f e)) (law.seven_indexes f)))
-        (let many = count_intervals id 0 keys in omega arith)
+        (λ f. split (same_node f file) (λ e. let more : length (indexes_of grown f) ≡ length (indexes_of g file) + 1 =
+        ap (λ x. length (indexes_of grown x)) (same_node-equal f file e) ∙ ap length file_index ∙ length-append (indexes_of g file) (id ∷ []) in omega arith)
+        (λ e. subst (λ (is : List NodeId). length is ≤ 7) (sym (others f e)) (law.seven_indexes f))) (let many = count_intervals id 0 keys in omega arith)

@@ -1,19 +1,18 @@
 -- A new inner node, file or record, and a new index with its intervals: the law of the graph is kept.
-use Rattle.std.specs.Prelude.{◌≡◌, ◌⊎◌, ℕ, zero, suc, ◌+◌, ◌-◌, ◌<◌, ◌≤◌, true, false, not, ◌||◌, ◌==◌, List, [], ◌∷◌, ◌++◌, length, Some, None, if◌then◌else◌}
-use Rattle.std.specs.List.{list_any, filter_map, range_with_len}
-use Rattle.std.proofs.lemmas.List.{append-nil}
-use Rattle.std.proofs.Common.{refl, sym, ap, ◌∙◌, subst, arith, rules, inl}
+use Rattle.std.specs.Prelude.{◌≡◌, ℕ, zero, suc, ◌+◌, ◌<◌, ◌≤◌, true, false, not, ◌||◌, ◌==◌, List, [], ◌∷◌, length, Some}
+use Rattle.std.specs.List.{list_any}
+use Rattle.std.proofs.Common.{refl, sym, ap, ◌∙◌, subst, arith, inl}
 use Rattle.gl_modes.proofs.Words.{or_right, and_both, no, none_some, some_is, number_same}
 use Rattle.gl_modes.specs.declared.node.NodeId.{NodeId}
 use Rattle.gl_modes.specs.Nodes.{same_node}
 use Rattle.gl_graph.specs.Shapes.{Inner, File, Rec, is_inner_shape, is_file_shape, is_index_of_shape}
-use Rattle.gl_graph.specs.Graph.{Graph, Node, node_count, is_live, shape_of, indexes_of, record_parents, IsFreeKey}
+use Rattle.gl_graph.specs.Graph.{Graph, Node, node_count, is_live, shape_of, indexes_of, record_parents, IsFreeKey, shape_in}
 use Rattle.gl_graph.specs.Lawful.{AreInnerParents, IsWellFormed, IsLawfulGraph}
-use Rattle.gl_graph.specs.Changes.{keys_of, are_apart, born_node, born_nodes}
+use Rattle.gl_graph.specs.Changes.{keys_of, are_apart, born_node}
+use Rattle.gl_graph.proofs.Tally.{list_borns}
 use Rattle.gl_graph.proofs.Look.{all_at}
 use Rattle.gl_graph.proofs.KindRules.{inner_plain, file_plain, plain_live, record_parent_plain, parents_kept, record_parents_kept}
-use Rattle.gl_graph.proofs.Listings.{index_born, map_none}
-use Rattle.gl_graph.proofs.Born.{place_in, new_id, new_index, indexes_grown, born_frames, born_lawful}
+use Rattle.gl_graph.proofs.Born.{place_in, new_id, born_frames, born_lawful}
 
 pub place_there : (ns : List Node) (k : ℕ) → k < length ns → (node : Node) × (place_in ns k ≡ Some node)
 place_there [] k low = absurd (omega arith)
@@ -39,29 +38,6 @@ places_apart (n ∷ ns) h (suc j) zero a b e f same = absurd (clash n ns h j a e
     clash n' ns' h' k' b' f' same' = no (sym (ap not (ap (λ x. list_any (λ y. y == x) (keys_of ns')) same' ∙ key_listed ns' k' b' f')) ∙ (and_both _ _ h').0)
 places_apart (n ∷ ns) h (suc j) (suc k) a b e f same = ap suc (places_apart ns (and_both _ _ h).1 j k a b e f same)
 
-module _ (g : Graph) (law : IsLawfulGraph g) (ns : List Node) where
-  -- no index of f is born
-  pub no_index_born : (f : NodeId) (from count : ℕ) → g.births + 1 ≤ from → from + count ≤ g.births + 1 + length ns
-      → ((k : ℕ) (node : Node) → g.births + 1 + k ≡ from ⊎ (from < g.births + 1 + k) → place_in ns k ≡ Some node
-      → is_index_of_shape f (Some node.shape) ≡ false)
-      → filter_map (index_born (born_nodes g ns) f) (range_with_len from count) ≡ []
-  no_index_born f from count low high none =
-      map_none (index_born (born_nodes g ns) f) from count (λ b l h.
-      let birth : b ≡ g.births + 1 + (b - (g.births + 1)) = omega arith in
-      let there = place_there ns (b - (g.births + 1)) (omega arith) in
-      ap (index_born (born_nodes g ns) f) birth ∙ new_index g law ns f (b - (g.births + 1)) there.0 there.1
-      ∙ ap (λ z. if z then Some (new_id g law ns there.0 (b - (g.births + 1))) else None)
-      (none (b - (g.births + 1)) there.0 (at_or_above (g.births + 1 + (b - (g.births + 1))) from (omega arith)) there.1))
-    where
-      at_or_above : (a b : ℕ) → b ≤ a → (a ≡ b) ⊎ (b < a)
-      at_or_above a b h = search rules
-
-  pub indexes_kept : (f : NodeId) → ((k : ℕ) (node : Node) → place_in ns k ≡ Some node → is_index_of_shape f (Some node.shape) ≡ false)
-      → indexes_of (born_nodes g ns) f ≡ indexes_of g f
-  indexes_kept f none = indexes_grown g law ns f
-      ∙ ap (λ xs. indexes_of g f ++ xs) (no_index_born f (g.births + 1) (length ns) (omega arith) (omega arith) (λ k node high e. none k node e))
-      ∙ append-nil (indexes_of g f)
-
 -- one new node, no index
 module _ (g : Graph) (law : IsLawfulGraph g) (node : Node) (no_index : (f : NodeId) → is_index_of_shape f (Some node.shape) ≡ false) where
   abbrev one : List Node
@@ -72,20 +48,18 @@ module _ (g : Graph) (law : IsLawfulGraph g) (node : Node) (no_index : (f : Node
   only (suc k) x e = absurd (none_some e)
 
   pub one_indexes : (f : NodeId) → indexes_of (born_node g node) f ≡ indexes_of g f
-  one_indexes f = indexes_kept g law one f (λ k x e. ap (λ y. is_index_of_shape f (Some y.shape)) (sym (only k x e).1) ∙ no_index f)
+  one_indexes f = list_borns (λ n o. is_index_of_shape f (shape_in o)) g one
+      (λ k x e n. ap (λ y. is_index_of_shape f (Some y.shape)) (sym (only k x e).1) ∙ no_index f)
 
   pub one_lawful : IsWellFormed (born_node g node) (record { key = node.key; birth = g.births + 1 }) node
       → ((p : NodeId) → list_any (same_node p) node.parents ≡ true → is_live g p ≡ true)
       → IsFreeKey g node.key → node_count g + 1 ≤ g.most → IsLawfulGraph (born_node g node)
   one_lawful well up free room =
-      born_lawful g law one (λ f r h k. one_indexes f)
-      (λ k x e. let o = only k x e in let birth : g.births + 1 ≡ g.births + 1 + k = omega arith in
+      born_lawful g law one (λ f r h k. one_indexes f) (λ k x e. let o = only k x e in let birth : g.births + 1 ≡ g.births + 1 + k = omega arith in
       subst (λ y. IsWellFormed (born_node g node) (new_id g law one y k) y) o.1
       (subst (λ b. IsWellFormed (born_node g node) (record { key = node.key; birth = b }) node) birth well))
-      (λ k x p e h. inl (up p (ap (λ y. list_any (same_node p) y.parents) (only k x e).1 ∙ h)))
-      (λ k x e. subst (λ y. IsFreeKey g y.key) (only k x e).1 free)
-      (λ j k a b e f same. (only j a e).0 ∙ sym (only k b f).0)
-      (λ f. subst (λ (is : List NodeId). length is ≤ 7) (sym (one_indexes f)) (law.seven_indexes f))
+      (λ k x p e h. inl (up p (ap (λ y. list_any (same_node p) y.parents) (only k x e).1 ∙ h))) (λ k x e. subst (λ y. IsFreeKey g y.key) (only k x e).1 free)
+      (λ j k a b e f same. (only j a e).0 ∙ sym (only k b f).0) (λ f. subst (λ (is : List NodeId). length is ≤ 7) (sym (one_indexes f)) (law.seven_indexes f))
       (omega arith)
 
 pub inner_lawful : (g : Graph) (law : IsLawfulGraph g) (key : ℕ) (ps : List NodeId) → AreInnerParents g 0 ps → IsFreeKey g key
@@ -119,5 +93,4 @@ record_lawful g law key file keys is_file each free room =
         parents =
             sym (record_parents_kept g (born_node g node) law frames file keys same);
       },
-    )
-    (λ p h. plain_live g p (record_parent_plain g law file p keys is_file h)) free room
+    ) (λ p h. plain_live g p (record_parent_plain g law file p keys is_file h)) free room

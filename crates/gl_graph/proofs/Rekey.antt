@@ -18,16 +18,18 @@ use Rattle.gl_graph.specs.Graph.{Graph, Node, node_at, is_live, shape_in, shape_
 use Rattle.gl_graph.specs.Graph.{record_parents}
 use Rattle.gl_graph.specs.Lawful.{IsLawfulGraph}
 use Rattle.gl_graph.specs.Changes.{with_node, keys_with, rekeyed_keys, rekeyed_parents, rekeyed}
-use Rattle.gl_graph.specs.View.{graph_of, node_of, KeepsBeside}
-use Rattle.gl_graph.specs.Seen.{Limits, shape_in_body, vertex_of, seen, body_with_key, body_rekeyed, AreSound, parents_in_body}
-use Rattle.gl_graph.proofs.Changed.{IsAlike, at_here}
+use Rattle.gl_graph.specs.View.{graph_of, node_of, due_as, due}
+use Rattle.gl_graph.specs.Seen.{Limits, shape_in_body, vertex_of, seen, body_with_key, body_rekeyed, parents_in_body, beside_in_body, Holds, AreSound}
+use Rattle.gl_graph.proofs.Changed.{IsAlike}
 use Rattle.gl_graph.proofs.Distinct.{one_place, indexes_distinct, index_listed}
 use Rattle.gl_graph.proofs.Moved.{rec_alike, rekeyed_is, rekey_lawful}
 use Rattle.gl_graph.proofs.Removed.{rec_live}
 use Rattle.gl_graph.proofs.SameParents.{key_parents, parent_set, parent_set_shape}
-use Rattle.gl_graph.proofs.RecordParents.{its_keys, its_parents, record_of_file, file_among}
-use Rattle.gl_graph.proofs.Slots.{stored_of}
-use Rattle.gl_graph.proofs.SoundChanged.{node_was, changed, changed_graph, changed_sound}
+use Rattle.gl_graph.proofs.RecordParents.{its_file, its_keys, its_parents, record_of_file, file_among}
+use Rattle.gl_graph.proofs.Dues.{record_test, no_inner_parent, no_inner_among, record_fixed}
+use Rattle.gl_graph.proofs.Held.{IsStored, live_held, sound_held, recounted_same}
+use Rattle.gl_graph.proofs.Tally.{ones}
+use Rattle.gl_graph.proofs.Written.{after, changed, children_changed, due_changed}
 
 no_node : NodeId
 no_node = record { key = 0; birth = 0 }
@@ -48,8 +50,7 @@ keys_set (j ∷ is) [] i key place e low here other = absurd (omega arith)
 keys_set (j ∷ is) (k ∷ ks) i key zero e low here other =
     ap₂ (λ b xs. (if b then key else k) ∷ xs) (here i) (keys_untouched is ks i key (omega arith) (λ m d l. other (suc m) d (omega arith) (omega arith)))
 keys_set (j ∷ is) (k ∷ ks) i key (suc place) e low here other =
-    ap₂ (λ b xs. (if b then key else k) ∷ xs) (other 0 i (omega arith) (omega arith))
-    (keys_set is ks i key place (omega arith) (omega arith) (λ d. here d)
+    ap₂ (λ b xs. (if b then key else k) ∷ xs) (other 0 i (omega arith) (omega arith)) (keys_set is ks i key place (omega arith) (omega arith) (λ d. here d)
     (λ m d l ne. other (suc m) d (omega arith) (let apart : suc m ≢ suc place = omega arith in apart)))
 
 pub intervals_set : (g : Graph) (is : List NodeId) (ks : List ℕ) (i : NodeId) (key place : ℕ) → length ks ≡ length is → place < length is
@@ -73,23 +74,21 @@ body_keys (body.Inner children above) place key h = absurd (no h)
 body_keys (body.File kept above) place key h = absurd (no h)
 body_keys (body.Index kept above) place key h = absurd (no h)
 body_keys (body.Interval at index) place key h = absurd (no h)
-body_keys (body.NoKey file) place key h = refl
-body_keys (body.OneKey one above) place key h = refl
-body_keys (body.TwoKeys keys above) place key h = refl
-body_keys (body.ThreeKeys keys above) place key h = refl
-body_keys (body.ManyKeys keys above) place key h = refl
+body_keys _ place key h = refl
 
 record_body : (sh : Shape) → is_record_shape (Some sh) ≡ true → sh ≡ Rec (keys_in (Some sh))
 record_body (Rec keys) h = refl
 record_body _ h = absurd (no h)
 
-module _ (limits : Limits) (old new : Slab Stored) (births : ℕ) (sound : AreSound limits old births) (r i : NodeId) (key place : ℕ)
-    (rec : is_record_shape (shape_of (graph_of (seen limits old births)) r) ≡ true)
-    (at : position (λ listed. same_node listed i)
-    (indexes_of (graph_of (seen limits old births)) (first_parent (graph_of (seen limits old births)) r)) ≡ Some place) where
-  abbrev pub g : Graph
-  g = graph_of (seen limits old births)
+key_beside : (b : Body) (place key : ℕ) (n : NodeId) → beside_in_body (body_rekeyed b place key n) ≡ beside_in_body b
+key_beside (body.Inner children above) place key n = refl
+key_beside (body.File kept above) place key n = refl
+key_beside (body.Index kept above) place key n = refl
+key_beside _ place key n = refl
 
+module _ {limits : Limits} {old : Slab Stored} {births : ℕ} {g : Graph} (h : Holds limits old births g (due g)) (law : IsLawfulGraph g)
+    (r i : NodeId) (key place : ℕ) (rec : is_record_shape (shape_of g r) ≡ true)
+    (at : position (λ listed. same_node listed i) (indexes_of g (first_parent g r)) ≡ Some place) where
   abbrev is : List NodeId
   is = indexes_of g (first_parent g r)
 
@@ -97,19 +96,17 @@ module _ (limits : Limits) (old new : Slab Stored) (births : ℕ) (sound : AreSo
   keys = keys_in (shape_of g r)
 
   live : is_live g r ≡ true
-  live = rec_live g sound.lawful r rec
+  live = rec_live g law r rec
 
-  slot : (x : Stored) × (get old r.key ≡ Some x) × (x.birth ≡ r.birth)
-  slot = stored_of limits old births sound.apart r live
+  slot : IsStored old g (due g) r
+  slot = live_held h r live
 
   pub contained : ContainsKey old r.key
-  contained = ap is_some slot.1
+  contained = ap is_some slot.there
 
   -- whatever is stored under the record's key is the record
   node_is : (x : Stored) → get old r.key ≡ Some x → node_at g r ≡ Some (node_of r.key (vertex_of x))
-  node_is x e =
-      let same : slot.0 ≡ x = some_is (sym slot.1 ∙ e) in
-      node_was limits old old births sound r slot.0 slot.0 slot.1 slot.2 refl ∙ ap (λ z. Some (node_of r.key (vertex_of z))) same
+  node_is x e = slot.node ∙ ap (λ z. Some (node_of r.key (vertex_of z))) (some_is (sym slot.there ∙ e))
 
   low : place < length is
   low = (position-Some (λ listed. same_node listed i) is place no_node at).0
@@ -121,20 +118,20 @@ module _ (limits : Limits) (old new : Slab Stored) (births : ℕ) (sound : AreSo
   other k d l ne = same_node-differ _ i (λ e. ne (one_place is k place d (indexes_distinct g (first_parent g r)) l low (e ∙ sym (here d))))
 
   each : length keys ≡ length is
-  each = its_keys g sound.lawful r rec
+  each = its_keys g law r rec
 
   pub key_there : (x : Stored) → get old r.key ≡ Some x → place < length (keys_in (Some (shape_in_body x.body)))
   key_there x e = let same = ap (λ o. length (keys_in (shape_in o))) (node_is x e) in let l = low in let n = each in omega arith
 
   pub parent_there : (x : Stored) → get old r.key ≡ Some x → place + 1 < length (parents_in_body x.body)
   parent_there x e =
-      let same : parents_in_body x.body ≡ record_parents g (first_parent g r) keys = sym (ap parents_in (node_is x e)) ∙ its_parents g sound.lawful r rec in
+      let same : parents_in_body x.body ≡ record_parents g (first_parent g r) keys = sym (ap parents_in (node_is x e)) ∙ its_parents g law r rec in
       let count : length (parents_in_body x.body) ≡ suc (length is) = ap length same ∙ ap suc (count_intervals_of g is keys each) in
       let l = low in
       omega arith
 
   pub place_fits : place + 1 < 2 ^ 64
-  place_fits = let l = low in let few = sound.lawful.seven_indexes (first_parent g r) in omega arith
+  place_fits = let l = low in let few = law.seven_indexes (first_parent g r) in omega arith
 
   keys_are : keys_with is keys i key ≡ slice_set keys place key
   keys_are = keys_set is keys i key place each low (λ d. ap (λ q. same_node q i) (here d) ∙ same_self i) other
@@ -142,22 +139,21 @@ module _ (limits : Limits) (old new : Slab Stored) (births : ℕ) (sound : AreSo
       same_self : (q : NodeId) → same_node q q ≡ true
       same_self q = split (same_node q q) (λ e. e) (λ e. absurd (same_node-other q q e refl))
 
-  module _ (write : (x : Stored) → get old r.key ≡ Some x
-      → Updates old new r.key (Some (record x { body = body_rekeyed x.body place key (interval_of g i key) })))
-      (len : slab_len new ≡ slab_len old) where
+  module _ {new : Slab Stored} (write : (x : Stored) → get old r.key ≡ Some x
+      → Updates old new r.key (Some (record x { body = body_rekeyed x.body place key (interval_of g i key) }))) (len : slab_len new ≡ slab_len old) where
     abbrev was : Stored
-    was = slot.0
+    was = slot.stored
 
     abbrev x : Stored
     x = record was { body = body_rekeyed was.body place key (interval_of g i key) }
 
     rec_body : is_record_shape (Some (shape_in_body was.body)) ≡ true
-    rec_body = ap (λ o. is_record_shape (shape_in o)) (sym (node_is was slot.1)) ∙ rec
+    rec_body = ap (λ o. is_record_shape (shape_in o)) (sym (node_is was slot.there)) ∙ rec
 
     shape_is : shape_in_body x.body ≡ Rec (rekeyed_keys g r i key)
     shape_is =
         parent_set_shape (body_with_key was.body place key) (place + 1) (interval_of g i key) ∙ body_keys was.body place key rec_body
-        ∙ ap (λ o. Rec (slice_set (keys_in (shape_in o)) place key)) (sym (node_is was slot.1)) ∙ ap Rec (sym keys_are)
+        ∙ ap (λ o. Rec (slice_set (keys_in (shape_in o)) place key)) (sym (node_is was slot.there)) ∙ ap Rec (sym keys_are)
 
     parents_are : parents_in_body x.body ≡ rekeyed_parents g r i key
     parents_are =
@@ -165,42 +161,57 @@ module _ (limits : Limits) (old new : Slab Stored) (births : ℕ) (sound : AreSo
         parent_set (body_with_key was.body place key) (place + 1) (interval_of g i key)
         (ap (λ sh. is_record_shape (Some sh)) (body_keys was.body place key rec_body))
         ∙ ap (λ ps. slice_set ps (place + 1) (interval_of g i key)) (key_parents was.body place key)
-        ∙ ap₂ (λ ps k. slice_set ps k (interval_of g i key)) (sym (ap parents_in (node_is was slot.1)) ∙ its_parents g sound.lawful r rec) one
+        ∙ ap₂ (λ ps k. slice_set ps k (interval_of g i key)) (sym (ap parents_in (node_is was slot.there)) ∙ its_parents g law r rec) one
         ∙ ap (λ xs. first_parent g r ∷ xs) (sym (intervals_set g is keys i key place each low here) ∙ ap (intervals_of g is) (sym keys_are))
 
     node_rekeyed : node_of r.key (vertex_of x) ≡ record { key = r.key; shape = Rec (rekeyed_keys g r i key); parents = rekeyed_parents g r i key }
     node_rekeyed = let s = shape_is in let p = parents_are in λ j. record { key = r.key; shape = s j; parents = p j }
 
-    graph_is : changed limits old new births sound r was x slot.1 slot.2 refl ≡ rekeyed g r i key
-    graph_is = ap (with_node g r.birth) node_rekeyed ∙ rekeyed_is g r i key (node_of r.key (vertex_of was)) (node_is was slot.1)
+    alike : IsAlike (shape_in_body was.body) (shape_in_body x.body)
+    alike = subst (λ s. IsAlike (shape_in_body was.body) s) (sym shape_is)
+        (rec_alike (shape_in_body was.body) (keys_in (Some (shape_in_body was.body))) (rekeyed_keys g r i key) (record_body (shape_in_body was.body) rec_body))
+
+    abbrev there' : Graph
+    there' = after h r was x slot.there slot.born (write was slot.there) refl len
+        (key_beside was.body place key (interval_of g i key)) alike
+
+    graph_is : there' ≡ rekeyed g r i key
+    graph_is = ap (with_node g r.birth) node_rekeyed ∙ rekeyed_is g r i key (node_of r.key (vertex_of was)) (node_is was slot.there)
+
+    held : Holds limits new births (rekeyed g r i key) (due g)
+    held = subst (λ (g' : Graph). Holds limits new births g' (due g)) graph_is
+        (changed h r was x slot.there slot.born (write was slot.there) refl len (key_beside was.body place key (interval_of g i key)) alike)
 
     pub rekeyed_graph : graph_of (seen limits new births) ≡ rekeyed g r i key
-    rekeyed_graph = changed_graph limits old new births sound r was x slot.1 slot.2 refl (write was slot.1) ∙ graph_is
+    rekeyed_graph = held.graph
+
+    law' : IsLawfulGraph (rekeyed g r i key)
+    law' = rekey_lawful g law r (node_of r.key (vertex_of was)) (node_is was slot.there) (keys_in (Some (shape_in_body was.body))) i key
+        (record_body (shape_in_body was.body) rec_body)
 
     pub rekeyed_sound : AreSound limits new births
     rekeyed_sound =
-        changed_sound limits old new births sound r was x slot.1 slot.2 refl (write was slot.1) len
-        (subst (λ s. IsAlike (shape_in_body was.body) s) (sym shape_is)
-        (rec_alike (shape_in_body was.body) (keys_in (Some (shape_in_body was.body))) (rekeyed_keys g r i key)
-        (record_body (shape_in_body was.body) rec_body)))
-        (subst IsLawfulGraph (sym graph_is)
-        (rekey_lawful g sound.lawful r (node_of r.key (vertex_of was)) (node_is was slot.1) (keys_in (Some (shape_in_body was.body))) i key
-        (record_body (shape_in_body was.body) rec_body)))
-        (λ f h.
-        ap (λ o. is_record_shape (shape_in o) && list_any (same_node f) (parents_in o))
-        (at_here g r (node_of r.key (vertex_of was)) (node_of r.key (vertex_of x)) (node_is was slot.1) refl)
-        ∙ ap₂ (λ s ps. is_record_shape (Some s) && list_any (same_node f) ps) shape_is parents_are
-        ∙ file_among g sound.lawful (first_parent g r) f (rekeyed_keys g r i key) h ∙ sym (record_of_file g sound.lawful r rec f h))
-        (subst (KeepsBeside (changed limits old new births sound r was x slot.1 slot.2 refl) (record { key = r.key; birth = x.birth }) (vertex_of x))
-        (sym shape_is) tt)
+        sound_held held law' (λ m alive.
+        sym (recounted_same (due g m))
+        ∙ due_changed h r was x slot.there slot.born (write was slot.there) refl len (key_beside was.body place key (interval_of g i key)) alike law (λ c. c) m
+        (λ k. let all = children_changed h r was x slot.there slot.born (write was slot.there) refl len
+        (key_beside was.body place key (interval_of g i key)) alike law m in
+        let none : ones (list_any (same_node m) (parents_in_body was.body)) ≡ 0 =
+        ap ones (sym (ap (λ o. list_any (same_node m) (parents_in o)) (node_is was slot.there)) ∙ no_inner_parent g law m r k
+        (record_fixed (shape_of g r) rec)) in
+        let none' : ones (list_any (same_node m) (parents_in_body x.body)) ≡ 0 =
+        ap ones (ap (list_any (same_node m)) parents_are ∙ no_inner_among g law (first_parent g r) m (rekeyed_keys g r i key) (its_file g law r rec) k) in
+        omega arith) (λ f. ap₂ (λ s ps. is_record_shape (Some s) && list_any (same_node m) ps) shape_is parents_are
+        ∙ file_among g law (first_parent g r) m (rekeyed_keys g r i key) f ∙ sym (record_of_file g law r rec m f)
+        ∙ ap (record_test m) (node_is was slot.there))
+        (ap (λ s. due_as there' r (Some s)) shape_is ∙ sym (ap (λ s. due_as there' r (Some s)) (record_body (shape_in_body was.body) rec_body)))
+        ∙ ap (λ (g' : Graph). due g' m) graph_is)
 
 -- an item that passes a test is found by it
 first_within : {A : Type 0} (p : A → Bool) (xs : List A) → list_any p xs ≡ true → position_or_len p xs < length xs
 first_within p [] h = absurd (no h)
 first_within p (x ∷ xs) h =
-    split (p x)
-    (λ e. let none : position_or_len p (x ∷ xs) ≡ 0 = ap (λ b. if not b then 1 + position_or_len p xs else 0) e in omega arith)
-    (λ e.
+    split (p x) (λ e. let none : position_or_len p (x ∷ xs) ≡ 0 = ap (λ b. if not b then 1 + position_or_len p xs else 0) e in omega arith) (λ e.
     let rest = first_within p xs (sym (ap (λ b. b || list_any p xs) e) ∙ h) in
     let more : position_or_len p (x ∷ xs) ≡ 1 + position_or_len p xs = ap (λ b. if not b then 1 + position_or_len p xs else 0) e in
     omega arith)

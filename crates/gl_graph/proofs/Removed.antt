@@ -1,18 +1,18 @@
 -- A record is removed: the law of the graph is kept.
 use Rattle.std.specs.Prelude.{◌≡◌, ◌≢◌, ℕ, ◌≤◌, true, false, ◌==◌, List, length, Option, Some, None, is_some, if◌then◌else◌}
-use Rattle.std.specs.List.{list_any, filter_map, range_with_len}
-use Rattle.std.proofs.Math.Path.{fun_ext}
+use Rattle.std.specs.List.{list_any, range_with_len}
 use Rattle.std.proofs.Common.{refl, sym, ap, ◌∙◌, subst, arith, inl, inr}
 use Rattle.gl_modes.proofs.Words.{split, cases_of, no, none_some, number_same, number_other, same_number, other_number}
 use Rattle.gl_modes.specs.declared.node.NodeId.{NodeId}
 use Rattle.gl_modes.specs.Nodes.{same_node}
-use Rattle.gl_graph.specs.Shapes.{Shape, Inner, File, Index, Interval, Rec, is_record_shape, is_index_of_shape}
+use Rattle.gl_graph.specs.Shapes.{Shape, Index, is_record_shape, is_index_of_shape}
 use Rattle.gl_graph.specs.Graph.{Graph, Node, id_of, with_key, node_at, is_live, parents_in, shape_in, shape_of, is_child, indexes_of}
 use Rattle.gl_graph.specs.Lawful.{IsLawfulGraph}
 use Rattle.gl_graph.specs.Changes.{without_node}
 use Rattle.gl_graph.proofs.Look.{found_at, live_node, child_live, one_birth}
 use Rattle.gl_graph.proofs.KindRules.{is_plain, Frames, well_formed_kept, parent_plain, plain_live, rec_not_plain, one_shape}
-use Rattle.gl_graph.proofs.Listings.{kept, index_born, indexes_are, map_fewer}
+use Rattle.gl_graph.proofs.Listings.{map_fewer}
+use Rattle.gl_graph.proofs.Tally.{picked, list_same}
 use Rattle.gl_graph.proofs.Routes.{acyclic_fewer}
 
 module _ (g : Graph) (law : IsLawfulGraph g) (r : NodeId) (rec : is_record_shape (shape_of g r) ≡ true) where
@@ -48,43 +48,21 @@ module _ (g : Graph) (law : IsLawfulGraph g) (r : NodeId) (rec : is_record_shape
       let n' = live_node (node_at (without_node g r) n) (child_live (without_node g r) n p h) in
       ap (λ o. list_any (same_node p) (parents_in o)) (was_there n n'.0 n'.1 ∙ sym n'.1) ∙ h
 
-  index_same : (f : NodeId) (b : ℕ) → index_born (without_node g r) f b ≡ index_born g f b
-  index_same f b =
-      split (b == r.birth)
-      (λ e.
-      let same : b ≡ r.birth = same_number b r.birth e in
-      ap (λ o. kept (λ q. is_index_of_shape f (shape_of (without_node g r) q)) (id_of b o)) (at_gone b same) ∙ sym (no_index same))
-      (λ e.
-      let ne : b ≢ r.birth = other_number b r.birth e in
-      ap (λ o. kept (λ q. is_index_of_shape f (shape_of (without_node g r) q)) (id_of b o)) (at_beside b ne) ∙ by ne (g.at b))
-    where
-      by : b ≢ r.birth → (o : Option Node)
-          → kept (λ q. is_index_of_shape f (shape_of (without_node g r) q)) (id_of b o) ≡ kept (λ q. is_index_of_shape f (shape_of g q)) (id_of b o)
-      by ne None = refl
-      by ne (Some x) =
-          let id : NodeId = record { key = x.key; birth = b } in
-          ap (λ o. if is_index_of_shape f (shape_in o) then Some id else None) (left_same id ne)
-
-      none_rec : (f : NodeId) (o : Option Shape) → is_record_shape o ≡ true → is_index_of_shape f o ≡ false
-      none_rec f' None h = refl
-      none_rec f' (Some Inner) h = refl
-      none_rec f' (Some (File adopted)) h = refl
-      none_rec f' (Some (Index file bounds)) h = absurd (no h)
-      none_rec f' (Some (Interval place)) h = refl
-      none_rec f' (Some (Rec keys)) h = refl
-
-      no_index : b ≡ r.birth → index_born g f b ≡ None
-      no_index same =
-          let n = live_node (node_at g r) rec_live in
-          let at = found_at g r n.0 n.1 in
-          let id : NodeId = record { key = n.0.key; birth = b } in
-          let is_r : id ≡ r = λ i. record { key = at.1 i; birth = same i } in
-          ap (λ o. kept (λ q. is_index_of_shape f (shape_of g q)) (id_of b o)) (ap g.at same ∙ at.0)
-          ∙ ap (λ z. if z then Some id else None) (ap (λ q. is_index_of_shape f (shape_of g q)) is_r ∙ none_rec f (shape_of g r) rec)
-
   pub indexes_left : (f : NodeId) → indexes_of (without_node g r) f ≡ indexes_of g f
-  indexes_left f = indexes_are (without_node g r) f
-      ∙ ap (λ (h : ℕ → Option NodeId). filter_map h (range_with_len 1 g.births)) (fun_ext (index_same f)) ∙ sym (indexes_are g f)
+  indexes_left f =
+      list_same (λ n o. is_index_of_shape f (shape_in o)) (λ n o. is_index_of_shape f (shape_in o)) g (without_node g r) refl (λ b.
+      split (b == r.birth) (λ e.
+      let same = same_number b r.birth e in
+      let x = live_node (node_at g r) rec_live in
+      ap (picked (λ n o. is_index_of_shape f (shape_in o)) b) (at_gone b same)
+      ∙ sym (ap (picked (λ n o. is_index_of_shape f (shape_in o)) b) (ap g.at same ∙ (found_at g r x.0 x.1).0)
+      ∙ ap (λ z. if z then Some (record { key = x.0.key; birth = b }) else None)
+      (none_rec (Some x.0.shape) (sym (ap (λ o. is_record_shape (shape_in o)) x.1) ∙ rec))))
+      (λ e. ap (picked (λ n o. is_index_of_shape f (shape_in o)) b) (at_beside b (other_number b r.birth e))))
+    where
+      none_rec : (o : Option Shape) → is_record_shape o ≡ true → is_index_of_shape f o ≡ false
+      none_rec (Some (Index file bounds)) h = absurd (no h)
+      none_rec _ h = refl
 
   pub removed_frames : Frames g (without_node g r)
   removed_frames = record {

@@ -1,5 +1,5 @@
 -- What a contract sees of a slab of nodes, and what always holds of it.
-use Rattle.std.specs.Prelude.{◌≡◌, ℕ, Bool, true, false, not, count_by, ◌==◌, List, [], ◌∷◌, ◌++◌, map, Option, Some, None, if◌then◌else◌, slice_set}
+use Rattle.std.specs.Prelude.{◌≡◌, ℕ, true, not, ◌==◌, List, [], ◌∷◌, ◌++◌, map, Option, Some, None, if◌then◌else◌, slice_set}
 use Rattle.std.specs.Prelude.{◌+◌, ◌≤◌, Vec}
 use Rattle.std.specs.List.{filter, list_any}
 use Rattle.gl_modes.specs.declared.node.NodeId.{NodeId}
@@ -11,9 +11,9 @@ use Rattle.gl_graph.specs.declared.node.Body.{Body}
 use Rattle.gl_graph.specs.declared.node.Body.TheVariants as body
 use Rattle.gl_graph.specs.declared.node.Node.{Node}
 use Rattle.gl_graph.specs.Shapes.{Shape, Inner, File, Index, Interval, Rec}
-use Rattle.gl_graph.specs.Graph.{node_count}
+use Rattle.gl_graph.specs.Graph.{Graph, node_count}
 use Rattle.gl_graph.specs.Lawful.{IsLawfulGraph}
-use Rattle.gl_graph.specs.View.{Vertex, View, graph_of, AgreesAt}
+use Rattle.gl_graph.specs.View.{Vertex, View, graph_of, Beside, Counts, Lists, Spans, Nothing, due}
 
 -- the shape of a body
 abbrev pub shape_in_body : Body → Shape
@@ -108,26 +108,24 @@ AreBornApart nodes = (j k : ℕ) (x y : Node) → get nodes j ≡ Some x → get
 abbrev pub AreBornWithin : Slab Node → ℕ → Type 0
 AreBornWithin nodes births = (k : ℕ) (x : Node) → get nodes k ≡ Some x → x.birth ≤ births
 
--- the graph is lawful, and what is stored beside it agrees with it
+-- what is stored beside a node
+abbrev pub beside_in_body : Body → Beside
+beside_in_body (body.Inner children above) = Counts children
+beside_in_body (body.File kept above) = Lists kept.value.indexes.items kept.value.records
+beside_in_body (body.Index kept above) = Spans kept.value.intervals.items
+beside_in_body b = Nothing
+
+-- the nodes show this graph, and beside each of them this is stored
+pub record Holds (limits : Limits) (nodes : Slab Node) (births : ℕ) (g : Graph) (beside : NodeId → Beside) : Type 0 where
+  pub graph : graph_of (seen limits nodes births) ≡ g
+  pub apart : AreBornApart nodes
+  pub counted : slab_len nodes ≡ node_count g
+  pub kept : (key : ℕ) (x : Node) → get nodes key ≡ Some x → beside_in_body x.body ≡ beside (record { key = key; birth = x.birth })
+
+-- the graph is lawful, and what is stored beside its nodes is what it says
 pub record AreSound (limits : Limits) (nodes : Slab Node) (births : ℕ) : Type 0 where
   pub lawful : IsLawfulGraph (graph_of (seen limits nodes births))
-  pub apart : AreBornApart nodes
-  pub counted : slab_len nodes ≡ node_count (graph_of (seen limits nodes births))
-  pub agree : (key : ℕ) (x : Node) → get nodes key ≡ Some x → AgreesAt (graph_of (seen limits nodes births)) key (vertex_of x)
-
--- the slot's node is a child of n
-abbrev pub is_child_slot : NodeId → Option Node → Bool
-is_child_slot n None = false
-is_child_slot n (Some x) = list_any (same_node n) (parents_in_body x.body)
-
--- how many of the stored nodes are children of n
-abbrev pub child_count : Slab Node → NodeId → ℕ
-child_count nodes n = count_by (is_child_slot n) nodes.slots
-
--- each inner node stores this number of children
-abbrev pub KeepChildren : Slab Node → (NodeId → ℕ) → Type 0
-KeepChildren nodes count = (key : ℕ) (x : Node) → get nodes key ≡ Some x → shape_in_body x.body ≡ Inner
-    → children_in_body x.body ≡ count (record { key = key; birth = x.birth })
+  pub holds : Holds limits nodes births (graph_of (seen limits nodes births)) (due (graph_of (seen limits nodes births)))
 
 -- an inner node without children, or a file with nothing stored beside it
 abbrev pub IsPlainBody : Body → Type 0

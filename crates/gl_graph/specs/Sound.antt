@@ -1,7 +1,7 @@
 -- What a contract sees of a graph's fields, and what always holds of them.
 use Rattle.gl_graph.specs.declared.graph.Graph.TheInside.{Inside}
 use Rattle.gl_graph.specs.View.{View}
-use Rattle.gl_graph.specs.Seen.{Limits, seen, AreSound, KeepChildren, child_count}
+use Rattle.gl_graph.specs.Seen.{Limits, seen, AreSound}
 
 -- the limits of a graph
 abbrev pub limits_of : Inside → Limits
@@ -11,7 +11,6 @@ limits_of g = record { most = g.most; most_bounds = g.most_bounds }
 abbrev pub view_of : Inside → View
 view_of g = seen (limits_of g) g.nodes g.births
 
--- what holds of the fields: they are sound, and each inner node stores the number of its children
-pub record IsSound (g : Inside) : Type 0 where
-  pub sound : AreSound (limits_of g) g.nodes g.births
-  pub children : KeepChildren g.nodes (child_count g.nodes)
+-- what holds of the fields
+abbrev pub IsSound : Inside → Type 0
+IsSound g = AreSound (limits_of g) g.nodes g.births

@@ -1,9 +1,9 @@
 -- What a contract sees of a `Graph`: the nodes by key, with what is stored beside them.
-use Rattle.std.specs.Prelude.{◌≡◌, ℕ, ◌+◌, ◌≤◌, ◌==◌, List, [], ◌∷◌, length, Option, Some, None, if◌then◌else◌, slice_get, count_by}
+use Rattle.std.specs.Prelude.{ℕ, zero, suc, ◌+◌, ◌==◌, List, [], ◌∷◌, length, Option, Some, None, if◌then◌else◌, count_by}
 use Rattle.std.specs.List.{count_by}
 use Rattle.gl_modes.specs.declared.node.NodeId.{NodeId}
-use Rattle.gl_graph.specs.Shapes.{Shape, File, Index}
-use Rattle.gl_graph.specs.Graph.{Graph, Node, nodes, indexes_of, interval, is_record_of}
+use Rattle.gl_graph.specs.Shapes.{Shape, Inner, File, Index}
+use Rattle.gl_graph.specs.Graph.{Graph, Node, nodes, shape_of, is_child, indexes_of, interval, is_record_of}
 
 -- a node, with what is stored for speed: a file's indexes and the number of its records, an index's intervals
 pub record Vertex : Type 0 where
@@ -41,13 +41,29 @@ graph_of v = record { at = born_at 0 v.slots; births = v.births; most = v.most; 
 abbrev pub record_count : Graph → NodeId → ℕ
 record_count g f = count_by (is_record_of g f) (nodes g)
 
--- what is stored beside a node is what the graph says
-abbrev pub KeepsBeside : Graph → NodeId → Vertex → Shape → Type 0
-KeepsBeside g n x (File adopted) = (x.indexes ≡ indexes_of g n) × (x.records ≡ record_count g n)
-KeepsBeside g n x (Index file bounds) =
-    (length x.intervals ≡ length bounds + 1) × ((place : ℕ) → place ≤ length bounds → slice_get x.intervals place ≡ Some (interval g n place))
-KeepsBeside g n x shape = Unit {0}
+-- how many children a node has
+abbrev pub children_of : Graph → NodeId → ℕ
+children_of g n = count_by (is_child g n) (nodes g)
 
--- what is stored beside the nodes agrees with the graph
-abbrev pub AgreesAt : Graph → ℕ → Vertex → Type 0
-AgreesAt g key x = KeepsBeside g (record { key = key; birth = x.birth }) x x.shape
+-- so many intervals of an index, from a place on
+abbrev pub intervals_from : Graph → NodeId → ℕ → ℕ → List NodeId
+intervals_from g index place zero = []
+intervals_from g index place (suc count) = interval g index place ∷ intervals_from g index (place + 1) count
+
+-- what is stored beside a node: of an inner node the number of its children, of a file its indexes and the number of its records, of an index its intervals
+pub data Beside : Type 0 where
+  Counts : (children : ℕ) → Beside
+  Lists : (indexes : List NodeId) → (records : ℕ) → Beside
+  Spans : (intervals : List NodeId) → Beside
+  Nothing : Beside
+
+-- what the graph says is to be stored beside a node of this shape
+abbrev pub due_as : Graph → NodeId → Option Shape → Beside
+due_as g n (Some Inner) = Counts (children_of g n)
+due_as g n (Some (File adopted)) = Lists (indexes_of g n) (record_count g n)
+due_as g n (Some (Index file bounds)) = Spans (intervals_from g n 0 (length bounds + 1))
+due_as g n s = Nothing
+
+-- and beside this node
+abbrev pub due : Graph → NodeId → Beside
+due g n = due_as g n (shape_of g n)

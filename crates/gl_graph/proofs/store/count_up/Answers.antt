@@ -5,7 +5,7 @@ use Rattle.gl_modes.proofs.Words.{some_is}
 use Rattle.slab.specs.Slab.{Updates}
 use Rattle.gl_graph.specs.declared.node.Node.{Node as Stored}
 use Rattle.gl_graph.specs.Seen.{children_in_body, body_with_children}
-use Rattle.gl_graph.proofs.Recount.{next_same, recounted_more}
+use Rattle.gl_graph.proofs.Counted.{next_same, recounted_more}
 use Rattle.gl_graph.proofs.store.count_up.Goals as goal
 
 pub loop-n-preserved : goal.loop-n-preserved

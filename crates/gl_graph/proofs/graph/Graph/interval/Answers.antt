@@ -1,17 +1,14 @@
 use Rattle.std.proofs.Common.{sym, ap, ◌∙◌}
 use Rattle.std.specs.List.{slice_get}
 use Rattle.gl_graph.proofs.Beside.{interval_found, interval_missed, item_copied}
-use Rattle.gl_graph.specs.Sound.{limits_of}
 use Rattle.gl_graph.proofs.graph.Graph.interval.Goals as goal
 
 pub returns-in-Some : goal.returns-in-Some
 returns-in-Some c =
     c.copied.ensures ∙ item_copied c.intervals.result.now c.args.place c.get.result c.get.ensures.lookup
     ∙ ap (λ is. slice_get is c.args.place) c.intervals.ensures
-    ∙ interval_found (limits_of c.self.inside) c.self.inside.nodes c.self.inside.births c.args.self.now c.self.invariant.sound c.self.view_is c.args.index
-    c.in-Some.node.now (sym c.in-Some.ensures) c.args.place
+    ∙ interval_found c.self.inside c.self.invariant c.args.self.now c.self.view_is c.args.index c.in-Some.node.now (sym c.in-Some.ensures) c.args.place
 
 pub returns-in-None : goal.returns-in-None
 returns-in-None c = sym (interval_missed
-    (limits_of c.self.inside) c.self.inside.nodes c.self.inside.births c.args.self.now c.self.invariant.sound c.self.view_is c.args.index
-    (sym c.in-None.ensures) c.args.place)
+    c.self.inside c.self.invariant c.args.self.now c.self.view_is c.args.index (sym c.in-None.ensures) c.args.place)

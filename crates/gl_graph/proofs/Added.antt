@@ -1,0 +1,240 @@
+-- An inner node, a file or a record is added: what is stored beside the nodes is due again after its parents count it.
+use Rattle.std.specs.Prelude.{◌==◌, ◌≡◌, ℕ, ◌+◌, ◌<◌, ◌≤◌, ◌^◌, true, false, ◌&&◌, List, [], ◌∷◌, length, Some, None, is_some, if◌then◌else◌}
+use Rattle.std.specs.List.{list_any}
+use Rattle.std.proofs.Common.{refl, sym, ap, ap₂, ◌∙◌, subst, arith}
+use Rattle.gl_modes.proofs.NodeLemmas.{node_is, same_node-refl, same_node-equal}
+use Rattle.gl_modes.proofs.Words.{split, no, not_true, some_is, same_number}
+use Rattle.gl_modes.specs.declared.node.NodeId.{NodeId}
+use Rattle.gl_modes.specs.Nodes.{same_node}
+use Rattle.slab.specs.Slab.{Slab, get, slab_len, ContainsKey, Updates}
+use Rattle.gl_graph.specs.declared.node.Body.{Body}
+use Rattle.gl_graph.specs.declared.node.Body.TheVariants as body
+use Rattle.gl_graph.specs.declared.node.Node.{Node as Stored}
+use Rattle.gl_graph.specs.Shapes.{Rec, is_inner_shape, is_file_shape, is_record_shape, is_index_of_shape}
+use Rattle.gl_graph.specs.Graph.{Graph, Node, with_key, node_at, is_live, shape_in, shape_of, indexes_of, record_parents, node_count, IsFreeKey}
+use Rattle.gl_graph.specs.Lawful.{IsLawfulGraph, AreInnerParents}
+use Rattle.gl_graph.specs.Changes.{born_node, IsBorn}
+use Rattle.gl_graph.specs.View.{graph_of, node_of, record_count, children_of, Beside, Counts, Lists, Nothing, due_as, due}
+use Rattle.gl_graph.specs.Seen.{Limits, vertex_of, seen, shape_in_body, parents_in_body, body_with_records, IsPlainBody, beside_in_body, Holds, AreSound}
+use Rattle.gl_graph.specs.Grown.{AreStored, AreRecounted, EachKeeps}
+use Rattle.gl_graph.proofs.Born.{new_node, old_below, old_same}
+use Rattle.gl_graph.proofs.Counted.{are_stored, each_keeps, counted_in, counts_written}
+use Rattle.gl_graph.proofs.Counts.{dead_records, dead_indexes}
+use Rattle.gl_graph.proofs.Dues.{record_test, inner_due, file_due, record_due, no_inner_among, not_among, children_fit, dead_children, children_born}
+use Rattle.gl_graph.proofs.Dues.{records_born, born_same, due_old, one_more}
+use Rattle.gl_graph.proofs.Held.{put, put_here, put_other, IsStored, live_held, node_added, key_free, births_held, sound_held, recounted, recounted_same}
+use Rattle.gl_graph.proofs.Held.{beside_written}
+use Rattle.gl_graph.proofs.Look.{all_at, found_at, live_node}
+use Rattle.gl_graph.proofs.KindRules.{parents_kept, plain_live, inner_plain, file_plain}
+use Rattle.gl_graph.proofs.NewNodes.{one_indexes, record_lawful}
+use Rattle.gl_graph.proofs.RecordParents.{file_among}
+use Rattle.gl_graph.proofs.SameParents.{records_shown}
+use Rattle.gl_graph.proofs.Tally.{ones}
+
+-- a file with another number of records
+pub records_written : (b : Body) (is : List NodeId) (k records : ℕ) → beside_in_body b ≡ Lists is k
+    → beside_in_body (body_with_records b records) ≡ Lists is records
+records_written (body.File kept above) is k records e = ap (λ (l : Beside). Lists (lists_in l) records) e
+  where
+    lists_in : Beside → List NodeId
+    lists_in (Lists xs n) = xs
+    lists_in _ = []
+records_written _ is k records e = cc
+
+module _ {limits : Limits} {old mid : Slab Stored} {births : ℕ} {g : Graph} (h : Holds limits old births g (due g)) (law : IsLawfulGraph g)
+    (key : ℕ) (x : Stored) (free : get old key ≡ None) (u : Updates old mid key (Some x)) (next : x.birth ≡ births + 1)
+    (len : slab_len mid ≡ slab_len old + 1) where
+  abbrev pub id : NodeId
+  id = record { key = key; birth = g.births + 1 }
+
+  abbrev pub node : Node
+  node = node_of key (vertex_of x)
+
+  abbrev pub after : Graph
+  after = born_node g node
+
+  not_live : is_live g id ≡ false
+  not_live = not_true _ (λ t. let low = old_below g law [] id t in absurd (omega arith))
+
+  there : node_at after id ≡ Some node
+  there =
+      let birth : g.births + 1 ≡ g.births + 1 + 0 = omega arith in
+      ap (λ b. node_at after (record { key = key; birth = b })) birth ∙ new_node g law (node ∷ []) 0 node refl
+
+  added : Holds limits mid (births + 1) after (put id (beside_in_body x.body) (due g))
+  added = node_added h law key x free u next len
+
+  was_live : (n : NodeId) → is_live after n ≡ true → same_node n id ≡ false → is_live g n ≡ true
+  was_live n live other =
+      split (n.birth == g.births + 1) (λ t.
+      let x = live_node (node_at after n) live in
+      let f = found_at after n x.0 x.1 in
+      let is : node ≡ x.0 = some_is (sym (ap (λ z. if z then Some node else g.at n.birth) t) ∙ f.0) in
+      let same : n ≡ id = node_is n id (sym f.1 ∙ ap (λ (y : Node). y.key) (sym is)) (same_number n.birth (g.births + 1) t) in
+      absurd (no (sym other ∙ ap (λ m. same_node m id) same ∙ same_node-refl id)))
+      (λ t. ap (λ o. is_some (with_key n.key o)) (sym (ap (λ z. if z then Some node else g.at n.birth) t)) ∙ live)
+
+  is_born : (new : Slab Stored) → graph_of (seen limits new (births + 1)) ≡ after
+      → IsBorn g (graph_of (seen limits new (births + 1))) (record { key = key; birth = births + 1 }) (shape_in_body x.body) (parents_in_body x.body)
+  is_born new e = record {
+    key_free = key_free h law key x free u next len;
+    birth = ap (λ b. b + 1) (sym (births_held h));
+    after = e;
+  }
+
+  -- an inner node or a file, which its parents count
+  module _ (plain : IsPlainBody x.body) (ps : List NodeId) (under : parents_in_body x.body ≡ ps) (inner : AreInnerParents g 0 ps)
+      (lawful : IsLawfulGraph g → IsFreeKey g key → IsLawfulGraph (born_node g (record { key = key; shape = shape_in_body x.body; parents = ps }))) where
+    no_index : (f : NodeId) → is_index_of_shape f (Some (shape_in_body x.body)) ≡ false
+    no_index f = by x.body plain
+      where
+        by : (b : Body) → IsPlainBody b → is_index_of_shape f (Some (shape_in_body b)) ≡ false
+        by (body.Index kept above) p = absurd p
+        by _ p = refl
+
+    no_record : is_record_shape (Some (shape_in_body x.body)) ≡ false
+    no_record = by x.body plain
+      where
+        by : (b : Body) → IsPlainBody b → is_record_shape (Some (shape_in_body b)) ≡ false
+        by (body.Inner children above) p = refl
+        by (body.File kept above) p = refl
+        by _ p = absurd p
+
+    law' : IsLawfulGraph after
+    law' = subst (λ qs. IsLawfulGraph (born_node g (record { key = key; shape = shape_in_body x.body; parents = qs }))) (sym under)
+        (lawful law (key_free h law key x free u next len))
+
+    inner' : AreInnerParents after 0 ps
+    inner' = parents_kept g after law (born_same g law node no_index) 0 ps inner
+
+    pub plain_stored : AreStored mid ps
+    plain_stored = are_stored added law' ps inner'.inner inner'.distinct
+
+    not_mine : list_any (same_node id) ps ≡ false
+    not_mine = not_among g ps id inner.inner not_live
+
+    other : (n : NodeId) → is_live g n ≡ true → same_node n id ≡ false
+    other n live = not_true _ (λ t. no (sym not_live ∙ ap (is_live g) (sym (same_node-equal n id t)) ∙ live))
+
+    pub plain_room : EachKeeps (λ children. children + 1 < 2 ^ 64) mid ps
+    plain_room =
+        each_keeps added law' ps inner'.inner inner'.distinct (λ children. children + 1 < 2 ^ 64)
+        (λ n listed is. let was = all_at (λ q. is_inner_shape (shape_of g q)) ps n listed inner.inner in
+        subst (λ b. counted_in b + 1 < 2 ^ 64)
+        (sym (put_other id (beside_in_body x.body) (due g) n (other n (plain_live g n (inner_plain _ was))) ∙ inner_due g n was)) (children_fit g law n))
+
+    abbrev more : NodeId → ℕ → ℕ
+    more n c = if list_any (same_node n) ps then c + 1 else c
+
+    due_new : recounted (more id) (beside_in_body x.body) ≡ due after id
+    due_new = by x.body refl plain ∙ sym (ap (λ o. due_as after id (shape_in o)) there)
+      where
+        by : (b : Body) → x.body ≡ b → IsPlainBody b → recounted (more id) (beside_in_body b) ≡ due_as after id (Some (shape_in_body b))
+        by (body.Inner children above) e p =
+            ap Counts (ap (λ t. if t then children + 1 else children) not_mine ∙ p
+            ∙ sym (children_born g law node no_index id ∙ ap₂ (λ k t. k + ones t) (dead_children g law id not_live)
+            (ap (list_any (same_node id)) under ∙ not_mine)))
+        by (body.File kept above) e p =
+            ap₂ Lists (p.0 ∙ sym (one_indexes g law node no_index id ∙ dead_indexes g law id not_live))
+            (p.1 ∙ sym (records_born g law node no_index id ∙ ap₂ (λ k t. k + ones t) (dead_records g law id not_live)
+            (ap (λ t. t && list_any (same_node id) node.parents) no_record)))
+        by _ e p = absurd p
+
+    module _ (new : Slab Stored) (re : AreRecounted (λ children. children + 1) mid new ps (length ps)) where
+      counted : Holds limits new (births + 1) after (λ n. recounted (more n) (put id (beside_in_body x.body) (due g) n))
+      counted = counts_written added law' ps inner'.inner inner'.distinct
+          (λ children. children + 1) new re
+
+      pub plain_sound : AreSound limits new (births + 1)
+      plain_sound =
+          sound_held counted law' (λ n live.
+          split (same_node n id) (λ t.
+          let same = same_node-equal n id t in
+          ap (λ m. recounted (more m) (put id (beside_in_body x.body) (due g) m)) same
+          ∙ ap (recounted (more id)) (put_here id (beside_in_body x.body) (due g)) ∙ due_new ∙ ap (due after) (sym same)) (λ t.
+          let old_live = was_live n live t in
+          ap (recounted (more n)) (put_other id (beside_in_body x.body) (due g) n t)
+          ∙ due_old g law node no_index (more n) n old_live
+          (λ i. one_more (list_any (same_node n) ps) (children_of g n) ∙ ap (λ qs. children_of g n + ones (list_any (same_node n) qs)) (sym under))
+          (λ f. ap (λ b. b && list_any (same_node n) node.parents) no_record)))
+
+      pub plain_born : IsBorn g (graph_of (seen limits new (births + 1))) (record { key = key; birth = births + 1 }) (shape_in_body x.body) ps
+      plain_born = subst (IsBorn g (graph_of (seen limits new (births + 1))) (record { key = key; birth = births + 1 }) (shape_in_body x.body)) under
+          (is_born new counted.graph)
+
+  -- a record, which its file counts
+  module _ (file : NodeId) (keys : List ℕ) (is_file : is_file_shape (shape_of g file) ≡ true) (shape : shape_in_body x.body ≡ Rec keys)
+      (under : parents_in_body x.body ≡ record_parents g file keys) where
+    live : is_live g file ≡ true
+    live = plain_live g file (file_plain _ is_file)
+
+    slot : IsStored old g (due g) file
+    slot = live_held h file live
+
+    file_there : get mid file.key ≡ Some slot.stored
+    file_there = u.others file.key (key_free h law key x free u next len file live) ∙ slot.there
+
+    pub file_contained : ContainsKey mid file.key
+    file_contained = ap is_some file_there
+
+    node_made : record { key = key; shape = Rec keys; parents = record_parents g file keys } ≡ node
+    node_made = let s = sym shape in let p = sym under in λ i. record { key = key; shape = s i; parents = p i }
+
+    no_index' : (f : NodeId) → is_index_of_shape f (Some (shape_in_body x.body)) ≡ false
+    no_index' f = ap (λ s. is_index_of_shape f (Some s)) shape
+
+    -- it is a record of its file alone
+    record_of : (n : NodeId) → is_file_shape (shape_of g n) ≡ true → record_test n (Some node) ≡ same_node n file
+    record_of n k = ap₂ (λ s ps. is_record_shape (Some s) && list_any (same_node n) ps) shape under ∙ file_among g law file n keys k
+
+    module _ (each : length keys ≡ length (indexes_of g file)) (room : node_count g + 1 ≤ g.most) (records : ℕ) (count : records ≡ record_count g file + 1)
+        (new : Slab Stored)
+        (write : (y : Stored) → get mid file.key ≡ Some y → Updates mid new file.key (Some (record y { body = body_with_records y.body records })))
+        (len' : slab_len new ≡ slab_len mid) where
+      law'' : IsLawfulGraph after
+      law'' = subst (λ n. IsLawfulGraph (born_node g n)) node_made
+          (record_lawful g law key file keys is_file each (key_free h law key x free u next len) room)
+
+      written : Holds limits new (births + 1) after
+          (put file (beside_in_body (body_with_records slot.stored.body records)) (put id (beside_in_body x.body) (due g)))
+      written =
+          beside_written added file slot.stored
+          (record slot.stored { body = body_with_records slot.stored.body records }) file_there slot.born (write slot.stored file_there) refl len'
+          (records_shown file.key slot.stored.body records)
+
+      due_file : beside_in_body (body_with_records slot.stored.body records) ≡ due after file
+      due_file =
+          records_written slot.stored.body (indexes_of g file) (record_count g file) records (slot.kept ∙ file_due g file is_file)
+          ∙ ap₂ Lists (sym (one_indexes g law node no_index' file))
+          (count ∙ sym (records_born g law node no_index' file ∙ ap (λ t. record_count g file + ones t) (record_of file is_file ∙ same_node-refl file)))
+          ∙ sym (file_due after file (ap (λ o. is_file_shape (shape_in o)) (old_same g law (node ∷ []) file live) ∙ is_file))
+
+      pub record_sound : AreSound limits new (births + 1)
+      record_sound =
+          sound_held written law'' (λ n alive.
+          split (same_node n file) (λ t.
+          let same = same_node-equal n file t in
+          ap (put file (beside_in_body (body_with_records slot.stored.body records)) (put id (beside_in_body x.body) (due g))) same
+          ∙ put_here file (beside_in_body (body_with_records slot.stored.body records)) (put id (beside_in_body x.body) (due g))
+          ∙ due_file ∙ ap (due after) (sym same))
+          (λ t. put_other file (beside_in_body (body_with_records slot.stored.body records)) (put id (beside_in_body x.body) (due g)) n t
+          ∙ split (same_node n id) (λ w.
+          let same = same_node-equal n id w in
+          let rec : is_record_shape (shape_of after id) ≡ true = ap (λ o. is_record_shape (shape_in o)) there ∙ ap (λ s. is_record_shape (Some s)) shape in
+          ap (put id (beside_in_body x.body) (due g)) same ∙ put_here id (beside_in_body x.body) (due g)
+          ∙ nothing x.body shape ∙ sym (record_due after id rec) ∙ ap (due after) (sym same)) (λ w.
+          let old_live = was_live n alive w in
+          put_other id (beside_in_body x.body) (due g) n w ∙ sym (recounted_same (due g n))
+          ∙ due_old g law node no_index' (λ c. c) n old_live
+          (λ i. let none : ones (list_any (same_node n) node.parents) ≡ 0 = ap ones
+          (ap (list_any (same_node n)) under ∙ no_inner_among g law file n keys is_file i) in omega arith) (λ f. record_of n f ∙ t))))
+        where
+          nothing : (b : Body) → shape_in_body b ≡ Rec keys → beside_in_body b ≡ Nothing
+          nothing (body.Inner children above) e = cc
+          nothing (body.File kept above) e = cc
+          nothing (body.Index kept above) e = cc
+          nothing _ e = refl
+
+      pub record_born : IsBorn g (graph_of (seen limits new (births + 1))) (record { key = key; birth = births + 1 }) (Rec keys) (record_parents g file keys)
+      record_born = subst (λ (m : Node). IsBorn g (graph_of (seen limits new (births + 1))) (record { key = key; birth = births + 1 }) m.shape m.parents)
+          (sym node_made) (is_born new written.graph)

@@ -1,0 +1,182 @@
+-- Different inner nodes store another number of children each, and nothing else changes.
+use Rattle.std.specs.Prelude.{Bool, ◌≡◌, ℕ, zero, suc, ◌+◌, true, false, ◌==◌, List, [], ◌∷◌, length, Option, Some, None, is_some, if◌then◌else◌, slice_get}
+use Rattle.std.specs.List.{list_any}
+use Rattle.std.proofs.Common.{refl, sym, ap, ◌∙◌, subst, arith}
+use Rattle.std.proofs.lemmas.Option.{slice_get_within, get_or_from_slice_get}
+use Rattle.gl_modes.proofs.NodeLemmas.{node_is, same_node-equal, same_node-from_equal}
+use Rattle.gl_modes.proofs.Words.{split, no, none_some, some_is, same_number, other_number, or_elim, or_left, or_right, cases_of}
+use Rattle.gl_modes.specs.declared.node.NodeId.{NodeId}
+use Rattle.gl_modes.specs.Nodes.{same_node}
+use Rattle.slab.specs.Slab.{Slab, get, slab_len, Updates}
+use Rattle.gl_graph.specs.declared.node.Body.{Body}
+use Rattle.gl_graph.specs.declared.node.Body.TheVariants as body
+use Rattle.gl_graph.specs.declared.node.Node.{Node as Stored}
+use Rattle.gl_graph.specs.Shapes.{is_inner_shape}
+use Rattle.gl_graph.specs.Graph.{Graph, is_live, shape_of}
+use Rattle.gl_graph.specs.Lawful.{IsLawfulGraph, are_inner, are_distinct}
+use Rattle.gl_graph.specs.View.{node_of, Beside, Counts}
+use Rattle.gl_graph.specs.Seen.{Limits, children_in_body, body_with_children, vertex_of, AreBornApart, beside_in_body, Holds}
+use Rattle.gl_graph.specs.Grown.{AreStored, AreRecounted, EachKeeps}
+use Rattle.gl_graph.proofs.Distinct.{one_place}
+use Rattle.gl_graph.proofs.Held.{recounted, recounted_same, live_held}
+use Rattle.gl_graph.proofs.KindRules.{plain_live, inner_plain}
+use Rattle.gl_graph.proofs.Look.{all_at}
+use Rattle.gl_graph.proofs.Slots.{at_birth, at_slot, slot_at, shown}
+
+-- a slot with another number of children
+recounted_vertex : (x : Stored) (count : ℕ) → vertex_of (record x { body = body_with_children x.body count }) ≡ vertex_of x
+recounted_vertex x count = by x.body
+  where
+    by : (b : Body) → vertex_of (record x { body = body_with_children b count }) ≡ vertex_of (record x { body = b })
+    by (body.Inner children above) = refl
+    by _ = refl
+
+written_children : (fresh : ℕ → ℕ) (b : Body) → beside_in_body (body_with_children b (fresh (children_in_body b))) ≡ recounted fresh (beside_in_body b)
+written_children fresh (body.Inner children above) = refl
+written_children fresh _ = refl
+
+-- a stored node, counted anew if it is one of these
+abbrev recount_if : Bool → (ℕ → ℕ) → Stored → Stored
+recount_if b fresh x = if b then record x { body = body_with_children x.body (fresh (children_in_body x.body)) } else x
+
+recount_shown : (b : Bool) (fresh : ℕ → ℕ) (x : Stored) → vertex_of (recount_if b fresh x) ≡ vertex_of x
+recount_shown true fresh x = recounted_vertex x (fresh (children_in_body x.body))
+recount_shown false fresh x = refl
+
+recount_beside : (b : Bool) (fresh : ℕ → ℕ) (x : Stored)
+    → beside_in_body (recount_if b fresh x).body ≡ recounted (λ c. if b then fresh c else c) (beside_in_body x.body)
+recount_beside true fresh x = written_children fresh x.body
+recount_beside false fresh x = sym (recounted_same (beside_in_body x.body))
+
+-- the number of children among what is stored
+abbrev pub counted_in : Beside → ℕ
+counted_in (Counts children) = children
+counted_in b = 0
+
+children_stored : (b : Body) → children_in_body b ≡ counted_in (beside_in_body b)
+children_stored (body.Inner children above) = refl
+children_stored _ = refl
+
+pub listed_at : (ids : List NodeId) (place : ℕ) (n : NodeId) → slice_get ids place ≡ Some n → list_any (same_node n) ids ≡ true
+listed_at [] place n e = absurd (none_some e)
+listed_at (m ∷ ids) zero n e = or_left (same_node n m) _ (same_node-from_equal n m (sym (some_is e)))
+listed_at (m ∷ ids) (suc place) n e = or_right (same_node n m) _ (listed_at ids place n e)
+
+place_of : (ids : List NodeId) (n : NodeId) → list_any (same_node n) ids ≡ true → (place : ℕ) × (slice_get ids place ≡ Some n)
+place_of [] n h = absurd (no h)
+place_of (m ∷ ids) n h =
+    or_elim (same_node n m) (list_any (same_node n) ids) h (λ here. (0, ap Some (sym (same_node-equal n m here))))
+    (λ there. let f = place_of ids n there in (suc f.0, f.1))
+
+module _ {limits : Limits} {mid : Slab Stored} {births : ℕ} {g : Graph} {beside : NodeId → Beside} (h : Holds limits mid births g beside)
+    (law : IsLawfulGraph g) (ids : List NodeId) (inner : are_inner g ids ≡ true) (distinct : are_distinct ids ≡ true) where
+  live_at : (place : ℕ) (n : NodeId) → slice_get ids place ≡ Some n → is_live g n ≡ true
+  live_at place n at = plain_live g n (inner_plain _ (all_at (λ q. is_inner_shape (shape_of g q)) ids n (listed_at ids place n at) inner))
+
+  -- they are stored under different keys
+  pub are_stored : AreStored mid ids
+  are_stored = record {
+    there = λ place n at. ap is_some (live_held h n (live_at place n at)).there;
+    apart = λ place other m n at at' same.
+        let equal = law.keys_differ m n (live_at place m at) (live_at other n at') same in
+        one_place ids place other (record { key = 0; birth = 0 }) distinct (slice_get_within ids place m at) (slice_get_within ids other n at')
+        (get_or_from_slice_get ids place m (record { key = 0; birth = 0 }) at ∙ equal
+        ∙ sym (get_or_from_slice_get ids other n (record { key = 0; birth = 0 }) at'));
+  }
+
+  pub each_keeps : (Such : ℕ → Type 0)
+      → ((n : NodeId) → list_any (same_node n) ids ≡ true → is_inner_shape (shape_of g n) ≡ true → Such (counted_in (beside n))) → EachKeeps Such mid ids
+  each_keeps Such such place n x at e =
+      let y = live_held h n (live_at place n at) in
+      let same : y.stored ≡ x = some_is (sym y.there ∙ e) in
+      let listed = listed_at ids place n at in
+      subst Such (sym (ap (λ (z : Stored). children_in_body z.body) (sym same) ∙ children_stored y.stored.body ∙ ap counted_in y.kept))
+      (such n listed (all_at (λ q. is_inner_shape (shape_of g q)) ids n listed inner))
+
+  module _ (fresh : ℕ → ℕ) (new : Slab Stored) (re : AreRecounted fresh mid new ids (length ids)) where
+    -- a slot that is counted anew has one of these nodes
+    slot_after : (k : ℕ) (x : Stored) → get mid k ≡ Some x
+        → get new k ≡ Some (recount_if (list_any (same_node (record { key = k; birth = x.birth })) ids) fresh x)
+    slot_after k x e =
+        split (list_any (same_node (record { key = k; birth = x.birth })) ids) (λ t.
+        let f = place_of ids (record { key = k; birth = x.birth }) t in
+        re.counted f.0 (record { key = k; birth = x.birth }) x (slice_get_within ids f.0 _ f.1) f.1 e ∙ ap (λ b. Some (recount_if b fresh x)) (sym t))
+        (λ t. re.stays k (λ place n low at key.
+        let s = live_held h n (live_at place n at) in
+        let same : s.stored ≡ x = some_is (sym s.there ∙ ap (get mid) key ∙ e) in
+        no (sym t ∙ ap (λ m. list_any (same_node m) ids)
+        (node_is (record { key = k; birth = x.birth }) n (sym key) (ap (λ (z : Stored). z.birth) (sym same) ∙ s.born)) ∙ listed_at ids place n at))
+        ∙ e ∙ ap (λ b. Some (recount_if b fresh x)) (sym t))
+
+    -- a node that is there was there before
+    slot_before : (k : ℕ) (y : Stored) → get new k ≡ Some y
+        → (x : Stored) × (get mid k ≡ Some x) × (recount_if (list_any (same_node (record { key = k; birth = x.birth })) ids) fresh x ≡ y)
+    slot_before k y e =
+        cases_of (get mid k) (λ none. absurd (none_some (sym none
+        ∙ sym (re.stays k (λ place n low at key. none_some (sym none ∙ ap (get mid) (sym key) ∙ (live_held h n (live_at place n at)).there))) ∙ e)))
+        (λ x there. (x, there, some_is (sym (slot_after k x there) ∙ e)))
+
+    still_shown : AreBornApart new × (at_birth new ≡ at_birth mid)
+    still_shown =
+        shown new (at_birth mid) (λ k y e.
+        let x = slot_before k y e in
+        let same = sym (recount_shown (list_any (same_node (record { key = k; birth = x.0.birth })) ids) fresh x.0) ∙ ap vertex_of x.2 in
+        ap (at_birth mid) (ap (λ v. v.birth) (sym same)) ∙ at_slot mid h.apart k x.0 x.1 ∙ ap (λ v. Some (node_of k v)) same) (λ b node e.
+        let f = slot_at mid b node e in
+        let same = recount_shown (list_any (same_node (record { key = f.key; birth = f.stored.birth })) ids) fresh f.stored in
+        record {
+          key = f.key;
+          stored = recount_if (list_any (same_node (record { key = f.key; birth = f.stored.birth })) ids) fresh f.stored;
+          there = slot_after f.key f.stored f.there;
+          born = ap (λ v. v.birth) same ∙ f.born;
+          is = f.is ∙ ap (node_of f.key) (sym same);
+        })
+
+    pub counts_written : Holds limits new births g (λ n. recounted (λ c. if list_any (same_node n) ids then fresh c else c) (beside n))
+    counts_written = record {
+      graph = (let same = still_shown.1 in
+          λ i. record { at = same i; births = births; most = limits.most; most_bounds = limits.most_bounds }) ∙ h.graph;
+      apart = still_shown.0;
+      counted = re.len ∙ h.counted;
+      kept = λ k y e.
+          let x = slot_before k y e in
+          let birth : x.0.birth ≡ y.birth = ap (λ v. v.birth)
+          (sym (recount_shown (list_any (same_node (record { key = k; birth = x.0.birth })) ids) fresh x.0) ∙ ap vertex_of x.2) in
+          ap (λ (z : Stored). beside_in_body z.body) (sym x.2) ∙ recount_beside (list_any (same_node (record { key = k; birth = x.0.birth })) ids) fresh x.0
+          ∙ ap (recounted (λ c. if list_any (same_node (record { key = k; birth = x.0.birth })) ids then fresh c else c)) (h.kept k x.0 x.1)
+          ∙ ap (λ (b : ℕ). recounted (λ c. if list_any (same_node (record { key = k; birth = b })) ids then fresh c else c)
+          (beside (record { key = k; birth = b }))) birth;
+    }
+
+-- one more of them is counted
+module _ (fresh : ℕ → ℕ) (old mid : Slab Stored) (ids : List NodeId) (count : ℕ) (n : NodeId) (stored : AreStored old ids)
+    (re : AreRecounted fresh old mid ids count) (at : slice_get ids count ≡ Some n) where
+  pub next_same : get mid n.key ≡ get old n.key
+  next_same = re.stays n.key (λ place m low there same. let one = stored.apart place count m n there at same in absurd (omega arith))
+
+  pub next_stored : is_some (get mid n.key) ≡ true
+  next_stored = ap is_some next_same ∙ stored.there count n at
+
+  module _ (new : Slab Stored) (len : slab_len new ≡ slab_len mid)
+      (write : (x : Stored) → get old n.key ≡ Some x
+      → Updates mid new n.key (Some (record x { body = body_with_children x.body (fresh (children_in_body x.body)) }))) where
+    pub recounted_more : AreRecounted fresh old new ids (count + 1)
+    recounted_more = record {
+      counted = λ place m x low there e. split (place == count)
+          (λ t.
+          let same : m ≡ n = some_is (sym there ∙ ap (slice_get ids) (same_number place count t) ∙ at) in
+          let was : get old n.key ≡ Some x = ap (λ q. get old q.key) (sym same) ∙ e in
+          ap (λ q. get new q.key) same ∙ (write x was).changed) (λ t.
+          let other = other_number place count t in
+          let y = some_there (get old n.key) (stored.there count n at) in
+          (write y.0 y.1).others m.key (λ same. other (stored.apart place count m n there at same))
+          ∙ re.counted place m x (omega arith) there e);
+      stays = λ key none.
+          let y = some_there (get old n.key) (stored.there count n at) in
+          (write y.0 y.1).others key (λ e. none count n (omega arith) at (sym e)) ∙ re.stays key (λ place m low there. none place m (omega arith) there);
+      len = len ∙ re.len;
+    }
+      where
+        some_there : (o : Option Stored) → is_some o ≡ true → (x : Stored) × (o ≡ Some x)
+        some_there None h = absurd (no h)
+        some_there (Some x) h = (x, refl)

@@ -1,0 +1,216 @@
+-- What the graph says is to be stored beside each node, and how that changes.
+use Rattle.std.specs.Prelude.{◌≡◌, ◌≢◌, ℕ, zero, suc, ◌+◌, ◌-◌, ◌<◌, ◌≤◌, ◌^◌, Bool, true, false, ◌&&◌, List, [], ◌∷◌, length, Option, Some, None, cond}
+use Rattle.std.specs.Prelude.{if◌then◌else◌, slice_get}
+use Rattle.std.specs.List.{list_any}
+use Rattle.std.proofs.Common.{refl, sym, ap, ◌∙◌, arith}
+use Rattle.std.proofs.lemmas.List.Sums.{count_by-le-length}
+use Rattle.gl_modes.proofs.Words.{no, not_true, number_same, number_other}
+use Rattle.gl_modes.specs.declared.node.NodeId.{NodeId}
+use Rattle.gl_modes.specs.Nodes.{same_node}
+use Rattle.gl_graph.specs.Shapes.{Shape, Inner, File, Index, Interval, Rec, is_inner_shape, is_file_shape, is_index_shape, is_record_shape, is_index_of_shape}
+use Rattle.gl_graph.specs.Shapes.{is_movable_shape}
+use Rattle.gl_graph.specs.Graph.{Graph, Node, nodes, node_at, is_live, shape_in, shape_of, parents_in, parents_of, is_child, indexes_of, interval}
+use Rattle.gl_graph.specs.Graph.{record_parents}
+use Rattle.gl_graph.specs.Lawful.{IsLawfulGraph, AreInnerParents, HasShape, are_inner}
+use Rattle.gl_graph.specs.Changes.{born_node, without_node}
+use Rattle.gl_graph.specs.View.{record_count, children_of, intervals_from, Beside, Counts, Lists, Spans, Nothing, due_as, due}
+use Rattle.gl_graph.specs.Seen.{beside_in_body, intervals_in_body}
+use Rattle.gl_graph.specs.declared.node.Body.{Body}
+use Rattle.gl_graph.specs.declared.node.Body.TheVariants as body
+use Rattle.gl_graph.proofs.Born.{born_frames, old_same}
+use Rattle.gl_graph.proofs.Branch.{parent_is, parent_kind, parent_of_record, file_or_interval}
+use Rattle.gl_graph.proofs.Counts.{count_none, nodes_live}
+use Rattle.gl_graph.proofs.Held.{recounted, due_after}
+use Rattle.gl_graph.proofs.KindRules.{Frames, index_node, interval_kept, plain_live, inner_plain}
+use Rattle.gl_graph.proofs.Look.{all_at, child_live, live_node, found_at, there_is}
+use Rattle.gl_graph.proofs.NewNodes.{one_indexes}
+use Rattle.gl_graph.proofs.Tally.{ones, count_where, count_born, count_changed}
+
+-- an index that stays has its intervals at the same places
+pub intervals_same : (g g' : Graph) (law : IsLawfulGraph g) → Frames g g' → (n f : NodeId) (bs : List ℕ) → shape_of g n ≡ Some (Index f bs)
+    → (place : ℕ) → place ≤ length bs → interval g' n place ≡ interval g n place
+intervals_same g g' law same n f bs e place low =
+    let node = index_node g law n f bs e in
+    interval_kept g g' law same n place _ (node.intervals place low) refl
+
+-- the children and the records of a node, as tests of nodes
+abbrev pub child_test : NodeId → Option Node → Bool
+child_test n o = list_any (same_node n) (parents_in o)
+
+abbrev pub record_test : NodeId → Option Node → Bool
+record_test f o = is_record_shape (shape_in o) && list_any (same_node f) (parents_in o)
+
+pub inner_due : (g : Graph) (n : NodeId) → is_inner_shape (shape_of g n) ≡ true → due g n ≡ Counts (children_of g n)
+inner_due g n h = by (shape_of g n) h
+  where
+    by : (o : Option Shape) → is_inner_shape o ≡ true → due_as g n o ≡ Counts (children_of g n)
+    by (Some Inner) k = refl
+    by _ k = absurd (no k)
+
+pub file_due : (g : Graph) (n : NodeId) → is_file_shape (shape_of g n) ≡ true → due g n ≡ Lists (indexes_of g n) (record_count g n)
+file_due g n h = by (shape_of g n) h
+  where
+    by : (o : Option Shape) → is_file_shape o ≡ true → due_as g n o ≡ Lists (indexes_of g n) (record_count g n)
+    by (Some (File adopted)) k = refl
+    by _ k = absurd (no k)
+
+pub record_due : (g : Graph) (n : NodeId) → is_record_shape (shape_of g n) ≡ true → due g n ≡ Nothing
+record_due g n h = by (shape_of g n) h
+  where
+    by : (o : Option Shape) → is_record_shape o ≡ true → due_as g n o ≡ Nothing
+    by (Some (Rec keys)) k = refl
+    by _ k = absurd (no k)
+
+pub record_fixed : (o : Option Shape) → is_record_shape o ≡ true → is_movable_shape o ≡ false
+record_fixed (Some (Rec keys)) k = refl
+record_fixed _ k = absurd (no k)
+
+pub not_among : (g : Graph) (ps : List NodeId) (n : NodeId) → are_inner g ps ≡ true → is_live g n ≡ false → list_any (same_node n) ps ≡ false
+not_among g ps n inner dead =
+    not_true _ (λ t. no (sym dead ∙ plain_live g n (inner_plain _ (all_at (λ q. is_inner_shape (shape_of g q)) ps n t inner))))
+
+-- the intervals of an index, by their places
+pub span_count : (g : Graph) (n : NodeId) (from count : ℕ) → length (intervals_from g n from count) ≡ count
+span_count g n from zero = refl
+span_count g n from (suc count) = ap suc (span_count g n (from + 1) count)
+
+pub span_get : (g : Graph) (n : NodeId) (from count place c : ℕ) → place < count → from + place ≡ c
+    → slice_get (intervals_from g n from count) place ≡ Some (interval g n c)
+span_get g n from zero place c low e = absurd (omega arith)
+span_get g n from (suc count) zero c low e = let same : from ≡ c = omega arith in ap (λ p. Some (interval g n p)) same
+span_get g n from (suc count) (suc place) c low e = span_get g n (from + 1) count place c (omega arith) (omega arith)
+
+pub intervals_stored : (b : Body) (is : List NodeId) → beside_in_body b ≡ Spans is → intervals_in_body b ≡ is
+intervals_stored (body.Index kept above) is e = ap spans_in e
+  where
+    spans_in : Beside → List NodeId
+    spans_in (Spans xs) = xs
+    spans_in _ = []
+intervals_stored _ is e = cc
+
+-- what is due beside a node that stays
+pub due_stays : (g g' : Graph) (n : NodeId) (f : ℕ → ℕ) → node_at g' n ≡ node_at g n
+    → (is_inner_shape (shape_of g n) ≡ true → children_of g' n ≡ f (children_of g n))
+    → (is_file_shape (shape_of g n) ≡ true → (indexes_of g' n ≡ indexes_of g n) × (record_count g' n ≡ record_count g n))
+    → ((i : NodeId) (bs : List ℕ) → shape_of g n ≡ Some (Index i bs) → (place : ℕ) → place ≤ length bs → interval g' n place ≡ interval g n place)
+    → recounted f (due g n) ≡ due g' n
+due_stays g g' n f same inner file index =
+    due_after g g' n f (shape_of g n) (λ e. inner (ap is_inner_shape e)) file index ∙ sym (ap (λ o. due_as g' n (shape_in o)) same)
+
+no_file : (o : Option Shape) → is_inner_shape o ≡ true → file_or_interval o ≡ true → ⊥
+no_file (Some Inner) h k = no k
+no_file _ h k = no h
+
+module _ (g : Graph) (law : IsLawfulGraph g) where
+  -- no inner node is a parent of an interval or a record
+  pub no_inner_parent : (m q : NodeId) → is_inner_shape (shape_of g m) ≡ true → is_movable_shape (shape_of g q) ≡ false → is_child g m q ≡ false
+  no_inner_parent m q inner fixed =
+      not_true (is_child g m q) (λ c. let p = parent_is g law q m c in by p.0 (sym (ap is_movable_shape p.1) ∙ fixed) p.2)
+    where
+      no_index : (o : Option Shape) → is_inner_shape o ≡ true → is_index_shape o ≡ true → ⊥
+      no_index (Some Inner) h k = no k
+      no_index _ h k = no h
+
+      by : (sh : Shape) → is_movable_shape (Some sh) ≡ false → parent_kind g law sh (shape_of g m) ≡ true → ⊥
+      by (Interval place) f k = no_index (shape_of g m) inner k
+      by (Rec keys) f k = no_file (shape_of g m) inner k
+      by _ f k = no (sym f)
+
+  pub no_inner_among : (f m : NodeId) (keys : List ℕ) → is_file_shape (shape_of g f) ≡ true → is_inner_shape (shape_of g m) ≡ true
+      → list_any (same_node m) (record_parents g f keys) ≡ false
+  no_inner_among f m keys file inner = not_true _ (λ t. no_file (shape_of g m) inner (parent_of_record g law f m keys file t))
+
+  -- the number of children fits, and one more
+  pub children_fit : (n : NodeId) → children_of g n + 1 < 2 ^ 64
+  children_fit n =
+      let few : children_of g n ≤ length (nodes g) = count_by-le-length (is_child g n) (nodes g) in
+      let room = law.room in
+      let limit = law.limit in
+      omega arith
+
+  pub dead_children : (n : NodeId) → is_live g n ≡ false → children_of g n ≡ 0
+  dead_children n dead =
+      count_none (is_live g) (is_child g n) (nodes g) (nodes_live g) (λ q live. not_true (is_child g n q) (λ t. no (sym dead ∙ law.parents_live q n t)))
+
+  -- a node is born that is no index: what is due beside the others
+  module _ (node : Node) (no_index : (f : NodeId) → is_index_of_shape f (Some node.shape) ≡ false) where
+    pub born_same : Frames g (born_node g node)
+    born_same = born_frames g law (node ∷ []) (λ f r h k. one_indexes g law node no_index f)
+
+    pub children_born : (n : NodeId) → children_of (born_node g node) n ≡ children_of g n + ones (list_any (same_node n) node.parents)
+    children_born n = count_born (child_test n) refl g node
+
+    pub records_born : (f : NodeId) → record_count (born_node g node) f ≡ record_count g f + ones (record_test f (Some node))
+    records_born f = count_born (record_test f) refl g node
+
+    pub due_old : (f : ℕ → ℕ) (n : NodeId) → is_live g n ≡ true
+        → (is_inner_shape (shape_of g n) ≡ true → f (children_of g n) ≡ children_of g n + ones (list_any (same_node n) node.parents))
+        → (is_file_shape (shape_of g n) ≡ true → record_test n (Some node) ≡ false) → recounted f (due g n) ≡ due (born_node g node) n
+    due_old f n live inner file =
+        due_stays g (born_node g node) n f (old_same g law (node ∷ []) n live) (λ i. children_born n ∙ sym (inner i)) (λ h. (
+          one_indexes g law node no_index n,
+          (let all = records_born n in let none : ones (record_test n (Some node)) ≡ 0 = ap ones (file h) in omega arith),
+        )) (λ i bs e place low. intervals_same g (born_node g node) law born_same n i bs e place low)
+
+  -- a node goes, and no other one that passes
+  pub count_without : (t : Option Node → Bool) (none : t None ≡ false) (g' : Graph) (r : NodeId) → is_live g r ≡ true → g'.births ≡ g.births
+      → g'.at r.birth ≡ None → ((b : ℕ) → b ≢ r.birth → t (g'.at b) ≡ t (g.at b))
+      → count_where t none g ≡ count_where t none g' + ones (t (node_at g r))
+  count_without t none g' r live births gone same =
+      let x = live_node (node_at g r) live in
+      let at = found_at g r x.0 x.1 in
+      let low = law.born r.birth (there_is (g.at r.birth) x.0 at.0) in
+      let all = count_changed t none g g' r.birth births same low.0 low.1 in
+      let here : ones (t (g.at r.birth)) ≡ ones (t (node_at g r)) = ap (λ o. ones (t o)) (at.0 ∙ sym x.1) in
+      let nothing : ones (t (g'.at r.birth)) ≡ 0 = ap (λ o. ones (t o)) gone ∙ ap ones none in
+      omega arith
+
+  pub count_left : (t : Option Node → Bool) (none : t None ≡ false) (r : NodeId) → is_live g r ≡ true
+      → count_where t none g ≡ count_where t none (without_node g r) + ones (t (node_at g r))
+  count_left t none r live =
+      count_without t none (without_node g r) r live refl (ap (λ x. if x then None else g.at r.birth) (number_same r.birth r.birth refl))
+      (λ b ne. ap (λ x. t (if x then None else g.at b)) (number_other b r.birth ne))
+
+  -- a parent has a child
+  pub some_child : (m n : NodeId) → is_child g m n ≡ true → 1 ≤ children_of g m
+  some_child m n c =
+      let live = child_live g n m c in
+      let all : children_of g m ≡ count_where (child_test m) refl (without_node g n) + ones (is_child g m n) = count_left (child_test m) refl n live in
+      let one : ones (is_child g m n) ≡ 1 = ap ones c in
+      omega arith
+
+  -- the parents of a movable node: different inner nodes, and not itself
+  module _ (n : NodeId) (movable : is_movable_shape (shape_of g n) ≡ true) where
+    pub own_parents : AreInnerParents g 0 (parents_of g n)
+    own_parents = by (node_at g n) refl
+      where
+        any : (least : ℕ) (ps : List NodeId) → AreInnerParents g least ps → AreInnerParents g 0 ps
+        any least ps a = record { enough = omega arith; few = a.few; inner = a.inner; distinct = a.distinct }
+
+        shaped : (sh : Shape) (ps : List NodeId) → is_movable_shape (Some sh) ≡ true → HasShape g n sh ps → AreInnerParents g 0 ps
+        shaped Inner ps m k = k
+        shaped (File adopted) ps m k = any 1 ps k
+        shaped (Index f bs) ps m k = any 1 ps k.0
+        shaped _ ps m k = absurd (no m)
+
+        by : (o : Option Node) → node_at g n ≡ o → AreInnerParents g 0 (parents_in o)
+        by None e = absurd (no (sym (ap (λ o. is_movable_shape (shape_in o)) e) ∙ movable))
+        by (Some x) e = shaped x.shape x.parents (sym (ap (λ o. is_movable_shape (shape_in o)) e) ∙ movable) (law.well_formed n x e)
+
+    pub not_its_own : list_any (same_node n) (parents_of g n) ≡ false
+    not_its_own = not_true _ (λ t. law.acyclic n n [] (t, refl))
+
+-- a number with one more or less
+pub one_more : (b : Bool) (k : ℕ) → (cond b (k + 1) k) ≡ k + ones b
+one_more true k = refl
+one_more false k = omega arith
+
+pub one_less : (b : Bool) (k m : ℕ) → m + ones b ≡ k → (cond b (k - 1) k) ≡ m
+one_less true k m e = omega arith
+one_less false k m e = omega arith
+
+pub one_moved : (a b : Bool) (k m : ℕ) → (a ≡ true → 1 ≤ k) → m + ones a ≡ k + ones b → m ≡ cond b (cond a (k - 1) k + 1) (cond a (k - 1) k)
+one_moved true true k m some e = let low = some refl in omega arith
+one_moved true false k m some e = let low = some refl in omega arith
+one_moved false true k m some e = omega arith
+one_moved false false k m some e = omega arith

@@ -1,0 +1,380 @@
+-- An index is born with its intervals: what is stored beside the nodes is due again after its file lists it and its parents count it.
+use Rattle.std.specs.Prelude.{◌≡◌, ◌≢◌, ℕ, zero, suc, ◌+◌, ◌<◌, ◌≤◌, ◌^◌, Bool, true, false, not, ◌==◌, ◌&&◌, List, [], ◌∷◌, ◌++◌, length, Option, Some, None}
+use Rattle.std.specs.Prelude.{is_some, cond, if◌then◌else◌, count_by, Vec}
+use Rattle.std.specs.List.{list_any}
+use Rattle.std.specs.declared.alloc.Global.{Global}
+use Rattle.std.proofs.Common.{refl, sym, ap, ap₂, ◌∙◌, subst, arith, ⊎_elim}
+use Rattle.smallvec.specs.SmallVec.{SmallVec}
+use Rattle.gl_modes.proofs.NodeLemmas.{node_is, same_node-refl, same_node-equal, same_node-differ}
+use Rattle.gl_modes.proofs.Words.{split, cases_of, no, none_some, some_is, not_true, both, same_number, or_elim}
+use Rattle.gl_modes.specs.declared.node.NodeId.{NodeId}
+use Rattle.gl_modes.specs.Nodes.{same_node}
+use Rattle.slab.specs.Slab.{Slab, get, slab_len, ContainsKey, Updates}
+use Rattle.gl_graph.specs.declared.node.Body.{Body}
+use Rattle.gl_graph.specs.declared.node.Body.TheVariants as body
+use Rattle.gl_graph.specs.declared.node.Node.{Node as Stored}
+use Rattle.gl_graph.specs.Shapes.{Shape, File, Index, Interval, is_inner_shape, is_file_shape}
+use Rattle.gl_graph.specs.Graph.{Graph, Node, node_at, is_live, shape_in, shape_of, indexes_of, interval, node_count, IsFreeKey}
+use Rattle.gl_graph.specs.Lawful.{IsLawfulGraph, AreInnerParents}
+use Rattle.gl_graph.specs.Changes.{born_node, born_nodes, born_index, interval_nodes, are_apart, IsIndexBorn}
+use Rattle.gl_graph.specs.Refusals.{reindex_refusal}
+use Rattle.gl_graph.specs.View.{View, graph_of, node_of, record_count, children_of, intervals_from, Beside, Lists, Spans, Nothing, due_as, due}
+use Rattle.gl_graph.specs.Seen.{Limits, vertex_of, seen, shape_in_body, parents_in_body, body_with_intervals, body_with_indexes, beside_in_body, Holds}
+use Rattle.gl_graph.specs.Seen.{AreSound}
+use Rattle.gl_graph.specs.Seen.{AreBornApart, AreBornWithin}
+use Rattle.gl_graph.specs.Grown.{ids_of, AreIntervalsBorn, AreStored, AreRecounted, EachKeeps}
+use Rattle.gl_graph.specs.Sound.{limits_of, view_of, IsSound}
+use Rattle.gl_graph.specs.declared.graph.Graph.TheInside.{Inside}
+use Rattle.gl_graph.proofs.Beside.{held}
+use Rattle.gl_graph.proofs.Born.{old_same, old_or_new, place_in, new_id, new_not_old, old_below}
+use Rattle.gl_graph.proofs.Counted.{are_stored, each_keeps, counted_in, counts_written}
+use Rattle.gl_graph.proofs.Counts.{count_cons, count_grown}
+use Rattle.gl_graph.proofs.Dues.{child_test, record_test, inner_due, file_due, intervals_same, due_stays, children_fit, one_more}
+use Rattle.gl_graph.proofs.Held.{put, put_here, put_other, IsStored, live_held, births_held, within_held, beside_written, node_added, key_free, sound_held}
+use Rattle.gl_graph.proofs.Held.{recounted}
+use Rattle.gl_graph.proofs.KindRules.{parents_kept, plain_live, inner_plain, file_plain}
+use Rattle.gl_graph.proofs.Look.{all_at, live_node}
+use Rattle.gl_graph.proofs.NewIndex.{keys_of_intervals, count_intervals, interval_node, others, index_there, interval_there, file_index, frames, index_lawful}
+use Rattle.gl_graph.proofs.SameParents.{intervals_shown, indexes_shown}
+use Rattle.gl_graph.proofs.Slots.{inserted_apart, inserted_within}
+use Rattle.gl_graph.proofs.Tally.{ones, count_borns}
+use Rattle.gl_graph.proofs.Unrefused.{IsRoomyIndex, index_births, reindex_unrefused}
+
+intervals_written : (b : Body) (fresh : Vec NodeId Global) (f : NodeId) (bs : List ℕ) → shape_in_body b ≡ Index f bs
+    → beside_in_body (body_with_intervals b fresh) ≡ Spans fresh.items
+intervals_written (body.Index kept above) fresh f bs e = refl
+intervals_written _ fresh f bs e = cc
+
+indexes_written : (b : Body) (fresh : SmallVec NodeId) (is : List NodeId) (k : ℕ) → beside_in_body b ≡ Lists is k
+    → beside_in_body (body_with_indexes b fresh) ≡ Lists fresh.items k
+indexes_written (body.File kept above) fresh is k e = ap (λ (l : Beside). Lists fresh.items (records_in l)) e
+  where
+    records_in : Beside → ℕ
+    records_in (Lists xs n) = n
+    records_in _ = 0
+indexes_written _ fresh is k e = cc
+
+dead_due : (g : Graph) (n : NodeId) → is_live g n ≡ false → due g n ≡ Nothing
+dead_due g n dead = cases_of (node_at g n) (λ e. ap (λ o. due_as g n (shape_in o)) e) (λ x e. absurd (no (sym dead ∙ ap is_some e)))
+
+-- a test that no interval of the index passes
+none_among : (t : Node → Bool) (index : NodeId) (place : ℕ) (keys : List ℕ)
+    → ((p k : ℕ) → t (record { key = k; shape = Interval p; parents = index ∷ [] }) ≡ false) → count_by t (interval_nodes index place keys) ≡ 0
+none_among t index place [] none = refl
+none_among t index place (k ∷ keys) none =
+    count_cons t (record { key = k; shape = Interval place; parents = index ∷ [] }) (interval_nodes index (place + 1) keys)
+    ∙ ap₂ (λ b n. ones b + n) (none place k) (none_among t index (place + 1) keys none)
+
+-- the intervals of an index that names each at its place
+spans_listed : (g : Graph) (index : NodeId) (from b : ℕ) (keys : List ℕ)
+    → ((j c d : ℕ) (node : Node) → place_in (interval_nodes index from keys) j ≡ Some node → from + j ≡ c → b + j ≡ d
+    → interval g index c ≡ record { key = node.key; birth = d }) → intervals_from g index from (length keys) ≡ ids_of b keys
+spans_listed g index from b [] at = refl
+spans_listed g index from b (k ∷ keys) at =
+    ap₂ (λ x xs. x ∷ xs) (at 0 from b (record { key = k; shape = Interval from; parents = index ∷ [] }) refl (omega arith) (omega arith))
+    (spans_listed g index (from + 1) (b + 1) keys (λ j c d node e s t. at (suc j) c d node e (omega arith) (omega arith)))
+
+-- other room is not seen
+pub roomy_sound : (i : Inside) → IsSound i → (s : Slab Stored) → s ≡ record i.nodes { capacity = s.capacity } → AreSound (limits_of i) s i.births
+roomy_sound i sound s e = subst (λ (n : Slab Stored). AreSound (limits_of i) n i.births) (sym e) (record {
+  lawful = sound.lawful;
+  holds = record {
+    graph = sound.holds.graph;
+    apart = sound.holds.apart;
+    counted = sound.holds.counted;
+    kept = sound.holds.kept;
+  };
+})
+
+pub roomy_view : (i : Inside) (v : View) → view_of i ≡ v → (s : Slab Stored) → s ≡ record i.nodes { capacity = s.capacity }
+    → seen (limits_of i) s i.births ≡ v
+roomy_view i v view s e = ap (λ (n : Slab Stored). seen (limits_of i) n i.births) e ∙ view
+
+pub roomy : (i : Inside) (sound : IsSound i) (v : View) (view : view_of i ≡ v) (s : Slab Stored) → s ≡ record i.nodes { capacity = s.capacity }
+    → Holds (limits_of i) s i.births (graph_of v) (due (graph_of v))
+roomy i sound v view s e =
+    let h = held i sound v view in
+    subst (λ (n : Slab Stored). Holds (limits_of i) n i.births (graph_of v) (due (graph_of v))) (sym e)
+    (record { graph = h.graph; apart = h.apart; counted = h.counted; kept = h.kept })
+
+-- an index that no test refuses can be numbered, with its intervals
+pub births_left : {limits : Limits} {s : Slab Stored} {births : ℕ} {g : Graph} {beside : NodeId → Beside} → Holds limits s births g beside
+    → IsLawfulGraph g → (ps : List NodeId) (f : NodeId) (bs : List ℕ) → reindex_refusal g ps f bs ≡ None → births + 1 + (length bs + 1) < 2 ^ 64
+births_left {g = g} h law ps f bs free =
+    let low = index_births g ps f bs (reindex_unrefused g ps f bs free) law.limit in
+    let same = births_held h in
+    omega arith
+
+module _ {limits : Limits} {old mid : Slab Stored} {births : ℕ} {g : Graph} (h : Holds limits old births g (due g)) (law : IsLawfulGraph g)
+    (key : ℕ) (x : Stored) (free : get old key ≡ None) (u : Updates old mid key (Some x)) (next : x.birth ≡ births + 1)
+    (len : slab_len mid ≡ slab_len old + 1) where
+  abbrev pub id : NodeId
+  id = record { key = key; birth = g.births + 1 }
+
+  births_are : g.births ≡ births
+  births_are = births_held h
+
+  pub index_within : AreBornWithin mid (births + 1)
+  index_within = inserted_within limits old mid births key x h.apart (within_held h law) free u next
+
+  pub index_apart : AreBornApart mid
+  index_apart = inserted_apart limits old mid births key x h.apart (within_held h law) free u next
+
+  module _ (file : NodeId) (ps : List NodeId) (bounds : List ℕ) (shape : shape_in_body x.body ≡ Index file bounds) (under : parents_in_body x.body ≡ ps)
+      (may : IsRoomyIndex g ps file bounds) (grown : Slab Stored) (ids : List NodeId)
+      (born : AreIntervalsBorn mid grown (record { key = key; birth = births + 1 }) (length bounds + 1) ids) where
+    born' : AreIntervalsBorn mid grown id (length bounds + 1) ids
+    born' = subst (λ b. AreIntervalsBorn mid grown (record { key = key; birth = b + 1 }) (length bounds + 1) ids) (sym births_are) born
+
+    abbrev keys : List ℕ
+    keys = born'.keys
+
+    abbrev index : Node
+    index = record { key = key; shape = Index file bounds; parents = ps }
+
+    abbrev ns : List Node
+    ns = index ∷ interval_nodes id 0 keys
+
+    abbrev after : Graph
+    after = born_index g key ps file bounds keys
+
+    abbrev total : ℕ
+    total = births + 1 + (length bounds + 1)
+
+    added : Holds limits mid (births + 1) (born_node g (node_of key (vertex_of x))) (put id (beside_in_body x.body) (due g))
+    added = node_added h law key x free u next len
+
+    graph_born : graph_of (seen limits grown total) ≡ after
+    graph_born =
+        let c = count_intervals id 0 keys in
+        let m = born'.many in
+        let b = births_are in
+        let count : total ≡ g.births + 1 + length (interval_nodes id 0 keys) = omega arith in
+        let node : node_of key (vertex_of x) ≡ index = λ i. record { key = key; shape = shape i; parents = under i } in
+        ap (λ k. graph_of (seen limits grown k)) count ∙ born'.grown.graph limits
+        ∙ ap (λ (g' : Graph). born_nodes g' (interval_nodes id 0 keys))
+        (ap (λ k. graph_of (seen limits mid (k + 1))) births_are ∙ added.graph ∙ ap (born_node g) node)
+
+    free_key : (k : ℕ) → get old k ≡ None → IsFreeKey g k
+    free_key k e n live same = none_some (sym e ∙ ap (get old) (sym same) ∙ (live_held h n live).there)
+
+    free_keys : (k : ℕ) → list_any (λ y. y == k) (key ∷ keys) ≡ true → IsFreeKey g k
+    free_keys k e =
+        or_elim (key == k) (list_any (λ y. y == k) keys) e (λ here. free_key k (ap (get old) (sym (same_number key k here)) ∙ free))
+        (λ there. free_key k (by k (born'.grown.vacant k (ap (list_any (λ y. y == k)) (keys_of_intervals id 0 keys) ∙ there)) (get old k) refl))
+      where
+        by : (k' : ℕ) → get mid k' ≡ None → (o : Option Stored) → get old k' ≡ o → get old k' ≡ None
+        by k' v None e' = e'
+        by k' v (Some y) e' = absurd (none_some (sym v ∙ u.others k' (λ same. none_some (sym free ∙ ap (get old) (sym same) ∙ e')) ∙ e'))
+
+    apart_keys : are_apart (key ∷ keys) ≡ true
+    apart_keys =
+        both _ _ (split (list_any (λ y. y == key) keys)
+        (λ t. absurd (none_some (sym (born'.grown.vacant key (ap (list_any (λ y. y == key)) (keys_of_intervals id 0 keys) ∙ t)) ∙ u.changed))) (λ t. ap not t))
+        (ap are_apart (sym (keys_of_intervals id 0 keys)) ∙ born'.grown.keys_apart)
+
+    lawful : IsLawfulGraph after
+    lawful = index_lawful g law key ps file bounds keys may.inner may.file may.few may.rise may.unused may.indexes born'.many apart_keys free_keys may.room
+
+    -- what is stored of the new nodes, before the index and its file are written
+    abbrev first : NodeId → Beside
+    first = put id (beside_in_body x.body) (due g)
+
+    held_born : Holds limits grown total after first
+    held_born = record {
+      graph = graph_born;
+      apart = born'.grown.apart;
+      counted = (let all = count_grown g law ns in
+          let many = count_intervals id 0 keys in
+          let was = h.counted in
+          let grew = born'.grown.len in
+          let same : slab_len grown ≡ node_count after = omega arith in
+          same);
+      kept = λ k y e. by k y e (get mid k) refl;
+    }
+      where
+        by : (k : ℕ) (y : Stored) → get grown k ≡ Some y → (o : Option Stored) → get mid k ≡ o
+            → beside_in_body y.body ≡ first (record { key = k; birth = y.birth })
+        by k y e (Some z) there =
+            let same : z ≡ y = some_is (sym (born'.grown.stays k z there) ∙ e) in added.kept k y (there ∙ ap Some same)
+        by k y e None there =
+            let ne : k ≢ key = λ same. none_some (sym there ∙ ap (get mid) same ∙ u.changed) in
+            let dead : is_live g (record { key = k; birth = y.birth }) ≡ false =
+            not_true _ (λ t. none_some (sym there ∙ u.others k ne ∙ (live_held h (record { key = k; birth = y.birth }) t).there)) in
+            ⊎_elim (λ (was : get mid k ≡ Some y). absurd (none_some (sym there ∙ was)))
+            (λ (new : (place : ℕ) × (shape_in_body y.body ≡ Interval place)). nothing y.body new.0 new.1) (born'.grown.came k y e)
+            ∙ sym (put_other id (beside_in_body x.body) (due g) (record { key = k; birth = y.birth })
+            (same_node-differ (record { key = k; birth = y.birth }) id (λ q. ne (ap (λ (m : NodeId). m.key) q)))
+            ∙ dead_due g (record { key = k; birth = y.birth }) dead)
+          where
+            nothing : (b : Body) (place : ℕ) → shape_in_body b ≡ Interval place → beside_in_body b ≡ Nothing
+            nothing (body.Interval at up) place e' = refl
+            nothing _ place e' = cc
+
+    live_file : is_live g file ≡ true
+    live_file = plain_live g file (file_plain _ may.file)
+
+    slot : IsStored old g (due g) file
+    slot = live_held h file live_file
+
+    file_apart : file.key ≢ key
+    file_apart = key_free h law key x free u next len file live_file
+
+    file_there : get grown file.key ≡ Some slot.stored
+    file_there = born'.grown.stays file.key slot.stored (u.others file.key file_apart ∙ slot.there)
+
+    index_there' : get grown key ≡ Some x
+    index_there' = born'.grown.stays key x u.changed
+
+    module _ (fresh : Vec NodeId Global) (fresh_is : fresh.items ≡ ids) (third : Slab Stored)
+        (write : (y : Stored) → get grown key ≡ Some y → Updates grown third key (Some (record y { body = body_with_intervals y.body fresh })))
+        (len3 : slab_len third ≡ slab_len grown) where
+      u3 : Updates grown third key (Some (record x { body = body_with_intervals x.body fresh }))
+      u3 = write x index_there'
+
+      file_third : get third file.key ≡ Some slot.stored
+      file_third = u3.others file.key file_apart ∙ file_there
+
+      pub file_kept : ContainsKey third file.key
+      file_kept = ap is_some file_third
+
+      abbrev second : NodeId → Beside
+      second = put id (beside_in_body (body_with_intervals x.body fresh)) first
+
+      spanned : Holds limits third total after second
+      spanned =
+          beside_written held_born id x (record x { body = body_with_intervals x.body fresh }) index_there'
+          (next ∙ ap (λ b. b + 1) (sym births_are)) u3 refl len3 (intervals_shown key x.body fresh)
+
+      module _ (list : SmallVec NodeId) (list_is : list.items ≡ indexes_of g file ++ record { key = key; birth = births + 1 } ∷ []) (fourth : Slab Stored)
+          (rewrite : (y : Stored) → get third file.key ≡ Some y
+          → Updates third fourth file.key (Some (record y { body = body_with_indexes y.body list }))) (len4 : slab_len fourth ≡ slab_len third) where
+        abbrev now : NodeId → Beside
+        now = put file (beside_in_body (body_with_indexes slot.stored.body list)) second
+
+        listed : Holds limits fourth total after now
+        listed =
+            beside_written spanned file slot.stored (record slot.stored { body = body_with_indexes slot.stored.body list })
+            file_third slot.born (rewrite slot.stored file_third) refl len4 (indexes_shown file.key slot.stored.body list)
+
+        still : (m : NodeId) → is_live g m ≡ true → same_node m file ≡ false → now m ≡ due g m
+        still m live other =
+            let apart : same_node m id ≡ false =
+            not_true _ (λ t. let low = old_below g law ns m live in let b = ap (λ (q : NodeId). q.birth) (same_node-equal m id t) in absurd (omega arith)) in
+            put_other file (beside_in_body (body_with_indexes slot.stored.body list)) second m other
+            ∙ put_other id (beside_in_body (body_with_intervals x.body fresh)) first m apart ∙ put_other id (beside_in_body x.body) (due g) m apart
+
+        same_frames : Rattle.gl_graph.proofs.KindRules.Frames g after
+        same_frames = frames g law key ps file bounds keys may.inner may.file may.few may.rise may.unused may.indexes born'.many apart_keys free_keys may.room
+
+        inner : AreInnerParents after 1 ps
+        inner = parents_kept g after law same_frames 1 ps may.inner
+
+        inner_other : (m : NodeId) → is_inner_shape (shape_of g m) ≡ true → same_node m file ≡ false
+        inner_other m i = not_true _ (λ t. no
+            (sym (no_inner (shape_of g file) may.file) ∙ ap (λ q. is_inner_shape (shape_of g q)) (sym (same_node-equal m file t)) ∙ i))
+          where
+            no_inner : (o : Option Shape) → is_file_shape o ≡ true → is_inner_shape o ≡ false
+            no_inner (Some (File adopted)) k = refl
+            no_inner _ k = absurd (no k)
+
+        pub index_stored : AreStored fourth ps
+        index_stored = are_stored listed lawful ps inner.inner inner.distinct
+
+        pub index_room : EachKeeps (λ children. children + 1 < 2 ^ 64) fourth ps
+        index_room =
+            each_keeps listed lawful ps inner.inner inner.distinct (λ children. children + 1 < 2 ^ 64)
+            (λ m listed' i. let was = all_at (λ q. is_inner_shape (shape_of g q)) ps m listed' may.inner.inner in
+            subst (λ b. counted_in b + 1 < 2 ^ 64) (sym (still m (plain_live g m (inner_plain _ was)) (inner_other m was) ∙ inner_due g m was))
+            (children_fit g law m))
+
+        abbrev more : NodeId → ℕ → ℕ
+        more m c = if list_any (same_node m) ps then c + 1 else c
+
+        records_kept : (f : NodeId) → record_count after f ≡ record_count g f
+        records_kept f =
+            let all : record_count after f ≡ record_count g f + count_by (λ n. record_test f (Some n)) ns = count_borns (record_test f) refl g ns in
+            let head : count_by (λ n. record_test f (Some n)) ns ≡ 0 + count_by (λ n. record_test f (Some n)) (interval_nodes id 0 keys) =
+            count_cons (λ n. record_test f (Some n)) index (interval_nodes id 0 keys) in
+            let rest = none_among (λ n. record_test f (Some n)) id 0 keys (λ p k. refl) in
+            omega arith
+
+        children_more : (m : NodeId) → is_live g m ≡ true → children_of after m ≡ children_of g m + ones (list_any (same_node m) ps)
+        children_more m live =
+            let all : children_of after m ≡ children_of g m + count_by (λ n. child_test m (Some n)) ns = count_borns (child_test m) refl g ns in
+            let head : count_by (λ n. child_test m (Some n)) ns
+            ≡ ones (list_any (same_node m) ps) + count_by (λ n. child_test m (Some n)) (interval_nodes id 0 keys) =
+            count_cons (λ n. child_test m (Some n)) index (interval_nodes id 0 keys) in
+            let apart : same_node m id ≡ false =
+            not_true _ (λ t. let low = old_below g law ns m live in let b = ap (λ (q : NodeId). q.birth) (same_node-equal m id t) in absurd (omega arith)) in
+            let rest = none_among (λ n. child_test m (Some n)) id 0 keys (λ p k. ap (λ b. Rattle.std.specs.Prelude.◌||◌ b false) apart) in
+            omega arith
+
+        due_file : beside_in_body (body_with_indexes slot.stored.body list) ≡ due after file
+        due_file =
+            indexes_written slot.stored.body list (indexes_of g file) (record_count g file) (slot.kept ∙ file_due g file may.file)
+            ∙ ap₂ Lists (list_is ∙ ap (λ b. indexes_of g file ++ record { key = key; birth = b + 1 } ∷ []) (sym births_are)
+            ∙ sym (file_index g law key ps file bounds keys)) (sym (records_kept file))
+            ∙ sym (file_due after file ((same_frames.shapes file (file_plain _ may.file)).file ∙ may.file))
+
+        due_index : beside_in_body (body_with_intervals x.body fresh) ≡ due after id
+        due_index =
+            intervals_written x.body fresh file bounds shape
+            ∙ ap Spans (fresh_is ∙ born'.ids_are ∙ sym (spans_listed after id 0 (g.births + 1 + 1) keys (λ j c d node e s t.
+            let place : j ≡ c = omega arith in
+            let birth : g.births + 1 + suc j ≡ d = omega arith in
+            ap (interval after id) (sym place) ∙ interval_there g law key ps file bounds keys j node e
+            ∙ ap (λ b. record { key = node.key; birth = b }) birth))
+            ∙ ap (intervals_from after id 0) born'.many)
+            ∙ sym (ap (λ o. due_as after id (shape_in o)) (index_there g law key ps file bounds keys))
+
+        module _ (last : Slab Stored) (re : AreRecounted (λ children. children + 1) fourth last ps (length ps)) where
+          settled : Holds limits last total after (λ m. recounted (more m) (now m))
+          settled = counts_written listed lawful ps inner.inner inner.distinct (λ children. children + 1) last re
+
+          pub index_made : IsIndexBorn g (graph_of (seen limits last total)) (record { key = key; birth = births + 1 }) ps file bounds
+          index_made = record {
+            interval_keys = keys;
+            intervals = born'.many;
+            keys_apart = apart_keys;
+            keys_free = free_keys;
+            birth = ap (λ b. b + 1) (sym births_are);
+            after = settled.graph;
+          }
+
+          pub index_sound : AreSound limits last total
+          index_sound =
+              sound_held settled lawful (λ m live. split (same_node m file) (λ t.
+              let same = same_node-equal m file t in
+              let lists = indexes_written slot.stored.body list (indexes_of g file) (record_count g file) (slot.kept ∙ file_due g file may.file) in
+              ap (λ q. recounted (more q) (now q)) same
+              ∙ ap (recounted (more file)) (put_here file (beside_in_body (body_with_indexes slot.stored.body list)) second ∙ lists) ∙ sym lists
+              ∙ due_file ∙ ap (due after) (sym same)) (λ t. split (same_node m id) (λ w.
+              let same = same_node-equal m id w in
+              let spans = intervals_written x.body fresh file bounds shape in
+              ap (recounted (more m)) (put_other file (beside_in_body (body_with_indexes slot.stored.body list)) second m t ∙ ap second same
+              ∙ put_here id (beside_in_body (body_with_intervals x.body fresh)) first ∙ spans)
+              ∙ sym spans ∙ due_index ∙ ap (due after) (sym same)) (λ w. let y = live_node (node_at after m) live in
+              old_or_new g law ns m y.0 y.1 (λ was. old_due m t (ap is_some was)) (λ k at is. new_due m t w y.0 y.1 k at is))))
+            where
+              old_due : (m : NodeId) → same_node m file ≡ false → is_live g m ≡ true → recounted (more m) (now m) ≡ due after m
+              old_due m other live =
+                  ap (recounted (more m)) (still m live other)
+                  ∙ due_stays g after m (more m) (old_same g law ns m live)
+                  (λ i. children_more m live ∙ sym (one_more (list_any (same_node m) ps) (children_of g m)))
+                  (λ f. (others g law key ps file bounds keys m other, records_kept m))
+                  (λ i bs e place low. intervals_same g after law same_frames m i bs e place low)
+
+              new_due : (m : NodeId) → same_node m file ≡ false → same_node m id ≡ false → (y : Node) → node_at after m ≡ Some y → (k : ℕ)
+                  → place_in ns k ≡ Some y → m ≡ new_id g law ns y k → recounted (more m) (now m) ≡ due after m
+              new_due m other apart y there zero at is =
+                  let birth : g.births + 1 + 0 ≡ g.births + 1 = omega arith in
+                  absurd (no (sym apart ∙ ap (λ q. same_node q id) (is ∙ node_is (new_id g law ns y 0) id (ap (λ (z : Node). z.key) (sym (some_is at))) birth)
+                  ∙ same_node-refl id))
+              new_due m other apart y there (suc k) at is =
+                  let dead : is_live g m ≡ false = not_true _ (λ t. new_not_old g law ns (suc k) y (ap (is_live g) (sym is) ∙ t)) in
+                  ap (recounted (more m)) (put_other file (beside_in_body (body_with_indexes slot.stored.body list)) second m other
+                  ∙ put_other id (beside_in_body (body_with_intervals x.body fresh)) first m apart ∙ put_other id (beside_in_body x.body) (due g) m apart
+                  ∙ dead_due g m dead)
+                  ∙ sym (ap (λ o. due_as after m (shape_in o)) there
+                  ∙ ap (λ (z : Node). due_as after m (Some z.shape)) (interval_node id 0 keys k k y (omega arith) at))

@@ -1,0 +1,509 @@
+-- A record, or a node with its children, is removed: what is stored beside the rest is due again after its parents and its file count it no longer.
+use Rattle.std.specs.Prelude.{◌≡◌, ◌≢◌, ◌⊎◌, ℕ, ◌+◌, ◌-◌, ◌≤◌, Bool, true, false, ◌==◌, ◌||◌, not, List, length, Option, Some, None, is_some}
+use Rattle.std.specs.Prelude.{if◌then◌else◌, slice_get, Vec}
+use Rattle.std.specs.Global.{Box}
+use Rattle.std.specs.List.{filter, list_any}
+use Rattle.std.specs.declared.alloc.Global.{Global}
+use Rattle.std.proofs.Math.Path.{fun_ext}
+use Rattle.std.proofs.lemmas.Option.{slice_get_within}
+use Rattle.std.proofs.Common.{refl, sym, ap, ap₂, ◌∙◌, subst, arith, inl, inr, ⊎_elim}
+use Rattle.gl_modes.proofs.NodeLemmas.{node_is, same_node-refl, same_node-equal, same_node-differ, same_node-sym}
+use Rattle.gl_modes.proofs.Words.{split, no, none_some, some_is, not_true, or_left, number_same, number_other, same_number, other_number}
+use Rattle.gl_modes.specs.declared.node.NodeId.{NodeId}
+use Rattle.gl_modes.specs.Nodes.{same_node}
+use Rattle.slab.specs.Slab.{Slab, get, slab_len, ContainsKey, Updates}
+use Rattle.gl_graph.specs.declared.node.Body.{Body}
+use Rattle.gl_graph.specs.declared.node.Body.TheVariants as body
+use Rattle.gl_graph.specs.declared.node.IndexBody.{IndexBody}
+use Rattle.gl_graph.specs.declared.node.Node.{Node as Stored}
+use Rattle.gl_graph.specs.Shapes.{Shape, Index, is_inner_shape, is_file_shape, is_index_shape, is_record_shape, is_index_of_shape, is_movable_shape}
+use Rattle.gl_graph.specs.Graph.{Graph, node_at, is_live, shape_in, shape_of, parents_in, parents_of, is_child, first_parent, indexes_of, interval}
+use Rattle.gl_graph.specs.Graph.{intervals_of, node_count}
+use Rattle.gl_graph.specs.Lawful.{IsLawfulGraph, are_inner, are_distinct}
+use Rattle.gl_graph.specs.Changes.{without_node, without_branch}
+use Rattle.gl_graph.specs.Refusals.{is_in_use}
+use Rattle.gl_graph.specs.View.{graph_of, record_count, children_of, intervals_from, Beside, Lists, due_as, due}
+use Rattle.gl_graph.specs.Seen.{Limits, seen, shape_in_body, parents_in_body, intervals_in_body, body_with_records, body_without_index}
+use Rattle.gl_graph.specs.Seen.{beside_in_body, AreBornApart, Holds, AreSound}
+use Rattle.gl_graph.specs.Grown.{AreStored, AreGone, AreRecounted, EachKeeps}
+use Rattle.gl_graph.proofs.Added.{records_written}
+use Rattle.gl_graph.proofs.Branch.{left, gone, gone_is, at_gone, at_beside, left_is, left_shape, left_birth, live, interval_count, is_interval_shape}
+use Rattle.gl_graph.proofs.Branch.{movable_no_interval, no_interval_file, no_branch, left_lawful, count_left, other_indexes, indexes_left, records_left}
+use Rattle.gl_graph.proofs.Branch.{interval_stays, children_are, child_interval, interval_child, inner_left}
+use Rattle.gl_graph.proofs.Counted.{are_stored, each_keeps, counted_in, counts_written}
+use Rattle.gl_graph.proofs.Dues.{child_test, record_test, inner_due, file_due, record_fixed, no_inner_parent, intervals_same, due_stays, count_without}
+use Rattle.gl_graph.proofs.Dues.{span_get}
+use Rattle.gl_graph.proofs.Dues.{span_count, intervals_stored, some_child, own_parents, not_its_own, one_less}
+use Rattle.gl_graph.proofs.Held.{put, put_here, put_other, IsStored, live_held, node_held, beside_written, node_removed, sound_held}
+use Rattle.gl_graph.proofs.Held.{recounted, recounted_same}
+use Rattle.gl_graph.proofs.KindRules.{index_node, plain_live, inner_plain, file_plain}
+use Rattle.gl_graph.proofs.Look.{live_node, finds}
+use Rattle.gl_graph.proofs.RecordParents.{its_file, record_of_file}
+use Rattle.gl_graph.proofs.Removed.{rec_live, was_there, removed_frames, removed_lawful}
+use Rattle.gl_graph.proofs.SameParents.{records_shown, unlisted_shown}
+use Rattle.gl_graph.proofs.Slots.{at_birth, at_slot, slot_at, shown}
+use Rattle.gl_graph.proofs.Tally.{ones}
+use Rattle.gl_graph.proofs.Unrefused.{or_no}
+
+-- a record
+module _ {limits : Limits} {old : Slab Stored} {births : ℕ} {g : Graph} (h : Holds limits old births g (due g)) (law : IsLawfulGraph g) (r : NodeId)
+    (rec : is_record_shape (shape_of g r) ≡ true) where
+  rec_lives : is_live g r ≡ true
+  rec_lives = rec_live g law r rec
+
+  pub contained : ContainsKey old r.key
+  contained = ap is_some (live_held h r rec_lives).there
+
+  abbrev pub file : NodeId
+  file = first_parent g r
+
+  file_is : is_file_shape (shape_of g file) ≡ true
+  file_is = its_file g law r rec
+
+  slot : IsStored old g (due g) file
+  slot = live_held h file (plain_live g file (file_plain _ file_is))
+
+  abbrev rest : Graph
+  rest = without_node g r
+
+  records_less : (f : NodeId) → is_file_shape (shape_of g f) ≡ true → record_count g f ≡ record_count rest f + ones (same_node f file)
+  records_less f k =
+      Rattle.gl_graph.proofs.Dues.count_left g law (record_test f) refl r rec_lives ∙ ap (λ b. record_count rest f + ones b) (record_of_file g law r rec f k)
+
+  pub counted_there : record_count g file ≡ record_count rest file + 1
+  counted_there = records_less file file_is ∙ ap (λ b. record_count rest file + ones b) (same_node-refl file)
+
+  module _ {mid : Slab Stored} (u : Updates old mid r.key None) (len : slab_len mid + 1 ≡ slab_len old) where
+    file_there : get mid file.key ≡ Some slot.stored
+    file_there =
+        u.others file.key (λ e. no (sym (no_file (shape_of g r) rec) ∙ ap (λ q. is_file_shape (shape_of g q))
+        (sym (law.keys_differ file r (plain_live g file (file_plain _ file_is)) rec_lives e)) ∙ file_is)) ∙ slot.there
+      where
+        no_file : (o : Option Shape) → is_record_shape o ≡ true → is_file_shape o ≡ false
+        no_file (Some (Index f bs)) k = refl
+        no_file (Some (Rattle.gl_graph.specs.Shapes.File adopted)) k = absurd (no k)
+        no_file _ k = refl
+
+    pub file_contained : ContainsKey mid file.key
+    file_contained = ap is_some file_there
+
+    module _ (records : ℕ) (count : records + 1 ≡ record_count g file) (new : Slab Stored)
+        (write : (y : Stored) → get mid file.key ≡ Some y → Updates mid new file.key (Some (record y { body = body_with_records y.body records })))
+        (len' : slab_len new ≡ slab_len mid) where
+      written : Holds limits new births rest (put file (beside_in_body (body_with_records slot.stored.body records)) (due g))
+      written =
+          beside_written (node_removed h law r rec_lives u len) file slot.stored
+          (record slot.stored { body = body_with_records slot.stored.body records }) file_there slot.born (write slot.stored file_there) refl len'
+          (records_shown file.key slot.stored.body records)
+
+      pub removed_graph : graph_of (seen limits new births) ≡ rest
+      removed_graph = written.graph
+
+      stays : (m : NodeId) → is_live rest m ≡ true → node_at rest m ≡ node_at g m
+      stays m alive = let x = live_node (node_at rest m) alive in x.1 ∙ sym (was_there g law r rec m x.0 x.1)
+
+      due_file : is_live rest file ≡ true → beside_in_body (body_with_records slot.stored.body records) ≡ due rest file
+      due_file alive =
+          records_written slot.stored.body (indexes_of g file) (record_count g file) records (slot.kept ∙ file_due g file file_is)
+          ∙ ap₂ Lists (sym (Rattle.gl_graph.proofs.Removed.indexes_left g law r rec file)) (let c = counted_there in omega arith)
+          ∙ sym (file_due rest file (ap (λ o. is_file_shape (shape_in o)) (stays file alive) ∙ file_is))
+
+      pub removed_sound : AreSound limits new births
+      removed_sound =
+          sound_held written (removed_lawful g law r rec) (λ m alive. split (same_node m file) (λ t.
+          let same = same_node-equal m file t in
+          ap (put file (beside_in_body (body_with_records slot.stored.body records)) (due g)) same
+          ∙ put_here file (beside_in_body (body_with_records slot.stored.body records)) (due g)
+          ∙ due_file (ap (is_live rest) (sym same) ∙ alive) ∙ ap (due rest) (sym same))
+          (λ t. put_other file (beside_in_body (body_with_records slot.stored.body records)) (due g) m t ∙ sym (recounted_same (due g m))
+          ∙ due_stays g rest m (λ c. c) (stays m alive) (λ i.
+          let all : children_of g m ≡ children_of rest m + ones (is_child g m r) =
+          Rattle.gl_graph.proofs.Dues.count_left g law (child_test m) refl r rec_lives in
+          let none : ones (is_child g m r) ≡ 0 = ap ones (no_inner_parent g law m r i (record_fixed (shape_of g r) rec)) in
+          omega arith) (λ f. (
+            Rattle.gl_graph.proofs.Removed.indexes_left g law r rec m,
+            (let all = records_less m f in let none : ones (same_node m file) ≡ 0 = ap ones t in omega arith),
+          )) (λ i bs e place low. intervals_same g rest law (removed_frames g law r rec) m i bs e place low)))
+
+interval_fixed : (o : Option Shape) → is_interval_shape o ≡ true → is_movable_shape o ≡ false
+interval_fixed (Some (Rattle.gl_graph.specs.Shapes.Interval place)) k = refl
+interval_fixed _ k = absurd (no k)
+
+-- a movable node that is not in use, with its children
+module _ {limits : Limits} {old : Slab Stored} {births : ℕ} {g : Graph} (h : Holds limits old births g (due g)) (law : IsLawfulGraph g) (n : NodeId)
+    (movable : is_movable_shape (shape_of g n) ≡ true) (free : is_in_use g n ≡ false) where
+  lives : is_live g n ≡ true
+  lives = live g law n movable free
+
+  node_slot : IsStored old g (due g) n
+  node_slot = live_held h n lives
+
+  pub node_contained : ContainsKey old n.key
+  node_contained = ap is_some node_slot.there
+
+  not_gone : (m : NodeId) → is_live (left g n) m ≡ true → same_node n m ≡ false
+  not_gone m alive =
+      let x = live_node (node_at (left g n) m) alive in
+      (or_no (same_node n m) (is_child g n m) (sym (gone_is g n lives m (ap is_some (sym (left_is g n m alive) ∙ x.1))) ∙ left_birth g n m x.0 x.1)).0
+
+  -- its parents have one child less
+  children_less : (m : NodeId) → is_inner_shape (shape_of g m) ≡ true → children_of (left g n) m + ones
+      (list_any (same_node m) (parents_of g n)) ≡ children_of g m
+  children_less m i =
+      sym (count_without g law (child_test m) refl (left g n) n lives refl
+      (at_gone g n n.birth (or_left (n.birth == n.birth) _ (number_same n.birth n.birth refl)))
+      (λ b ne. split (gone g n b)
+      (λ t. ap (child_test m) (at_gone g n b t) ∙ sym (no_child b ne t (g.at b) refl)) (λ t. ap (child_test m) (at_beside g n b t))))
+    where
+      no_child : (b : ℕ) → b ≢ n.birth → gone g n b ≡ true → (o : Option Rattle.gl_graph.specs.Graph.Node) → g.at b ≡ o → child_test m (g.at b) ≡ false
+      no_child b ne t None e = ap (child_test m) e
+      no_child b ne t (Some x) e =
+          let id : NodeId = record { key = x.key; birth = b } in
+          let there : node_at g (record { key = x.key; birth = b }) ≡ Some x = finds x.key (g.at b) x e refl in
+          let c : is_child g n (record { key = x.key; birth = b }) ≡ true =
+          ap (λ o'. list_any (same_node n) (parents_in o')) (there ∙ sym e)
+          ∙ sym (ap (λ z. z || list_any (same_node n) (parents_in (g.at b))) (number_other b n.birth ne)) ∙ t in
+          ap (child_test m) (e ∙ sym there)
+          ∙ no_inner_parent g law m (record { key = x.key; birth = b }) i (interval_fixed (shape_of g (record { key = x.key; birth = b }))
+          (children_are g law n movable free (record { key = x.key; birth = b }) c).1)
+
+  -- what is then due, but beside the file of a removed index
+  due_left : (f : ℕ → ℕ) (m : NodeId) → is_live (left g n) m ≡ true
+      → (is_inner_shape (shape_of g m) ≡ true → children_of (left g n) m ≡ f (children_of g m))
+      → is_index_of_shape m (shape_of g n) ≡ false → recounted f (due g m) ≡ due (left g n) m
+  due_left f m alive inner not_its =
+      due_stays g (left g n) m f (left_is g n m alive) inner (λ k. (other_indexes g law n movable free m not_its, records_left g law n movable free m))
+      (λ i bs e place low. (interval_stays g law n movable free m i bs e (not_gone m alive) place low).1)
+
+  -- the node is gone, and its parents are counted down
+  module _ (x : Stored) (there : get old n.key ≡ Some x) (s : Slab Stored) (beside : NodeId → Beside) (now : Holds limits s births (left g n) beside)
+      (inner_same : (m : NodeId) → is_inner_shape (shape_of g m) ≡ true → beside m ≡ due g m) where
+    abbrev pub ps : List NodeId
+    ps = parents_in_body x.body
+
+    parents_are : parents_of g n ≡ ps
+    parents_are = ap parents_in node_slot.node ∙ ap (λ (z : Stored). parents_in_body z.body) (some_is (sym node_slot.there ∙ there))
+
+    distinct : are_distinct ps ≡ true
+    distinct = ap are_distinct (sym parents_are) ∙ (own_parents g law n movable).distinct
+
+    inner : are_inner (left g n) ps ≡ true
+    inner = ap (are_inner (left g n)) (sym parents_are)
+        ∙ inner_left g law n movable free (parents_of g n) (own_parents g law n movable).inner (not_its_own g law n movable)
+
+    was_inner : (m : NodeId) → is_inner_shape (shape_of (left g n) m) ≡ true → is_inner_shape (shape_of g m) ≡ true
+    was_inner m i = ap is_inner_shape (sym (left_shape g n m (plain_live (left g n) m (inner_plain _ i)))) ∙ i
+
+    pub parents_stored : AreStored s ps
+    parents_stored = are_stored now (left_lawful g law n movable free) ps inner distinct
+
+    pub parents_some : EachKeeps (λ children. 1 ≤ children) s ps
+    parents_some =
+        each_keeps now (left_lawful g law n movable free) ps inner distinct (λ children. 1 ≤ children)
+        (λ m listed i. subst (λ b. 1 ≤ counted_in b) (sym (inner_same m (was_inner m i) ∙ inner_due g m (was_inner m i)))
+        (some_child g law m n (ap (list_any (same_node m)) parents_are ∙ listed)))
+
+    abbrev down : NodeId → ℕ → ℕ
+    down m c = if list_any (same_node m) ps then c - 1 else c
+
+    module _ (new : Slab Stored) (re : AreRecounted (λ children. children - 1) s new ps (length ps)) where
+      settled : Holds limits new births (left g n) (λ m. recounted (down m) (beside m))
+      settled = counts_written now (left_lawful g law n movable free) ps inner distinct (λ children. children - 1) new re
+
+      pub left_graph : graph_of (seen limits new births) ≡ without_branch g n
+      left_graph = settled.graph
+
+      due_down : (m : NodeId) → is_live (left g n) m ≡ true → is_index_of_shape m (shape_of g n) ≡ false → recounted (down m) (due g m) ≡ due (left g n) m
+      due_down m alive not_its =
+          due_left (down m) m alive (λ i. sym (one_less (list_any (same_node m) ps) (children_of g m) (children_of (left g n) m)
+          (ap (λ qs. children_of (left g n) m + ones (list_any (same_node m) qs)) (sym parents_are) ∙ children_less m i))) not_its
+
+      pub left_sound : ((m : NodeId) → is_live (left g n) m ≡ true
+          → ((is_index_of_shape m (shape_of g n) ≡ false) × (beside m ≡ due g m)) ⊎
+          (recounted (down m) (beside m) ≡ due (left g n) m)) → AreSound limits new births
+      left_sound each =
+          sound_held settled (left_lawful g law n movable free) (λ m alive.
+          ⊎_elim (λ (t : (is_index_of_shape m (shape_of g n) ≡ false) × (beside m ≡ due g m)). ap (recounted (down m)) t.1 ∙ due_down m alive t.0)
+          (λ (t : recounted (down m) (beside m) ≡ due (left g n) m). t) (each m alive))
+
+  -- no index
+  module _ (alone : is_index_shape (shape_of g n) ≡ false) (mid : Slab Stored) (u : Updates old mid n.key None) (len : slab_len mid + 1 ≡ slab_len old) where
+    pub lone : Holds limits mid births (left g n) (due g)
+    lone = subst (λ (g' : Graph). Holds limits mid births g' (due g)) (sym (no_branch g law n movable free alone))
+        (node_removed h law n lives u len)
+
+    pub of_none : (m : NodeId) → is_index_of_shape m (shape_of g n) ≡ false
+    of_none m = by (shape_of g n) alone
+      where
+        by : (o : Option Shape) → is_index_shape o ≡ false → is_index_of_shape m o ≡ false
+        by (Some (Index f bs)) k = absurd (no (sym k))
+        by _ k = refl
+
+-- a file that no longer lists an index
+unlisted_beside : (b : Body) (n : NodeId) (is : List NodeId) (k : ℕ) → beside_in_body b ≡ Lists is k
+    → beside_in_body (body_without_index b n) ≡ Lists (filter (λ listed. not (same_node listed n)) is) k
+unlisted_beside (body.File kept above) n is k e = ap (without n) e
+  where
+    without : NodeId → Beside → Beside
+    without m (Lists xs c) = Lists (filter (λ listed. not (same_node listed m)) xs) c
+    without m b = b
+unlisted_beside _ n is k e = cc
+
+index_movable : (o : Option Shape) → is_index_shape o ≡ true → is_movable_shape o ≡ true
+index_movable (Some (Index f bs)) k = refl
+index_movable _ k = absurd (no k)
+
+-- a slot after the removal
+abbrev left_in : Graph → NodeId → Option Stored → Option Stored
+left_in g n None = None
+left_in g n (Some x) = if gone g n x.birth then None else Some x
+
+-- an index, with its intervals
+module _ {limits : Limits} {old : Slab Stored} {births : ℕ} {g : Graph} (h : Holds limits old births g (due g)) (law : IsLawfulGraph g) (n : NodeId)
+    (index : is_index_shape (shape_of g n) ≡ true) (free : is_in_use g n ≡ false) where
+  movable : is_movable_shape (shape_of g n) ≡ true
+  movable = index_movable (shape_of g n) index
+
+  alive : is_live g n ≡ true
+  alive = live g law n movable free
+
+  its_slot : IsStored old g (due g) n
+  its_slot = live_held h n alive
+
+  pub index_contained : ContainsKey old n.key
+  index_contained = ap is_some its_slot.there
+
+  pub is_stored_index : (x : Stored) → get old n.key ≡ Some x
+      → ((boxed : Box IndexBody) (above : Vec NodeId Global) → x.body ≡ body.Index boxed above → ⊥) → ⊥
+  is_stored_index x at none =
+      by x.body none (ap (λ (z : Stored). is_index_shape (Some (shape_in_body z.body))) (some_is (sym at ∙ its_slot.there))
+      ∙ sym (ap (λ o. is_index_shape (shape_in o)) its_slot.node) ∙ index)
+    where
+      by : (b : Body) → ((boxed : Box IndexBody) (above : Vec NodeId Global) → b ≡ body.Index boxed above → ⊥)
+          → is_index_shape (Some (shape_in_body b)) ≡ true → ⊥
+      by (body.Index boxed above) none k = none boxed above refl
+      by _ none k = no k
+
+  module _ (x : Stored) (there : get old n.key ≡ Some x) (f : NodeId) (bs : List ℕ) (shape : shape_in_body x.body ≡ Index f bs) (mid : Slab Stored)
+      (u : Updates old mid n.key None) (len : slab_len mid + 1 ≡ slab_len old) where
+    abbrev intervals : List NodeId
+    intervals = intervals_in_body x.body
+
+    same_slot : its_slot.stored ≡ x
+    same_slot = some_is (sym its_slot.there ∙ there)
+
+    born : x.birth ≡ n.birth
+    born = ap (λ (z : Stored). z.birth) (sym same_slot) ∙ its_slot.born
+
+    shape_is : shape_of g n ≡ Some (Index f bs)
+    shape_is = ap shape_in its_slot.node ∙ ap (λ (z : Stored). Some (shape_in_body z.body)) same_slot ∙ ap Some shape
+
+    spans : intervals_in_body x.body ≡ intervals_from g n 0 (length bs + 1)
+    spans = intervals_stored x.body (intervals_from g n 0 (length bs + 1))
+        (ap (λ (z : Stored). beside_in_body z.body) (sym same_slot) ∙ its_slot.kept ∙ ap (due_as g n) shape_is)
+
+    count_is : length (intervals_in_body x.body) ≡ length bs + 1
+    count_is = ap length spans ∙ span_count g n 0 (length bs + 1)
+
+    at_get : (place : ℕ) → place ≤ length bs → slice_get (intervals_in_body x.body) place ≡ Some (interval g n place)
+    at_get place low = ap (λ xs. slice_get xs place) spans ∙ span_get g n 0 (length bs + 1) place place (omega arith) (omega arith)
+
+    at_place : (place : ℕ) (m : NodeId) → slice_get (intervals_in_body x.body) place ≡ Some m → (place ≤ length bs) × (m ≡ interval g n place)
+    at_place place m e =
+        let within = slice_get_within (intervals_in_body x.body) place m e in
+        let many = count_is in
+        let low : place ≤ length bs = omega arith in
+        (low, some_is (sym e ∙ at_get place low))
+
+    interval_is : (place : ℕ) (m : NodeId) → slice_get (intervals_in_body x.body) place ≡ Some m
+        → (is_live g m ≡ true) × (is_interval_shape (shape_of g m) ≡ true) × (is_child g n m ≡ true)
+    interval_is place m e =
+        let at = at_place place m e in
+        let node = ap (node_at g) at.1 ∙ (index_node g law n f bs shape_is).intervals place at.0 in (
+          ap is_some node,
+          ap (λ o. is_interval_shape (shape_in o)) node,
+          ap (is_child g n) at.1 ∙ interval_child g law n f bs shape_is place at.0,
+        )
+
+    key_apart : (place : ℕ) (m : NodeId) → slice_get (intervals_in_body x.body) place ≡ Some m → m.key ≢ n.key
+    key_apart place m e same =
+        let it = interval_is place m e in
+        no (sym (movable_no_interval (shape_of g n) movable) ∙ ap (λ q. is_interval_shape (shape_of g q)) (sym (law.keys_differ m n it.0 alive same)) ∙ it.1)
+
+    pub intervals_there : AreStored mid (intervals_in_body x.body)
+    intervals_there = record {
+      there = λ place m e.
+          ap is_some (u.others m.key (key_apart place m e) ∙ (live_held h m (interval_is place m e).0).there);
+      apart = λ place other m m' e e' same.
+          let one = at_place place m e in
+          let two = at_place other m' e' in
+          let equal = law.keys_differ m m' (interval_is place m e).0 (interval_is other m' e').0 same in
+          let births' : n.birth + 1 + place ≡ n.birth + 1 + other = ap (λ q. q.birth) (sym one.1 ∙ equal ∙ two.1) in
+          omega arith;
+    }
+
+    module _ (third : Slab Stored) (taken : AreGone mid third (intervals_in_body x.body) (length (intervals_in_body x.body))) where
+      gone_for : (k : ℕ) (y : Stored) → k ≢ n.key → get old k ≡ Some y → gone g n y.birth ≡ is_child g n (record { key = k; birth = y.birth })
+      gone_for k y ne e =
+          gone_is g n alive (record { key = k; birth = y.birth }) (ap is_some (node_held h k y e))
+          ∙ ap (λ b. b || is_child g n (record { key = k; birth = y.birth }))
+          (same_node-differ n (record { key = k; birth = y.birth }) (λ same. ne (ap (λ m. m.key) (sym same))))
+
+      slots : (k : ℕ) → get third k ≡ left_in g n (get old k)
+      slots k =
+          split (k == n.key) (λ t.
+          let same : k ≡ n.key = same_number k n.key t in
+          taken.stays k (λ place m low e. λ (key : m.key ≡ k). key_apart place m e (key ∙ same))
+          ∙ ap (get mid) same ∙ u.changed
+          ∙ sym (ap (λ j. left_in g n (get old j)) same ∙ ap (left_in g n) there
+          ∙ ap (λ b. if b then None else Some x) (or_left (x.birth == n.birth) _ (number_same x.birth n.birth born))))
+          (λ t. by (other_number k n.key t) (get old k) refl)
+        where
+          by : k ≢ n.key → (o : Option Stored) → get old k ≡ o → get third k ≡ left_in g n o
+          by ne None e =
+              taken.stays k (λ place m low at. λ (key : m.key ≡ k).
+              let y = live_held h m (interval_is place m at).0 in
+              none_some (sym e ∙ ap (get old) (sym key) ∙ y.there))
+              ∙ u.others k ne ∙ e
+          by ne (Some y) e =
+              split (is_child g n (record { key = k; birth = y.birth })) (λ c.
+              let it = child_interval g law n f bs shape_is (record { key = k; birth = y.birth }) c
+              (children_are g law n movable free (record { key = k; birth = y.birth }) c).1 in
+              let at = at_get it.0 it.1 in
+              let within = slice_get_within (intervals_in_body x.body) it.0 _ at in
+              ap (λ (q : NodeId). get third q.key) it.2 ∙ taken.gone it.0 (interval g n it.0) within at
+              ∙ sym (ap (λ b. if b then None else Some y) (gone_for k y ne e ∙ c))) (λ c. taken.stays k (λ place m low at. λ (key : m.key ≡ k).
+              let found = interval_is place m at in
+              let z = live_held h m found.0 in
+              let same : y ≡ z.stored = some_is (sym e ∙ ap (get old) (sym key) ∙ z.there) in
+              let is_m : record { key = k; birth = y.birth } ≡ m = node_is (record { key = k; birth = y.birth }) m (sym key)
+              (ap (λ w. w.birth) same ∙ z.born) in
+              no (sym c ∙ ap (is_child g n) is_m ∙ found.2))
+              ∙ u.others k ne ∙ e ∙ sym (ap (λ b. if b then None else Some y) (gone_for k y ne e ∙ c)))
+
+      -- a remaining node was there, and its birth is not removed
+      stood : (k : ℕ) (y : Stored) → get third k ≡ Some y → (get old k ≡ Some y) × (gone g n y.birth ≡ false)
+      stood k y e = by (get old k) refl
+        where
+          by : (o : Option Stored) → get old k ≡ o → (o ≡ Some y) × (gone g n y.birth ≡ false)
+          by None was = absurd (none_some (sym (slots k ∙ ap (left_in g n) was) ∙ e))
+          by (Some z) was =
+              split (gone g n z.birth) (λ t. absurd (none_some (sym (slots k ∙ ap (left_in g n) was ∙ ap (λ b. if b then None else Some z) t) ∙ e))) (λ t.
+              let same : z ≡ y = some_is (sym (slots k ∙ ap (left_in g n) was ∙ ap (λ b. if b then None else Some z) t) ∙ e) in
+              (ap Some same, ap (λ w. gone g n w.birth) (sym same) ∙ t))
+
+      still_shown : AreBornApart third × (at_birth third ≡ (λ (b : ℕ). if gone g n b then None else at_birth old b))
+      still_shown =
+          shown third (λ b. if gone g n b then None else at_birth old b) (λ k y e. let was = stood k y e in
+          ap (λ z. if z then None else at_birth old y.birth) was.1 ∙ at_slot old h.apart k y was.0)
+          (λ b node e. split (gone g n b) (λ t. absurd (none_some (sym (ap (λ z. if z then None else at_birth old b) t) ∙ e))) (λ t.
+          let s = slot_at old b node (sym (ap (λ z. if z then None else at_birth old b) t) ∙ e) in
+          record {
+            key = s.key;
+            stored = s.stored;
+            there = slots s.key ∙ ap (left_in g n) s.there ∙ ap (λ z. if z then None else Some s.stored) (ap (gone g n) s.born ∙ t);
+            born = s.born;
+            is = s.is;
+          }))
+
+      held : Holds limits third births (left g n) (due g)
+      held = record {
+        graph = (let same = still_shown.1 in
+            λ i. record { at = same i; births = births; most = limits.most; most_bounds = limits.most_bounds })
+            ∙ ap (λ (g' : Graph). record {
+              at = λ b. if gone g n b then None else g'.at b;
+              births = g'.births;
+              most = g'.most;
+              most_bounds = g'.most_bounds;
+            }) h.graph;
+        apart = still_shown.0;
+        counted = (let all = count_left g law n movable free in
+            let span : interval_count (shape_of g n) ≡ length bs + 1 = ap interval_count shape_is in
+            let was = h.counted in
+            let many = count_is in
+            let less = taken.len in
+            omega arith);
+        kept = λ k y e. h.kept k y (stood k y e).0;
+      }
+
+      is_file : is_file_shape (shape_of g f) ≡ true
+      is_file = (index_node g law n f bs shape_is).file
+
+      file_slot : IsStored old g (due g) f
+      file_slot = live_held h f (plain_live g f (file_plain _ is_file))
+
+      file_not_n : same_node n f ≡ false
+      file_not_n = not_true _ (λ t. no (sym (no_file (shape_of g n) index) ∙ ap (λ q. is_file_shape (shape_of g q)) (same_node-equal n f t) ∙ is_file))
+        where
+          no_file : (o : Option Shape) → is_index_shape o ≡ true → is_file_shape o ≡ false
+          no_file (Some (Index f' bs')) k = refl
+          no_file _ k = absurd (no k)
+
+      no_child : is_child g n f ≡ false
+      no_child = not_true _ (λ t. no (sym (no_interval_file (shape_of g f) is_file) ∙ (children_are g law n movable free f t).1))
+
+      file_left : is_live (left g n) f ≡ true
+      file_left = ap is_some (Rattle.gl_graph.proofs.Branch.stays_left g n alive f (plain_live g f (file_plain _ is_file)) file_not_n no_child)
+          ∙ plain_live g f (file_plain _ is_file)
+
+      file_stays : get third f.key ≡ Some file_slot.stored
+      file_stays =
+          slots f.key ∙ ap (left_in g n) file_slot.there
+          ∙ ap (λ b. if b then None else Some file_slot.stored)
+          (ap (gone g n) file_slot.born ∙ gone_is g n alive f (plain_live g f (file_plain _ is_file)) ∙ ap₂ (λ a b. a || b) file_not_n no_child)
+
+      pub file_kept : ContainsKey third f.key
+      file_kept = ap is_some file_stays
+
+      module _ (fourth : Slab Stored)
+          (write : (y : Stored) → get third f.key ≡ Some y → Updates third fourth f.key (Some (record y { body = body_without_index y.body n })))
+          (len4 : slab_len fourth ≡ slab_len third) where
+        abbrev now : NodeId → Beside
+        now = put f (beside_in_body (body_without_index file_slot.stored.body n)) (due g)
+
+        unlisted : Holds limits fourth births (left g n) (put f (beside_in_body (body_without_index file_slot.stored.body n)) (due g))
+        unlisted =
+            beside_written held f file_slot.stored (record file_slot.stored { body = body_without_index file_slot.stored.body n }) file_stays file_slot.born
+            (write file_slot.stored file_stays) refl len4 (unlisted_shown f.key file_slot.stored.body n)
+
+        file_due_now : beside_in_body (body_without_index file_slot.stored.body n) ≡ due (left g n) f
+        file_due_now =
+            unlisted_beside file_slot.stored.body n (indexes_of g f) (record_count g f) (file_slot.kept ∙ file_due g f is_file)
+            ∙ ap₂ Lists (ap (λ (p : NodeId → Bool). filter p (indexes_of g f)) (fun_ext (λ listed. ap not (same_node-sym listed n)))
+            ∙ sym (indexes_left g law n movable free f)) (sym (records_left g law n movable free f))
+            ∙ sym (file_due (left g n) f (ap is_file_shape (left_shape g n f file_left) ∙ is_file))
+
+        other_inner : (m : NodeId) → is_inner_shape (shape_of g m) ≡ true
+            → put f (beside_in_body (body_without_index file_slot.stored.body n)) (due g) m ≡ due g m
+        other_inner m i =
+            put_other f (beside_in_body (body_without_index file_slot.stored.body n)) (due g) m
+            (not_true _ (λ t. no (sym (no_inner (shape_of g f) is_file) ∙ ap (λ q. is_inner_shape (shape_of g q)) (sym (same_node-equal m f t)) ∙ i)))
+          where
+            no_inner : (o : Option Shape) → is_file_shape o ≡ true → is_inner_shape o ≡ false
+            no_inner (Some (Rattle.gl_graph.specs.Shapes.File adopted)) k = refl
+            no_inner _ k = absurd (no k)
+
+        pub index_parents_stored : AreStored fourth (parents_in_body x.body)
+        index_parents_stored = parents_stored h law n movable free x there fourth now unlisted other_inner
+
+        pub index_parents_some : EachKeeps (λ children. 1 ≤ children) fourth (parents_in_body x.body)
+        index_parents_some = parents_some h law n movable free x there fourth now unlisted other_inner
+
+        module _ (last : Slab Stored)
+            (re : AreRecounted (λ children. children - 1) fourth last (parents_in_body x.body) (length (parents_in_body x.body))) where
+          pub index_left_graph : graph_of (seen limits last births) ≡ without_branch g n
+          index_left_graph = left_graph h law n movable free x there fourth now unlisted other_inner last re
+
+          pub index_left_sound : AreSound limits last births
+          index_left_sound =
+              left_sound h law n movable free x there fourth now unlisted other_inner last re (λ m live'. split (same_node m f) (λ t.
+              let same = same_node-equal m f t in
+              inr (ap (λ q. recounted (down h law n movable free x there fourth now unlisted other_inner q) (now q)) same
+              ∙ ap (recounted (down h law n movable free x there fourth now unlisted other_inner f))
+              (put_here f (beside_in_body (body_without_index file_slot.stored.body n)) (due g)
+              ∙ unlisted_beside file_slot.stored.body n (indexes_of g f) (record_count g f) (file_slot.kept ∙ file_due g f is_file))
+              ∙ sym (unlisted_beside file_slot.stored.body n (indexes_of g f) (record_count g f) (file_slot.kept ∙ file_due g f is_file))
+              ∙ file_due_now ∙ ap (due (left g n)) (sym same))) (λ t. inl (
+                ap (is_index_of_shape m) shape_is ∙ t,
+                put_other f (beside_in_body (body_without_index file_slot.stored.body n)) (due g) m t,
+              )))
