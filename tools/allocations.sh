@@ -5,7 +5,7 @@
 #
 # scenarios: the program `test_allocations` prints the same as with no allocation refused.
 #
-# script: `gltool --listings --schema --savepoints` answers tools/every_form.script. Either it reports no memory, or bad
+# script: `gltool --listings --schema --savepoints --trace` answers tools/every_form.script. Either it reports no memory, or bad
 # words if its words were not read, before it has read anything; or one line is answered with `NoMemory`, and all others
 # as in the script without that line. An allocation that reading the words does not need changes nothing.
 #
@@ -88,7 +88,7 @@ one_line_refused() {
   local line
   line=$(refused_line "$work/came")
   [ -n "$line" ] || fail "not one line is answered with want of memory"
-  without "$line" | "$program" --listings --schema --savepoints >"$work/wanted" || fail "status $? without the line"
+  without "$line" | "$program" --listings --schema --savepoints --trace >"$work/wanted" || fail "status $? without the line"
   grep -v '^no 1 NoMemory$' "$work/came" >"$work/others"
   same "$work/wanted" "$work/others"
 }
@@ -97,10 +97,10 @@ refuse_in_script() {
   local program=$top/crates/gltool/out/gltool status
   script=$top/tools/every_form.script
   local reads_words=yes
-  with_allocation 0 "$program" --listings --schema --savepoints <"$script" >"$work/whole" || exit 1
+  with_allocation 0 "$program" --listings --schema --savepoints --trace <"$script" >"$work/whole" || exit 1
   allocations_of "the script"
   for ((n = 1; n <= allocations; n++)); do
-    status=$({ with_allocation "$n" "$program" --listings --schema --savepoints >"$work/came" 2>"$work/fault"; echo $?; cat >"$work/left"; } <"$script")
+    status=$({ with_allocation "$n" "$program" --listings --schema --savepoints --trace >"$work/came" 2>"$work/fault"; echo $?; cat >"$work/left"; } <"$script")
     case $status in
       0) { [ "$reads_words" ] && cmp -s "$work/whole" "$work/came"; } || one_line_refused ;;
       1) reads_words= && ended_early "no memory" ;;

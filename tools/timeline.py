@@ -51,7 +51,7 @@ def asked(script):
         if not is_command(line):
             continue
         lines[-1] = (line, count)
-        begun = re.fullmatch(r"begin ([a-z][a-z0-9_]*)", line)
+        begun = re.fullmatch(r"begin ([a-z][a-z0-9_]*)( again [0-9]+)?", line)
         if begun and begun.group(1) not in names:
             names.append(begun.group(1))
         lines += [(it, count) for it in questions(names)]

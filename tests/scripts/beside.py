@@ -27,7 +27,7 @@ def wanted(is_so, what, *came):
 
 
 # The words by which the pages run their examples.
-WORDS = (), ("--listings", "--schema", "--savepoints"), ("--detect", "by-watcher")
+WORDS = (), ("--listings", "--schema", "--savepoints", "--trace"), ("--detect", "by-watcher")
 
 
 def examples():
@@ -71,6 +71,10 @@ lock a S db\r
 \tlock
 move a orders : db
 lo\x1bk a
+adopt r orders 5
+forget r
+begin c again 1
+renew a 1
 # a comment
 #""" + 256 * "y" + """
 commit b
@@ -94,8 +98,12 @@ line 17: it has a carriage return: lines end by a newline alone
 line 18: it has a tab: fields have one blank between them
 line 19: it is to be: move TXN NODE, or move TXN NODE : PARENT.., after the first line `granular 2`{FIELDS}
 line 20: unknown command "lo?k"; commands are {COMMANDS}
-line 22: it has more than 256 bytes
-line 23: b names no transaction
+line 21: it needs the word --trace
+line 22: it needs the word --trace
+line 23: it needs the word --trace
+line 24: it needs the word --trace
+line 26: it has more than 256 bytes
+line 27: b names no transaction
 """
 
 

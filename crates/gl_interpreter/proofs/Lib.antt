@@ -6,3 +6,4 @@ pub mod Serving
 pub mod Printing
 pub mod Openings
 pub mod Orders
+pub mod Sayable

@@ -19,7 +19,7 @@ wide false v h = absurd (none_some h)
 
 -- a version was chosen
 pub chooses : (v : Version) (two : ManagerView) (s s' : Script) (line : List ℕ) → IsReadyWith (Some two) s → version_of line ≡ Some v
-    → s'.language ≡ record { version = v; listings = s.language.listings; schema = s.language.schema; savepoints = s.language.savepoints }
+    → s'.language ≡ record s.language { version = v }
     → s'.names ≡ s.names → s'.locks ≡ state_of two → s'.deadlock ≡ two.table.deadlock → s'.orders ≡ nodes_of two.table
     → Prints (stage_with (Some two) s) line (codes "ok\n") (stage_with None s')
 unfolding Prints

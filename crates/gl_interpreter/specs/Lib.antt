@@ -8,5 +8,6 @@ pub mod Views
 pub mod Rooms
 pub mod SoFar
 pub mod Picture
+pub mod Sayable
 pub use Rattle.gl_modes.specs.Modes
 pub use Rattle.gl_modes.specs.Refusals

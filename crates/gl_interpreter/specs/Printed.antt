@@ -18,9 +18,10 @@ use Rattle.gl_steps.specs.declared.command.Answer.{Answer}
 use Rattle.gl_steps.specs.declared.command.Answer.TheVariants as answer
 use Rattle.gl_script.specs.Grammar.{Text, Node, Plain, Interval, Command, Inner, File, Index, Lock, Try, Unlock, Cancel, Commit, Abort, Settle}
 use Rattle.gl_script.specs.Grammar.{Insert, Delete, Rekey, Escalate, Move, Group, Held, Effective, Drop, IndexBy, Mark, Release, node_text}
+use Rattle.gl_script.specs.Grammar.{Adopt, Forget, Renew}
 use Rattle.gl_interpreter.specs.declared.request.Said.{Said}
 use Rattle.gl_interpreter.specs.declared.request.Said.TheVariants as said
-use Rattle.gl_interpreter.specs.Script.{Script, Declared, NodeName, TxnName, Nothing, declared, node_named}
+use Rattle.gl_interpreter.specs.Script.{Script, Declared, NodeName, TxnName, NextTxn, Nothing, declared, node_named}
 
 -- a dot, and the place of an interval
 abbrev pub place_text : Option ℕ → Text
@@ -54,6 +55,8 @@ used_nodes (Held t n) = n ∷ []
 used_nodes (Effective t n) = n ∷ []
 used_nodes (Drop t n) = Plain n ∷ []
 used_nodes (IndexBy t n ps f bs) = ps ++ Plain f ∷ []
+used_nodes (Adopt r f ks) = Plain f ∷ []
+used_nodes (Forget r) = Plain r ∷ []
 used_nodes c = []
 
 -- the transaction that a line uses
@@ -76,6 +79,7 @@ used_txn (Drop t n) = t
 used_txn (IndexBy t n ps f bs) = t
 used_txn (Mark t) = t
 used_txn (Release t k) = t
+used_txn (Renew t k) = t
 used_txn c = []
 
 -- a space, and the first of these nodes whose name is not in use
@@ -91,6 +95,7 @@ some_unused s ns = list_any (λ n. is_none (node_named s n)) ns
 abbrev pub declared_text : Declared → Text
 declared_text (NodeName n) = n
 declared_text (TxnName t) = t
+declared_text (NextTxn t) = t
 declared_text Nothing = []
 
 -- a space, and what a refusal names, if anything

@@ -6,13 +6,14 @@ use Rattle.gl_script.specs.Grammar.{Text}
 use Rattle.gl_interpreter.specs.declared.desk.Desk.{Desk}
 use Rattle.gl_interpreter.specs.declared.register.Register.{Register}
 use Rattle.gl_interpreter.specs.Names.{Names}
-use Rattle.gl_interpreter.specs.Script.{Declared, NodeName, TxnName, Nothing, is_in_use, is_name}
+use Rattle.gl_interpreter.specs.Script.{Declared, NodeName, TxnName, NextTxn, Nothing, is_in_use, is_name}
 use Rattle.gl_interpreter.specs.Views.{HasRoom, id_in}
 
 -- there is room for the declared name
 abbrev pub HasRoomFor : Desk → Declared → Type 0
 HasRoomFor desk (NodeName n) = HasRoom desk.nodes
 HasRoomFor desk (TxnName t) = HasRoom desk.txns
+HasRoomFor desk (NextTxn t) = HasRoom desk.txns
 HasRoomFor desk Nothing = Unit
 
 -- the name is free and there is room, or the refusal says which is not so

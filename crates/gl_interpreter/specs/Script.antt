@@ -29,6 +29,7 @@ use Rattle.gl_script.specs.declared.form.Version.{Version}
 use Rattle.gl_script.specs.declared.form.Version.TheVariants as version
 use Rattle.gl_script.specs.Grammar.{Text, Node, Plain, Interval, Command, Inner, File, Index, Begin, Lock, Try, Unlock, Cancel, Commit, Abort, Settle}
 use Rattle.gl_script.specs.Grammar.{Insert, Delete, Rekey, Escalate, Move, Group, Held, Effective, Drop, IndexBy, Mark, Release}
+use Rattle.gl_script.specs.Grammar.{Adopt, Forget, BeginAgain, Renew}
 use Rattle.gl_interpreter.specs.declared.request.Request.{Request}
 use Rattle.gl_interpreter.specs.declared.request.Request.TheVariants as request
 use Rattle.gl_interpreter.specs.declared.request.Said.{Said}
@@ -56,7 +57,7 @@ most_of version.Two = 128
 -- a script before its first line
 abbrev pub begun : Choices → Version → Script
 begun c v = record {
-  language = record { version = v; listings = c.listings; schema = c.schema; savepoints = c.savepoints };
+  language = record { version = v; listings = c.listings; schema = c.schema; savepoints = c.savepoints; trace = c.trace };
   names = no_names;
   locks =
       choosing c.victims (empty_state c.detect (most_of v));
@@ -118,11 +119,16 @@ Asks s (IndexBy t n ps f bs) k =
     × ((ys : Bor (List ℕ)) × (ys.now ≡ bs) × (k ≡ request.Apply (command.IndexBy (txn_id s.names t) xs (plain_id s.names f) ys)))
 Asks s (Mark t) k = k ≡ request.Mark (txn_id s.names t)
 Asks s (Release t mark) k = k ≡ request.Release (txn_id s.names t) mark
+Asks s (Adopt r f ks) k = (ys : Bor (List ℕ)) × (ys.now ≡ ks) × (k ≡ request.Apply (command.Adopt (plain_id s.names f) ys))
+Asks s (Forget r) k = k ≡ request.Apply (command.Forget (plain_id s.names r))
+Asks s (BeginAgain t since) k = k ≡ request.Apply (command.BeginAgain since)
+Asks s (Renew t since) k = k ≡ request.Apply (command.Renew (txn_id s.names t) since)
 
--- what a line declares: the name of a node, that of a transaction, or nothing
+-- what a line declares: the name of a node, that of a transaction, the name of a transaction for the next, or nothing
 pub data Declared : Type 0 where
   NodeName : (name : Text) → Declared
   TxnName : (name : Text) → Declared
+  NextTxn : (name : Text) → Declared
   Nothing : Declared
 
 abbrev pub declared : Command → Declared
@@ -132,24 +138,30 @@ declared (Index n ps f bs) = NodeName n
 declared (IndexBy t n ps f bs) = NodeName n
 declared (Insert t r f ks) = NodeName r
 declared (Begin t) = TxnName t
+declared (BeginAgain t k) = TxnName t
+declared (Renew t k) = NextTxn t
+declared (Adopt r f ks) = NodeName r
 declared c = Nothing
 
--- the name is in use
+-- the name is in use, and so cannot be declared; that of a transaction passes to the next
 abbrev pub is_in_use : Names → Declared → Bool
 is_in_use names (NodeName n) = is_some (names.node n)
 is_in_use names (TxnName t) = is_some (names.txn t)
+is_in_use names (NextTxn t) = false
 is_in_use names Nothing = false
 
 -- this is a name
 abbrev pub is_name : Declared → Bool
 is_name (NodeName n) = true
 is_name (TxnName t) = true
+is_name (NextTxn t) = true
 is_name Nothing = false
 
 -- the names after a node or a transaction was made as the line declares
 abbrev pub named_as : Names → Declared → Answer → Names
 named_as names (NodeName n) (answer.Node x) = with_node names n x
 named_as names (TxnName t) (answer.Begun x) = with_txn names t x
+named_as names (NextTxn t) (answer.Begun x) = with_txn (without_txn names t (txn_id names t)) t x
 named_as names d a = names
 
 -- the names after a transaction ended
@@ -168,6 +180,7 @@ renamed names (Commit t) a = without_ended names t a
 renamed names (Abort t) a = without_ended names t a
 renamed names (Delete t r) a = without_deleted names r a
 renamed names (Drop t n) a = without_deleted names n a
+renamed names (Forget r) a = without_deleted names r a
 renamed names c a = named_as names (declared c) a
 
 -- the manager's step; the orders are unchanged if it is not counted, and no lock that stays moves to a later place
@@ -240,7 +253,7 @@ pub record RefusedHere (r : Refusal) (s : Script) (a : Said) (told : Told) (s' :
   pub nobody_told : told ≡ []
   pub same : s' ≡ s
 
--- a name that is in use cannot be declared again; without memory for a new name, the command is not passed on either
+-- a name that is in use cannot be declared again; without memory for what is declared, the command is not passed on either
 abbrev pub DoesWhere : Bool → Script → Command → Said → Told → Script → Type 0
 DoesWhere true s c a told s' = RefusedHere no.NameTaken s a told s'
 DoesWhere false s c a told s' = HandedOn s c a told s' ⊎ ((is_name (declared c) ≡ true) × RefusedHere no.NoMemory s a told s')

@@ -31,6 +31,7 @@ choices_of s =
       listings = s.language.listings;
       schema = s.language.schema;
       savepoints = s.language.savepoints;
+      trace = s.language.trace;
     }
 
 -- the script has not begun if there still is a manager for version 2

@@ -232,6 +232,7 @@ fn txn_name(form: &Form) -> &[u8]
         Form::IndexBy { txn, .. } => txn.as_slice(),
         Form::Mark { txn } => txn.as_slice(),
         Form::Release { txn, .. } => txn.as_slice(),
+        Form::Renew { txn, .. } => txn.as_slice(),
         _ => &[],
     }
 }
@@ -246,7 +247,10 @@ fn declared_name(form: &Form) -> &[u8]
         Form::Index { name, .. } => name.as_slice(),
         Form::IndexBy { name, .. } => name.as_slice(),
         Form::Insert { name, .. } => name.as_slice(),
+        Form::Adopt { name, .. } => name.as_slice(),
         Form::Begin { txn } => txn.as_slice(),
+        Form::BeginAgain { txn, .. } => txn.as_slice(),
+        Form::Renew { txn, .. } => txn.as_slice(),
         _ => &[],
     }
 }
@@ -287,6 +291,12 @@ fn put_first_unused<W: Write>(
         Form::Drop { node, .. } => {
             put_unused_name(sink, writer, desk, node);
         }
+        Form::Adopt { file, .. } => {
+            put_unused_name(sink, writer, desk, file);
+        }
+        Form::Forget { rec } => {
+            put_unused_name(sink, writer, desk, rec);
+        }
         Form::Lock { node, .. }
         | Form::Try { node, .. }
         | Form::Unlock { node, .. }
@@ -303,6 +313,8 @@ fn put_first_unused<W: Write>(
         Form::Settle { .. } => {}
         Form::Mark { .. } => {}
         Form::Release { .. } => {}
+        Form::BeginAgain { .. } => {}
+        Form::Renew { .. } => {}
     }
 }
 

@@ -1,16 +1,17 @@
 //! The state of a script between two lines: the names that it has declared, and its lock manager.
 
-ghost use Rattle.std.specs.Prelude.{◌≡◌, [], is_some};
+ghost use Rattle.std.specs.Prelude.{◌≡◌, [], false, is_some};
 ghost use Rattle.gl_graph.specs.Graph.{first_parent, shape_of};
 ghost use Rattle.gl_graph.specs.Shapes.{place_in};
 ghost use Rattle.gl_script.specs.Views.{command_of, node_of, nodes_of};
 ghost use Rattle.gl_script.specs.declared.form.Lists.{Lists as TheLists};
 ghost use Rattle.gl_interpreter.specs.Names.{no_names};
 ghost use Rattle.gl_interpreter.specs.Rows.{name_at};
-ghost use Rattle.gl_interpreter.specs.Rooms.{HasRoomFor, MakesRoom, MakesRoomIn};
+ghost use Rattle.gl_interpreter.specs.Rooms.{HasRoomFor, IsRoomed, MakesRoom, MakesRoomIn};
 ghost use Rattle.gl_interpreter.specs.Script.{
   Asks,
   Does,
+  NextTxn,
   NodeName,
   TxnName,
   declared,
@@ -100,7 +101,8 @@ impl Desk {
         }
     }
 
-    /// Whether the name that a line declares is free, and there is room for it.
+    /// Whether the name that a line declares is free, or that of the transaction that it renews, and
+    /// there is room for it.
     fn make_room(&mut self, form: &Form) -> Result<(), Refusal>
         ensures names { names_of self.new ≡ names_of self.old }
         ensures language { self.new.language ≡ self.old.language }
@@ -113,7 +115,10 @@ impl Desk {
             Form::Index { name, .. } => room_for(&mut self.nodes, name),
             Form::IndexBy { name, .. } => room_for(&mut self.nodes, name),
             Form::Insert { name, .. } => room_for(&mut self.nodes, name),
+            Form::Adopt { name, .. } => room_for(&mut self.nodes, name),
             Form::Begin { txn } => room_for(&mut self.txns, txn),
+            Form::BeginAgain { txn, .. } => room_for(&mut self.txns, txn),
+            Form::Renew { .. } => room_in(&mut self.txns),
             _ => Ok(()),
         }
     }
@@ -143,6 +148,9 @@ impl Desk {
                 bounds: numbers,
             }),
             Form::Begin { .. } => Request::Apply(Command::Begin),
+            Form::BeginAgain { since, .. } => {
+                Request::Apply(Command::BeginAgain { since: *since })
+            }
             Form::Lock { txn, mode, node } => Request::Apply(Command::Lock {
                 txn: self.txn_id(txn),
                 node: self.node_id(node),
@@ -219,6 +227,17 @@ impl Desk {
                 file: self.plain_id(file),
                 bounds: numbers,
             }),
+            Form::Adopt { file, .. } => Request::Apply(Command::Adopt {
+                file: self.plain_id(file),
+                keys: numbers,
+            }),
+            Form::Forget { rec } => Request::Apply(Command::Forget {
+                rec: self.plain_id(rec),
+            }),
+            Form::Renew { txn, since } => Request::Apply(Command::Renew {
+                txn: self.txn_id(txn),
+                since: *since,
+            }),
             Form::Mark { txn } => Request::Mark(self.txn_id(txn)),
             Form::Release { txn, mark } => Request::Release(self.txn_id(txn), *mark),
         }
@@ -238,11 +257,15 @@ impl Desk {
             Form::Index { name, .. } => self.name_node(name, answer),
             Form::IndexBy { name, .. } => self.name_node(name, answer),
             Form::Insert { name, .. } => self.name_node(name, answer),
+            Form::Adopt { name, .. } => self.name_node(name, answer),
             Form::Begin { txn } => self.name_txn(txn, answer),
+            Form::BeginAgain { txn, .. } => self.name_txn(txn, answer),
+            Form::Renew { txn, .. } => self.name_next_txn(txn, answer),
             Form::Commit { txn } => self.free_txn(txn, answer),
             Form::Abort { txn } => self.free_txn(txn, answer),
             Form::Delete { rec, .. } => self.free_node(rec, answer),
             Form::Drop { node, .. } => self.free_node(node, answer),
+            Form::Forget { rec } => self.free_node(rec, answer),
             _ => {}
         }
     }
@@ -267,6 +290,20 @@ impl Desk {
         ensures manager { self.new.manager ≡ self.old.manager }
     {
         if let Answer::Begun(id) = answer {
+            self.txns.add(name, id);
+        }
+    }
+
+    /// Gives the name of a transaction that was renewed to the one that began in its place.
+    fn name_next_txn(&mut self, name: &Name, answer: Answer)
+        requires room { HasRoom self.old.txns }
+        ensures names { names_of self.new ≡ named_as (names_of self.old) (NextTxn name.now.items) answer }
+        ensures language { self.new.language ≡ self.old.language }
+        ensures manager { self.new.manager ≡ self.old.manager }
+    {
+        if let Answer::Begun(id) = answer {
+            let ended = self.txn_id(name);
+            self.txns.remove(name, ended);
             self.txns.add(name, id);
         }
     }
@@ -398,6 +435,15 @@ fn room_for<I: Copy + Eq + Hash + Drop>(
     if register.id(name).is_some() {
         return Err(Refusal::NameTaken);
     }
+    room_in(register)
+}
+
+/// Whether there is room for one more name.
+fn room_in<I: Copy + Eq + Hash + Drop>(register: &mut Register<I>) -> Result<(), Refusal>
+    ensures ids { id_in register.new ≡ id_in register.old }
+    ensures names { name_in I.eq register.new ≡ name_in I.eq register.old }
+    ensures room { IsRoomed false (HasRoom register.new) result }
+{
     if register.make_room() {
         Ok(())
     } else {

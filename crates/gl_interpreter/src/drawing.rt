@@ -58,10 +58,10 @@ pub enum PictureFault {
 
 /// Draws the final state of the script that `reader` gives. The words are those of a script, after an
 /// optional `--graph` or `--waits` and then an optional `--held`. They may include `--listings`, which
-/// changes no picture: neither a listing nor a bad line changes the state. They may include `--schema`
-/// and `--savepoints`: what was dropped or released is then not drawn. Returns the exit status: 0 at the
-/// end, 1 after a fault, 2 for words that ask for no picture. If it is not 0, one line that says why was
-/// written to `faults`.
+/// changes no picture: neither a listing nor a bad line changes the state. They may include `--schema`,
+/// `--savepoints` and `--trace`: what was dropped, released or forgotten is then not drawn. Returns the
+/// exit status: 0 at the end, 1 after a fault, 2 for words that ask for no picture. If it is not 0, one
+/// line that says why was written to `faults`.
 pub fn draw_script<S: AsStr, R: Read, W: Write, E: Write>(
     alloc: Global,
     words: &[S],

@@ -48,12 +48,14 @@ impl Interpreter {
             listings,
             schema,
             savepoints,
+            trace,
         } = choices;
         let language = Language {
             version: Version::One,
             listings,
             schema,
             savepoints,
+            trace,
         };
         let Ok(one) = Manager::choosing(alloc, detect, victims, 64) else {
             return None;

@@ -79,6 +79,7 @@ impl<I: Copy + Eq + Hash + Drop> Register<I> {
     pub(crate) fn remove(&mut self, name: &Name, id: I)
         ensures ids { id_in self.new ≡ (λ n. if bytes_eq name.now.items n then None else id_in self.old n) }
         ensures names { name_in I.eq self.new ≡ (λ x. if I.eq id x then [] else name_in I.eq self.old x) }
+        ensures room { HasRoom self.old → HasRoom self.new }
     {
         self.ids.swap_remove(name);
         self.names.swap_remove(&id);

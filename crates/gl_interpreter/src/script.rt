@@ -49,8 +49,8 @@ pub(crate) struct Tool {
 }
 
 /// Answers a script, line by line as it is read, with deadlocks detected as `detect` says. The victim
-/// is the youngest, and there are no listings, schema changes or savepoints. All else is as for
-/// [`run_choosing`].
+/// is the youngest, and there are no listings, schema changes, savepoints or lines of a trace. All else
+/// is as for [`run_choosing`].
 ///
 /// # Errors
 ///
@@ -69,7 +69,7 @@ pub fn run<R: Read, W: Write>(
 }
 
 /// Answers a script, line by line as it is read. `choices` says how deadlocks are detected and victims
-/// chosen, and whether there are listings, schema changes and savepoints.
+/// chosen, and whether there are listings, schema changes, savepoints and lines of a trace.
 ///
 /// What is written is the report of what is read; with `Ok` all of the reader was read. Whatever the
 /// outcome, at most 16,777,217 bytes were read, and with `Ok` at most 16,777,216. The answers to all

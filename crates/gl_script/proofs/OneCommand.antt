@@ -10,7 +10,7 @@ use Rattle.gl_modes.proofs.Spellings.{mode_text-injective}
 use Rattle.gl_script.specs.declared.form.Language.{Language}
 use Rattle.gl_script.specs.Grammar.{Text, Command, Inner, File, Index, Begin, Lock, Try, Unlock, Cancel, Commit, Abort, Settle, Insert, Delete, Rekey}
 use Rattle.gl_script.specs.Grammar.{Escalate, Move, Group, Held, Effective, Drop, IndexBy, Mark, Release, Listing, Holders, Queue, Locks, Waits, Txns, Cycle}
-use Rattle.gl_script.specs.Grammar.{Line, Orders, Lists}
+use Rattle.gl_script.specs.Grammar.{Adopt, Forget, BeginAgain, Renew, Line, Orders, Lists}
 use Rattle.gl_script.specs.Grammar.{Node, Plain, Interval, IsNode, IsNumber, AreSomeNodes, node_text, parents, fields, listing_fields, SaysFields}
 use Rattle.gl_script.specs.Grammar.{ListsFields, LineFields, LineSaysOneCommand}
 use Rattle.gl_script.proofs.Splitting.{cut_once, has_byte}
@@ -89,6 +89,10 @@ same_of_index f m n ps qs g h ks bs p q a b e =
 behind_first : (f g : Text) (fs gs : List Text) → f ∷ fs ≡ g ∷ gs → fs ≡ gs
 behind_first f g fs gs e = cc
 
+-- two fields are not more
+no_more : (f s t g : Text) (gs : List Text) → f ∷ s ∷ [] ≡ f ∷ t ∷ g ∷ gs → ⊥
+no_more f s t g gs e = cc
+
 one_of_fields : (g : Language) (all : List Text) (c d : Command) → SaysFields g all c → SaysFields g all d → c ≡ d
 one_of_fields l all (Inner m ps) (Inner n qs) p q =
     let same : fields (Inner m ps) ≡ fields (Inner n qs) = sym p.2 ∙ q.2 in
@@ -162,6 +166,26 @@ one_of_fields l all (Release s j) (Release t k) p q =
     let txn : s ≡ t = cc in
     let spelt : decimal j ≡ decimal k = cc in
     ap₂ Release txn (decimal_injective j k p.0.1 q.0.1 spelt)
+one_of_fields l all (Adopt m g js) (Adopt n h ks) p q =
+    let same : fields (Adopt m g js) ≡ fields (Adopt n h ks) = sym p.2 ∙ q.2 in
+    let name : m ≡ n = cc in
+    let file : g ≡ h = cc in
+    let tail : map decimal js ≡ map decimal ks = cc in
+    let keys : js ≡ ks = one_numbers js ks p.0.2 q.0.2 tail in
+    λ i. Adopt (name i) (file i) (keys i)
+one_of_fields l all (Forget m) (Forget n) p q = ap Forget (same_of_name _ m n (sym p.2 ∙ q.2))
+one_of_fields l all (BeginAgain s j) (BeginAgain t k) p q =
+    let same : fields (BeginAgain s j) ≡ fields (BeginAgain t k) = sym p.2 ∙ q.2 in
+    let txn : s ≡ t = cc in
+    let spelt : decimal j ≡ decimal k = cc in
+    ap₂ BeginAgain txn (decimal_injective j k p.0.1 q.0.1 spelt)
+one_of_fields l all (Renew s j) (Renew t k) p q =
+    let same : fields (Renew s j) ≡ fields (Renew t k) = sym p.2 ∙ q.2 in
+    let txn : s ≡ t = cc in
+    let spelt : decimal j ≡ decimal k = cc in
+    ap₂ Renew txn (decimal_injective j k p.0.1 q.0.1 spelt)
+one_of_fields l all (Begin s) (BeginAgain t k) p q = absurd (no_more _ s t _ _ (sym p.2 ∙ q.2))
+one_of_fields l all (BeginAgain t k) (Begin s) p q = absurd (no_more _ s t _ _ (sym q.2 ∙ p.2))
 one_of_fields l all (Index m ps g ks) (IndexBy t n qs h bs) p q = absurd (one_before_colon m ps _ t n _ p.0.1 q.0.1 (behind_first _ _ _ _ (sym p.2 ∙ q.2)))
 one_of_fields l all (IndexBy t n qs h bs) (Index m ps g ks) p q = absurd (one_before_colon m ps _ t n _ q.0.1 p.0.1 (behind_first _ _ _ _ (sym q.2 ∙ p.2)))
 one_of_fields l all c d p q = absurd (differ l all c d p q refl)

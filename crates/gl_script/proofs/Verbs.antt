@@ -36,6 +36,10 @@ first_verb g rest (grammar.Drop t n) e = (verb.Drop, cc)
 first_verb g rest (grammar.IndexBy t n ps f bs) e = (verb.Index, cc)
 first_verb g rest (grammar.Mark t) e = (verb.Mark, cc)
 first_verb g rest (grammar.Release t k) e = (verb.Release, cc)
+first_verb g rest (grammar.Adopt r f ks) e = (verb.Adopt, cc)
+first_verb g rest (grammar.Forget r) e = (verb.Forget, cc)
+first_verb g rest (grammar.BeginAgain t k) e = (verb.Begin, cc)
+first_verb g rest (grammar.Renew t k) e = (verb.Renew, cc)
 
 -- the topic at the beginning of a listing's line
 pub first_topic : (f : Text) (rest : List Text) (l : Listing) → f ∷ rest ≡ listing_fields l → (t : Topic) × (f ≡ topic_word t)

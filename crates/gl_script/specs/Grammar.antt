@@ -40,6 +40,10 @@ pub data Command : Type 0 where
   IndexBy : (txn : Text) → (name : Text) → (parents : List Node) → (file : Text) → (bounds : List ℕ) → Command
   Mark : (txn : Text) → Command
   Release : (txn : Text) → (mark : ℕ) → Command
+  Adopt : (name : Text) → (file : Text) → (keys : List ℕ) → Command
+  Forget : (rec : Text) → Command
+  BeginAgain : (txn : Text) → (since : ℕ) → Command
+  Renew : (txn : Text) → (since : ℕ) → Command
 
 -- the listings
 pub data Listing : Type 0 where
@@ -110,6 +114,10 @@ IsCommand (Drop t n) = IsName t × IsName n
 IsCommand (IndexBy t n ps f bs) = IsName t × IsName n × AreSomeNodes ps × IsName f × All IsNumber bs
 IsCommand (Mark t) = IsName t
 IsCommand (Release t k) = IsName t × IsNumber k
+IsCommand (Adopt r f ks) = IsName r × IsName f × All IsNumber ks
+IsCommand (Forget r) = IsName r
+IsCommand (BeginAgain t k) = IsName t × IsNumber k
+IsCommand (Renew t k) = IsName t × IsNumber k
 
 -- the names and numbers of a listing are valid
 abbrev pub IsListing : Listing → Type 0
@@ -120,13 +128,17 @@ IsListing (Waits t) = IsName t
 IsListing Txns = Unit
 IsListing Cycle = Unit
 
--- no node moves in a script of version 1; schema changes and savepoints need a language that has them
+-- no node moves in a script of version 1; schema changes, savepoints and the commands of a trace need a language that has them
 abbrev pub IsOfLanguage : Language → Command → Type 0
 IsOfLanguage l (Move t n ps) = l.version ≢ version.One
 IsOfLanguage l (Drop t n) = l.schema ≡ true
 IsOfLanguage l (IndexBy t n ps f bs) = l.schema ≡ true
 IsOfLanguage l (Mark t) = l.savepoints ≡ true
 IsOfLanguage l (Release t k) = l.savepoints ≡ true
+IsOfLanguage l (Adopt r f ks) = l.trace ≡ true
+IsOfLanguage l (Forget r) = l.trace ≡ true
+IsOfLanguage l (BeginAgain t k) = l.trace ≡ true
+IsOfLanguage l (Renew t k) = l.trace ≡ true
 IsOfLanguage l c = Unit
 
 -- the text of a node: its name, or the index, a dot and the interval's number
@@ -164,6 +176,10 @@ fields (Drop t n) = codes "drop" ∷ t ∷ n ∷ []
 fields (IndexBy t n ps f bs) = codes "index" ∷ t ∷ n ∷ parents ps ++ codes "on" ∷ f ∷ codes "at" ∷ map decimal bs
 fields (Mark t) = codes "mark" ∷ t ∷ []
 fields (Release t k) = codes "release" ∷ t ∷ decimal k ∷ []
+fields (Adopt r f ks) = codes "adopt" ∷ r ∷ f ∷ map decimal ks
+fields (Forget r) = codes "forget" ∷ r ∷ []
+fields (BeginAgain t k) = codes "begin" ∷ t ∷ codes "again" ∷ decimal k ∷ []
+fields (Renew t k) = codes "renew" ∷ t ∷ decimal k ∷ []
 
 -- the fields of a listing's line
 abbrev pub listing_fields : Listing → List Text

@@ -49,6 +49,10 @@ command_of (form.Drop t n) lists = grammar.Drop t.items n.items
 command_of (form.IndexBy t n f) lists = grammar.IndexBy t.items n.items (nodes_of lists) f.items lists.numbers.items
 command_of (form.Mark t) lists = grammar.Mark t.items
 command_of (form.Release t k) lists = grammar.Release t.items k
+command_of (form.Adopt r f) lists = grammar.Adopt r.items f.items lists.numbers.items
+command_of (form.Forget r) lists = grammar.Forget r.items
+command_of (form.BeginAgain t k) lists = grammar.BeginAgain t.items k
+command_of (form.Renew t k) lists = grammar.Renew t.items k
 
 -- the listing of a value
 abbrev pub listing_of : Listing → grammar.Listing

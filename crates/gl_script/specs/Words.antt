@@ -30,6 +30,9 @@ word verb.Effective = codes "effective"
 word verb.Drop = codes "drop"
 word verb.Mark = codes "mark"
 word verb.Release = codes "release"
+word verb.Adopt = codes "adopt"
+word verb.Forget = codes "forget"
+word verb.Renew = codes "renew"
 
 -- the first field of a topic's lines
 abbrev pub topic_word : Topic → Text

@@ -11,8 +11,9 @@ use crate::fields::Fields;
 use crate::reads::{Name, Used, next_name};
 use crate::series::MOST_LISTED;
 use crate::shapes::{
-    index_parts, insert_parts, name_parents, name_some_parents, only_name, only_node, rekey_parts,
-    txn_mode_node, txn_name, txn_node, txn_node_parents, txn_number,
+    adopt_parts, again_number, index_parts, insert_parts, name_parents, name_some_parents,
+    only_name, only_node, rekey_parts, txn_mode_node, txn_name, txn_node, txn_node_parents,
+    txn_number,
 };
 use crate::verb::Verb;
 use arrayvec::ArrayVec;
@@ -37,6 +38,8 @@ pub struct Language {
     pub schema: bool,
     /// Whether it may have savepoints: `mark` and `release`.
     pub savepoints: bool,
+    /// Whether it may have what only a trace needs: `adopt`, `forget`, `begin` again, and `renew`.
+    pub trace: bool,
 }
 
 /// The command of a line, without the parents, bounds and keys that the line lists: those are in
@@ -155,6 +158,26 @@ pub enum Form {
         txn: Name,
         mark: u64,
     },
+    /// Make a record of a file that nobody holds, with these keys.
+    Adopt {
+        name: Name,
+        file: Name,
+    },
+    /// Remove a record that nobody holds or waits for.
+    Forget {
+        rec: Name,
+    },
+    /// Begin a transaction for work that began with the transaction of this age.
+    BeginAgain {
+        txn: Name,
+        since: u64,
+    },
+    /// Commit a transaction, and begin one with its intentions, for work that began with the
+    /// transaction of this age.
+    Renew {
+        txn: Name,
+        since: u64,
+    },
 }
 
 /// What a line lists: the parents of a node, and the bounds of an index or the keys of a record. A line
@@ -193,7 +216,7 @@ pub(crate) fn read_command(
         Verb::Inner => name_parents(fields, &mut lists.nodes, |name| Form::Inner { name }),
         Verb::File => name_some_parents(fields, &mut lists.nodes, |name| Form::File { name }),
         Verb::Index => read_index(language, fields, lists),
-        Verb::Begin => only_name(fields, |txn| Form::Begin { txn }),
+        Verb::Begin => read_begin(language, fields),
         Verb::Lock => txn_mode_node(fields, |txn, mode, node| Form::Lock { txn, mode, node }),
         Verb::Try => txn_mode_node(fields, |txn, mode, node| Form::Try { txn, mode, node }),
         Verb::Unlock => txn_node(fields, |txn, node| Form::Unlock { txn, node }),
@@ -222,6 +245,9 @@ pub(crate) fn read_command(
         Verb::Drop => read_drop(language, fields),
         Verb::Mark => read_mark(language, fields),
         Verb::Release => read_release(language, fields),
+        Verb::Adopt => read_adopt(language, fields, lists),
+        Verb::Forget => read_forget(language, fields),
+        Verb::Renew => read_renew(language, fields),
     }
 }
 
@@ -274,6 +300,64 @@ fn read_release(language: Language, fields: &mut Fields) -> Option<Form>
 {
     if language.savepoints {
         txn_number(fields, |txn, mark| Form::Release { txn, mark })
+    } else {
+        None
+    }
+}
+
+/// The form after the word `begin`: a transaction, and in a trace perhaps the word `again` and the
+/// number of the transaction that began the work.
+fn read_begin(language: Language, fields: &mut Fields) -> Option<Form>
+    ensures says { IfSome result (λ form. (lists : TheLists) → SaysFields language (codes "begin" ∷ left fields.old) (command_of form lists)) }
+    ensures none { IfNone result ((c : Command) → SaysFields language (codes "begin" ∷ left fields.old) c → ⊥) }
+{
+    let txn = next_name(fields)?;
+    if fields.is_done() {
+        return Some(Form::Begin { txn });
+    }
+    if !language.trace {
+        return None;
+    }
+    let since = again_number(fields)?;
+    Some(Form::BeginAgain { txn, since })
+}
+
+/// The form after the word `adopt`, if the script may be a trace.
+fn read_adopt(language: Language, fields: &mut Fields, lists: &mut Lists) -> Option<Form>
+    requires room { length (left fields.old) ≤ 257 }
+    ensures says { IfSome result (λ form. SaysFields language (codes "adopt" ∷ left fields.old) (command_of form lists.new)) }
+    ensures none { IfNone result ((c : Command) → SaysFields language (codes "adopt" ∷ left fields.old) c → ⊥) }
+{
+    if language.trace {
+        adopt_parts(
+            fields,
+            &mut lists.numbers,
+            |name, file| Form::Adopt { name, file },
+        )
+    } else {
+        None
+    }
+}
+
+/// The form after the word `forget`, if the script may be a trace.
+fn read_forget(language: Language, fields: &mut Fields) -> Option<Form>
+    ensures says { IfSome result (λ form. (lists : TheLists) → SaysFields language (codes "forget" ∷ left fields.old) (command_of form lists)) }
+    ensures none { IfNone result ((c : Command) → SaysFields language (codes "forget" ∷ left fields.old) c → ⊥) }
+{
+    if language.trace {
+        only_name(fields, |rec| Form::Forget { rec })
+    } else {
+        None
+    }
+}
+
+/// The form after the word `renew`, if the script may be a trace.
+fn read_renew(language: Language, fields: &mut Fields) -> Option<Form>
+    ensures says { IfSome result (λ form. (lists : TheLists) → SaysFields language (codes "renew" ∷ left fields.old) (command_of form lists)) }
+    ensures none { IfNone result ((c : Command) → SaysFields language (codes "renew" ∷ left fields.old) c → ⊥) }
+{
+    if language.trace {
+        txn_number(fields, |txn, since| Form::Renew { txn, since })
     } else {
         None
     }

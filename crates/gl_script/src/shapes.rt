@@ -83,11 +83,19 @@ pub(crate) fn txn_number<F: FnOnce(Name, u64) -> Form>(fields: &mut Fields, form
     ensures none { IfNone result ((t : Text) (k : ℕ) → IsName t → IsNumber k → left fields.old ≢ t ∷ decimal k ∷ []) }
 {
     let txn = next_name(fields)?;
-    let number = read_number(fields.next()?)?;
-    if !fields.is_done() {
+    let number = last_number(fields)?;
+    Some(form(txn, number))
+}
+
+/// The word `again`, and a number.
+pub(crate) fn again_number(fields: &mut Fields) -> Option<u64>
+    ensures found { IfSome result (λ number. IsNumber number × (left fields.old ≡ codes "again" ∷ decimal number ∷ [])) }
+    ensures none { IfNone result ((k : ℕ) → IsNumber k → left fields.old ≢ codes "again" ∷ decimal k ∷ []) }
+{
+    if !matches!(fields.next()?, b"again") {
         return None;
     }
-    Some(form(txn, number))
+    last_number(fields)
 }
 
 /// A transaction, a record, an index and a key.
@@ -103,10 +111,7 @@ pub(crate) fn rekey_parts<F: FnOnce(Name, Name, Name, u64) -> Form>(
     let txn = next_name(fields)?;
     let rec = next_name(fields)?;
     let index = next_name(fields)?;
-    let key = read_number(fields.next()?)?;
-    if !fields.is_done() {
-        return None;
-    }
+    let key = last_number(fields)?;
     Some(form(txn, rec, index, key))
 }
 
@@ -128,6 +133,24 @@ pub(crate) fn insert_parts<F: FnOnce(Name, Name, Name) -> Form>(
     let file = next_name(fields)?;
     read_numbers(fields, keys)?;
     Some(form(txn, rec, file))
+}
+
+/// A record, a file, and keys.
+pub(crate) fn adopt_parts<F: FnOnce(Name, Name) -> Form>(
+    fields: &mut Fields,
+    keys: &mut ArrayVec<u64, MOST_LISTED>,
+    form: F,
+) -> Option<Form>
+    requires room { length (left fields.old) ≤ 257 }
+    requires form { F.IsAlwaysCallable form }
+    ensures found { IfSome result (λ r. (rec : _) × (file : _) × F.post form rec file r × IsName rec.items × IsName file.items
+        × All IsNumber keys.new.items × (left fields.old ≡ rec.items ∷ file.items ∷ map decimal keys.new.items)) }
+    ensures none { IfNone result ((r f : Text) (ks : List ℕ) → IsName r → IsName f → All IsNumber ks → left fields.old ≢ r ∷ f ∷ map decimal ks) }
+{
+    let rec = next_name(fields)?;
+    let file = next_name(fields)?;
+    read_numbers(fields, keys)?;
+    Some(form(rec, file))
 }
 
 /// A name, and parents if there are any.
@@ -210,6 +233,15 @@ fn last_node(fields: &mut Fields) -> Option<Used>
 {
     let node = next_node(fields)?;
     fields.is_done().then_some(node)
+}
+
+/// The last field, a number.
+fn last_number(fields: &mut Fields) -> Option<u64>
+    ensures found { IfSome result (λ number. IsNumber number × (left fields.old ≡ decimal number ∷ [])) }
+    ensures none { IfNone result ((k : ℕ) → IsNumber k → left fields.old ≢ decimal k ∷ []) }
+{
+    let number = read_number(fields.next()?)?;
+    fields.is_done().then_some(number)
 }
 
 /// A file, the word `at`, and bounds.

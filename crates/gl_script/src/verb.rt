@@ -29,6 +29,9 @@ pub(crate) enum Verb {
     Drop,
     Mark,
     Release,
+    Adopt,
+    Forget,
+    Renew,
 }
 
 /// The verb with these bytes, if it is one.
@@ -59,6 +62,9 @@ pub(crate) fn read_verb(text: &[u8]) -> Option<Verb>
         b"drop" => Some(Verb::Drop),
         b"mark" => Some(Verb::Mark),
         b"release" => Some(Verb::Release),
+        b"adopt" => Some(Verb::Adopt),
+        b"forget" => Some(Verb::Forget),
+        b"renew" => Some(Verb::Renew),
         _ => None,
     }
 }

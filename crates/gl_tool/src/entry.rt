@@ -32,10 +32,10 @@ pub enum ToolFault {
 
 /// Does what the words after the program's name ask for. `--detect` says how deadlocks are detected,
 /// and `--victims` how victims are chosen. Runs the script that `reader` gives, with listings, schema
-/// changes and savepoints if `--listings`, `--schema` and `--savepoints` are among the words; or runs a
-/// crew of sessions, and writes how many of its commands were accepted. Returns the exit status: 0 at
-/// the end, 1 after a fault, 2 for words that ask for nothing that the program does. If it is not 0,
-/// one line that says why was written to `faults`.
+/// changes, savepoints and lines of a trace if `--listings`, `--schema`, `--savepoints` and `--trace`
+/// are among the words; or runs a crew of sessions, and writes how many of its commands were accepted.
+/// Returns the exit status: 0 at the end, 1 after a fault, 2 for words that ask for nothing that the
+/// program does. If it is not 0, one line that says why was written to `faults`.
 pub fn program<H: Threads + Wait + Sync, S: AsStr, R: Read, W: Write, E: Write>(
     rt: &H,
     alloc: Global,

@@ -34,9 +34,9 @@ bare_app = let app = new_app (codes "gltool") in record app { top = record app.t
 -- the command line
 abbrev pub tool_app : App
 tool_app =
-    with_rule (with_rule (with_rule (with_rule (with_rule (with_rule (with_rule bare_app
+    with_rule (with_rule (with_rule (with_rule (with_rule (with_rule (with_rule (with_rule bare_app
     (option_rule (codes "detect"))) (option_rule (codes "victims"))) (flag_rule (codes "listings"))) (flag_rule (codes "schema")))
-    (flag_rule (codes "savepoints"))) (option_rule (codes "crew"))) (option_rule (codes "rounds"))
+    (flag_rule (codes "savepoints"))) (flag_rule (codes "trace"))) (option_rule (codes "crew"))) (option_rule (codes "rounds"))
 
 -- the values that clap finds in the words
 unfoldable pub rows_in : List Text → List Row
@@ -70,20 +70,20 @@ abbrev pub IsNumberTo : ℕ → Text → ℕ → Type 0
 IsNumberTo most word n = IsNumeral 10 (without_leading_plus word) × (digits_value 10 (without_leading_plus word) ≡ n) × (1 ≤ n) × (n ≤ most)
 
 -- what the values of the options ask for: neither number, or both and none of the optional lines
-abbrev pub IsAsked : Option Text → Option Text → Bool → Bool → Bool → Option Text → Option Text → Asked → Type 0
-IsAsked detection choice listings schema savepoints None None (Script choices) =
+abbrev pub IsAsked : Option Text → Option Text → Bool → Bool → Bool → Bool → Option Text → Option Text → Asked → Type 0
+IsAsked detection choice listings schema savepoints trace None None (Script choices) =
     IsDetection detection choices.detect × IsChoice choice choices.victims × (choices.listings ≡ listings) × (choices.schema ≡ schema)
-    × (choices.savepoints ≡ savepoints)
-IsAsked detection choice false false false (Some crew) (Some rounds) (Crew s r detect victims) =
+    × (choices.savepoints ≡ savepoints) × (choices.trace ≡ trace)
+IsAsked detection choice false false false false (Some crew) (Some rounds) (Crew s r detect victims) =
     IsNumberTo 128 crew s × IsNumberTo 100000 rounds r × IsDetection detection detect × IsChoice choice victims
-IsAsked detection choice listings schema savepoints crew rounds asked = ⊥
+IsAsked detection choice listings schema savepoints trace crew rounds asked = ⊥
 
 -- what the values that clap found ask for
 abbrev pub IsAskedIn : List Row → Asked → Type 0
 IsAskedIn rows asked =
     IsAsked (first_of (codes "detect") rows) (first_of (codes "victims") rows) (is_set (first_of (codes "listings") rows))
-    (is_set (first_of (codes "schema") rows)) (is_set (first_of (codes "savepoints") rows)) (first_of (codes "crew") rows)
-    (first_of (codes "rounds") rows) asked
+    (is_set (first_of (codes "schema") rows)) (is_set (first_of (codes "savepoints") rows)) (is_set (first_of (codes "trace") rows))
+    (first_of (codes "crew") rows) (first_of (codes "rounds") rows) asked
 
 -- clap accepts the words, and by what it finds in them they ask for this
 abbrev pub AsksFor : List Text → Asked → Type 0
@@ -91,7 +91,7 @@ AsksFor words asked = (faults_in words ≡ []) × IsAskedIn (rows_in words) aske
 
 -- the choices if only the way of detection is given: the victim is the youngest, and there are no optional lines
 abbrev pub plain : Detect → Choices
-plain detect = record { detect = detect; victims = Youngest; listings = false; schema = false; savepoints = false }
+plain detect = record { detect = detect; victims = Youngest; listings = false; schema = false; savepoints = false; trace = false }
 
 -- the plan of what is asked
 abbrev pub plan_of : Asked → Plan

@@ -7,7 +7,7 @@ use gl_model::Detect;
 use gl_waits::Victims;
 
 /// The choices for a script: how deadlocks are detected and victims chosen, and whether there are
-/// listings, schema changes and savepoints.
+/// listings, schema changes, savepoints and the lines of a trace.
 #[derive(Clone, Copy, Debug, PartialEq, Eq)]
 pub struct Choices {
     pub detect: Detect,
@@ -15,11 +15,12 @@ pub struct Choices {
     pub listings: bool,
     pub schema: bool,
     pub savepoints: bool,
+    pub trace: bool,
 }
 
 impl Choices {
     /// The choices if only the way of detection is given: the victim is the youngest, and there are no
-    /// listings, schema changes or savepoints.
+    /// listings, schema changes, savepoints or lines of a trace.
     pub fn plain(detect: Detect) -> Choices
         ensures { result ≡ plain detect }
     {
@@ -29,6 +30,7 @@ impl Choices {
             listings: false,
             schema: false,
             savepoints: false,
+            trace: false,
         }
     }
 }

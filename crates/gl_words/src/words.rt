@@ -59,12 +59,14 @@ fn read_words<S: AsStr>(alloc: Global, words: &[S]) -> Result<Asked, Unread>
     let listings = is_set(matches.get_str("listings"));
     let schema = is_set(matches.get_str("schema"));
     let savepoints = is_set(matches.get_str("savepoints"));
+    let trace = is_set(matches.get_str("trace"));
     match asked_of(
         detect,
         victims,
         listings,
         schema,
         savepoints,
+        trace,
         matches.get_str("crew"),
         matches.get_str("rounds"),
     ) {
@@ -82,6 +84,7 @@ fn command<'a>(alloc: Global) -> Result<Command<'a>, AllocError>
     let listings = flag(alloc, "listings");
     let schema = flag(alloc, "schema");
     let savepoints = flag(alloc, "savepoints");
+    let trace = flag(alloc, "trace");
     let crew = option(alloc, "crew");
     let rounds = option(alloc, "rounds");
     Command::new(alloc, "gltool")
@@ -91,6 +94,7 @@ fn command<'a>(alloc: Global) -> Result<Command<'a>, AllocError>
         .arg(listings)?
         .arg(schema)?
         .arg(savepoints)?
+        .arg(trace)?
         .arg(crew)?
         .arg(rounds)
 }
@@ -129,23 +133,25 @@ fn asked_of(
     listings: bool,
     schema: bool,
     savepoints: bool,
+    trace: bool,
     crew: Option<&str>,
     rounds: Option<&str>,
 ) -> Option<Asked>
     ensures some { IfSome result (λ asked.
-        IsAsked (text detect.entry) (text victims.entry) listings schema savepoints (text crew.entry) (text rounds.entry) asked) }
+        IsAsked (text detect.entry) (text victims.entry) listings schema savepoints trace (text crew.entry) (text rounds.entry) asked) }
     ensures none { IfNone result ((asked : WhatIsAsked)
-        → ¬ (IsAsked (text detect.entry) (text victims.entry) listings schema savepoints (text crew.entry) (text rounds.entry) asked)) }
+        → ¬ (IsAsked (text detect.entry) (text victims.entry) listings schema savepoints trace (text crew.entry) (text rounds.entry) asked)) }
 {
     let detect = detection(detect)?;
     let victims = choice(victims)?;
-    match (crew, rounds, listings || schema || savepoints) {
+    match (crew, rounds, listings || schema || savepoints || trace) {
         (None, None, _) => Some(Asked::Script(Choices {
             detect,
             victims,
             listings,
             schema,
             savepoints,
+            trace,
         })),
         (Some(crew), Some(rounds), false) => Some(Asked::Crew {
             sessions: number_to(MOST_SESSIONS, crew)?,

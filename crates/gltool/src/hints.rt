@@ -10,6 +10,7 @@ pub struct Lines {
     pub listings: bool,
     pub schema: bool,
     pub savepoints: bool,
+    pub trace: bool,
 }
 
 /// The first field of a text, up to a blank, and what follows the blank.
@@ -100,6 +101,7 @@ fn reason(number: &[u8]) -> &'static [u8] {
         b"21" => b"is the node itself or below it",
         b"22" => b"a transaction holds the record or waits for it",
         b"23" => b"the node has children",
+        b"24" => b"the transaction holds more than intentions, or a node for which another waits",
         _ => b"it is refused",
     }
 }
@@ -195,6 +197,8 @@ fn needs(line: &[u8], lines: Lines) -> Option<&'static [u8]> {
         b"drop" if !lines.schema => Some(b"--schema"),
         b"index" if !lines.schema && is_name_first(line) => Some(b"--schema"),
         b"mark" | b"release" if !lines.savepoints => Some(b"--savepoints"),
+        b"adopt" | b"forget" | b"renew" if !lines.trace => Some(b"--trace"),
+        b"begin" if !lines.trace && matches!(field(line, 2), b"again") => Some(b"--trace"),
         _ => None,
     }
 }
@@ -216,7 +220,7 @@ fn form(verb: &[u8]) -> Option<&'static [u8]> {
         b"file" => b"file NODE : PARENT..",
         b"index" =>
             b"index NODE : PARENT.. on FILE at BOUND.., or by --schema index TXN NODE : PARENT.. on FILE at BOUND..",
-        b"begin" => b"begin TXN",
+        b"begin" => b"begin TXN, or by --trace begin TXN again AGE",
         b"commit" => b"commit TXN",
         b"abort" => b"abort TXN",
         b"cancel" => b"cancel TXN",
@@ -232,6 +236,9 @@ fn form(verb: &[u8]) -> Option<&'static [u8]> {
         b"drop" => b"drop TXN NODE",
         b"mark" => b"mark TXN",
         b"release" => b"release TXN MARK",
+        b"adopt" => b"adopt RECORD FILE KEY..",
+        b"forget" => b"forget RECORD",
+        b"renew" => b"renew TXN AGE",
         b"group" => b"group NODE",
         b"held" => b"held TXN NODE",
         b"effective" => b"effective TXN NODE",

@@ -130,6 +130,7 @@ fn run<H: Threads + Wait + Sync, R: Read, W: Write, E: Write>(
         listings: call.has("--listings"),
         schema: call.has("--schema"),
         savepoints: call.has("--savepoints"),
+        trace: call.has("--trace"),
     };
     let (mut answers, mut reasons): (Vec<u8>, Vec<u8>) = (Vec::new(alloc), Vec::new(alloc));
     let Ok(ends_early) = annotate(

@@ -10,6 +10,7 @@ usage: gltool [WORD..] [SCRIPT]     runs a script of lock commands; without SCRI
   --listings                     the script may have listings
   --schema                       the script may drop nodes, and make indexes by transactions
   --savepoints                   the script may set and return to savepoints
+  --trace                        the script may be a trace: rows, work begun again, renewals
   --echo                         writes each line, with its answer to its right
   --explain                      says on standard error why each refused line was refused
   --strict                       ends with status 3 at the first line that is refused
@@ -66,7 +67,7 @@ pub fn has_value(word: &str) -> bool {
 
 /// Whether a word is known that has no value.
 pub fn is_flag(word: &str) -> bool {
-    matches!(word, "--listings" | "--schema" | "--savepoints")
+    matches!(word, "--listings" | "--schema" | "--savepoints" | "--trace")
 }
 
 /// Whether a value may follow a word.

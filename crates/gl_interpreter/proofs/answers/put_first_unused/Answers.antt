@@ -44,3 +44,9 @@ returns-in-Mark g c = rw c.in-Mark.is (Hands-none _ _)
 
 pub returns-in-Release : goal.returns-in-Release
 returns-in-Release g c = rw c.in-Release.is (Hands-none _ _)
+
+pub returns-in-BeginAgain : goal.returns-in-BeginAgain
+returns-in-BeginAgain g c = rw c.in-BeginAgain.is (Hands-none _ _)
+
+pub returns-in-Renew : goal.returns-in-Renew
+returns-in-Renew g c = rw c.in-Renew.is (Hands-none _ _)

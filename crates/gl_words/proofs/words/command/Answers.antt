@@ -18,5 +18,6 @@ returns c =
     let three = c.in_ok-arg-3.ensures.shape c.flag-listings.ensures.local ∙ more _ _ _ _ two c.flag-listings.ensures.rule in
     let four = c.in_ok-arg-4.ensures.shape c.flag-schema.ensures.local ∙ more _ _ _ _ three c.flag-schema.ensures.rule in
     let five = c.in_ok-arg-5.ensures.shape c.flag-savepoints.ensures.local ∙ more _ _ _ _ four c.flag-savepoints.ensures.rule in
-    let six = c.in_ok-arg-6.ensures.shape c.option-crew.ensures.local ∙ more _ _ _ _ five c.option-crew.ensures.rule in
-    IfOk-weaker c.arg-7.result _ _ (λ r h. h.shape c.option-rounds.ensures.local ∙ more _ _ _ _ six c.option-rounds.ensures.rule) c.arg-7.ensures
+    let six = c.in_ok-arg-6.ensures.shape c.flag-trace.ensures.local ∙ more _ _ _ _ five c.flag-trace.ensures.rule in
+    let seven = c.in_ok-arg-7.ensures.shape c.option-crew.ensures.local ∙ more _ _ _ _ six c.option-crew.ensures.rule in
+    IfOk-weaker c.arg-8.result _ _ (λ r h. h.shape c.option-rounds.ensures.local ∙ more _ _ _ _ seven c.option-rounds.ensures.rule) c.arg-8.ensures

@@ -49,21 +49,22 @@ returns-in-Err g c =
     (c.in-Err.ensures.kinds (ap is_simple_and_free app_is ∙ is_free_tool))
 
 -- the values of the options in the words
-module _ (words : List Text) (detection choice : Option Text) (listings schema savepoints : Bool) (crew rounds : Option Text)
+module _ (words : List Text) (detection choice : Option Text) (listings schema savepoints trace : Bool) (crew rounds : Option Text)
     (detection_is : detection ≡ first_of (codes "detect") (rows_in words))
     (choice_is : choice ≡ first_of (codes "victims") (rows_in words)) (listings_is : listings ≡ is_set (first_of (codes "listings") (rows_in words)))
     (schema_is : schema ≡ is_set (first_of (codes "schema") (rows_in words)))
     (savepoints_is : savepoints ≡ is_set (first_of (codes "savepoints") (rows_in words)))
+    (trace_is : trace ≡ is_set (first_of (codes "trace") (rows_in words)))
     (crew_is : crew ≡ first_of (codes "crew") (rows_in words)) (rounds_is : rounds ≡ first_of (codes "rounds") (rows_in words)) where
-  asked_is : (asked : Asked) → IsAsked detection choice listings schema savepoints crew rounds asked ≡ IsAskedIn (rows_in words) asked
-  asked_is asked = λ z. IsAsked (detection_is z) (choice_is z) (listings_is z) (schema_is z) (savepoints_is z) (crew_is z) (rounds_is z) asked
+  asked_is : (asked : Asked) → IsAsked detection choice listings schema savepoints trace crew rounds asked ≡ IsAskedIn (rows_in words) asked
+  asked_is asked = λ z. IsAsked (detection_is z) (choice_is z) (listings_is z) (schema_is z) (savepoints_is z) (trace_is z) (crew_is z) (rounds_is z) asked
 
   -- if they ask for nothing, so do the words
-  nothing : ((asked : Asked) → ¬ (IsAsked detection choice listings schema savepoints crew rounds asked)) → HasNoPlan words
+  nothing : ((asked : Asked) → ¬ (IsAsked detection choice listings schema savepoints trace crew rounds asked)) → HasNoPlan words
   nothing none asked p = none asked (transport (sym (asked_is asked)) p.1)
 
   -- what they ask for is what the words ask for
-  something : (asked : Asked) → IsAsked detection choice listings schema savepoints crew rounds asked → IsAskedIn (rows_in words) asked
+  something : (asked : Asked) → IsAsked detection choice listings schema savepoints trace crew rounds asked → IsAskedIn (rows_in words) asked
   something asked p = transport (asked_is asked) p
 
 -- what clap gives for an option
@@ -77,14 +78,15 @@ returns-in-Some g c =
     let words = map g.S.AsStr.text c.args.words.now in
     let taken = c.in-Ok-try_get_matches_from in (
       sym (faults_are _ words app_is) ∙ taken.ensures.kinds (ap is_simple_and_free app_is ∙ is_free_tool),
-      something words _ _ _ _ _ _ _
+      something words _ _ _ _ _ _ _ _
           (value _ words taken.matches _ _ app_is taken.ensures.matches c.get_str-detect.ensures)
           (value _ words taken.matches _ _ app_is taken.ensures.matches c.get_str-victims.ensures)
           (c.is_set-listings.ensures ∙ ap is_set (value _ words taken.matches _ _ app_is taken.ensures.matches c.get_str.ensures))
           (c.is_set-schema.ensures ∙ ap is_set (value _ words taken.matches _ _ app_is taken.ensures.matches c.get_str-2.ensures))
           (c.is_set-savepoints.ensures ∙ ap is_set (value _ words taken.matches _ _ app_is taken.ensures.matches c.get_str-3.ensures))
-          (value _ words taken.matches _ _ app_is taken.ensures.matches c.get_str-4.ensures)
+          (c.is_set-trace.ensures ∙ ap is_set (value _ words taken.matches _ _ app_is taken.ensures.matches c.get_str-4.ensures))
           (value _ words taken.matches _ _ app_is taken.ensures.matches c.get_str-5.ensures)
+          (value _ words taken.matches _ _ app_is taken.ensures.matches c.get_str-6.ensures)
           c.in-Some.asked c.in-Some.ensures.some,
     )
 
@@ -93,12 +95,13 @@ returns g c =
     let app_is = c.in-Ok.ensures in
     let words = map g.S.AsStr.text c.args.words.now in
     let taken = c.in-Ok-try_get_matches_from in
-    nothing words _ _ _ _ _ _ _
+    nothing words _ _ _ _ _ _ _ _
     (value _ words taken.matches _ _ app_is taken.ensures.matches c.get_str-detect.ensures)
     (value _ words taken.matches _ _ app_is taken.ensures.matches c.get_str-victims.ensures)
     (c.is_set-listings.ensures ∙ ap is_set (value _ words taken.matches _ _ app_is taken.ensures.matches c.get_str.ensures))
     (c.is_set-schema.ensures ∙ ap is_set (value _ words taken.matches _ _ app_is taken.ensures.matches c.get_str-2.ensures))
     (c.is_set-savepoints.ensures ∙ ap is_set (value _ words taken.matches _ _ app_is taken.ensures.matches c.get_str-3.ensures))
-    (value _ words taken.matches _ _ app_is taken.ensures.matches c.get_str-4.ensures)
+    (c.is_set-trace.ensures ∙ ap is_set (value _ words taken.matches _ _ app_is taken.ensures.matches c.get_str-4.ensures))
     (value _ words taken.matches _ _ app_is taken.ensures.matches c.get_str-5.ensures)
+    (value _ words taken.matches _ _ app_is taken.ensures.matches c.get_str-6.ensures)
     c.in-None.ensures.none

@@ -32,6 +32,27 @@ returns-in-Insert-clause-names c = λ i. record (names_of c.args.self.now) {
       c.room_for-in-Insert.ensures.names i;
 }
 
+pub returns-in-Adopt-clause-names : goal.returns-in-Adopt-clause-names
+returns-in-Adopt-clause-names c = λ i. record (names_of c.args.self.now) {
+  node = c.room_for-in-Adopt.ensures.ids i;
+  node_name =
+      c.room_for-in-Adopt.ensures.names i;
+}
+
+pub returns-in-BeginAgain-clause-names : goal.returns-in-BeginAgain-clause-names
+returns-in-BeginAgain-clause-names c = λ i. record (names_of c.args.self.now) {
+  txn = c.room_for-in-BeginAgain.ensures.ids i;
+  txn_name =
+      c.room_for-in-BeginAgain.ensures.names i;
+}
+
+pub returns-in-Renew-clause-names : goal.returns-in-Renew-clause-names
+returns-in-Renew-clause-names c = λ i. record (names_of c.args.self.now) {
+  txn = c.room_in.ensures.ids i;
+  txn_name =
+      c.room_in.ensures.names i;
+}
+
 pub returns-in-Begin-clause-names : goal.returns-in-Begin-clause-names
 returns-in-Begin-clause-names c = λ i. record (names_of c.args.self.now) {
   txn = c.room_for-in-Begin.ensures.ids i;

@@ -20,5 +20,14 @@ name_node-requires-in-IndexBy c = record { room = rw c.in-IndexBy.is at (c.requi
 pub name_node-requires-in-Insert : goal.name_node-requires-in-Insert
 name_node-requires-in-Insert c = record { room = rw c.in-Insert.is at (c.requires.room nothing_listed) }
 
+pub name_node-requires-in-Adopt : goal.name_node-requires-in-Adopt
+name_node-requires-in-Adopt c = record { room = rw c.in-Adopt.is at (c.requires.room nothing_listed) }
+
 pub name_txn-requires : goal.name_txn-requires
 name_txn-requires c = record { room = rw c.in-Begin.is at (c.requires.room nothing_listed) }
+
+pub name_txn-requires-in-BeginAgain : goal.name_txn-requires-in-BeginAgain
+name_txn-requires-in-BeginAgain c = record { room = rw c.in-BeginAgain.is at (c.requires.room nothing_listed) }
+
+pub name_next_txn-requires : goal.name_next_txn-requires
+name_next_txn-requires c = record { room = rw c.in-Renew.is at (c.requires.room nothing_listed) }

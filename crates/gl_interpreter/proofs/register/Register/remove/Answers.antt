@@ -1,4 +1,4 @@
-use Rattle.std.proofs.Common.{None, [], refl}
+use Rattle.std.proofs.Common.{None, [], refl, arith}
 use Rattle.gl_interpreter.proofs.Registers.{ids-updated, names-updated}
 use Rattle.gl_interpreter.proofs.register.Register.remove.Goals as goal
 
@@ -7,3 +7,6 @@ returns-clause-ids g c = ids-updated c.args.self.now.ids c.swap_remove.new.self 
 
 pub returns-clause-names : goal.returns-clause-names
 returns-clause-names g c = names-updated _ c.args.self.now.names c.swap_remove-2.new.self c.args.id None [] refl c.swap_remove-2.ensures.updates
+
+pub returns-clause-room : goal.returns-clause-room
+returns-clause-room g c h = (omega (arith, h.0, c.swap_remove.ensures.room.0), omega (arith, h.1, c.swap_remove-2.ensures.room.0))
