@@ -4,10 +4,10 @@
  *
  * WHAT IS PROVED, AND WHAT IS NOT. The library is proved: what each command does and whom it tells, what became of a
  * wait (bs_verdict), whose sleepers must be woken (bs_ended), that a look gives a whole board and never an older one.
- * Written in C here, and tested: the mutex and the condition variables, and the begin queue. They are in table_enter
- * and table_release, around each call; table_wake, after each command; table_hand_on, after what may have ended a
- * transaction; table_sleep, when a lock waits; table_sleep_in_begin_queue, when a begin does; bs_table_end; and
- * table_watch_over, the thread that watches. So is what several calls of the manager, each of them proved, do together:
+ * So are begins that wait for a slot: their order, and that each call hands on those that can begin by it. Written in C
+ * here, and tested: the mutex and the condition variables. They are in table_enter and table_release, around each call;
+ * table_wake, after each command; table_hand_on, after what may have ended a transaction; table_sleep, when a lock
+ * waits; table_sleep_in_begin_queue, when a begin does; bs_table_end; and table_watch_over, the thread that watches. So is what several calls of the manager, each of them proved, do together:
  * table_register, for a wait, which may be for an instant and is then released when it is granted. And so are asks,
  * whose end comes by a callback: table_go_on, at the end of each critical section that may have ended one, and
  * table_tell, after it. All else here makes calls of the library between these. burlapslate_running.c times the waits:
@@ -22,11 +22,9 @@
 #include <stdlib.h>
 #include <unistd.h>
 
-/* A thread that sleeps for a slot, in its call's frame: its place in the queue, and what its begin was answered. */
+/* A thread that sleeps for a slot, in its call's frame, whose address is the name of its begin. */
 typedef struct table_queued_begin {
-  struct table_queued_begin *ahead, *behind;
-  uint64_t since;      /* when its work began, or TABLE_NEW_WORK */
-  bs_reply begun;      /* BS_WAITING: its turn has not come */
+  bs_reply begun;      /* what it was answered; BS_WAITING: its turn has not come */
   pthread_cond_t came;
 } table_queued_begin;
 
@@ -116,9 +114,8 @@ struct bs_table {
   bs_manager manager;
   table_stage stage;
   bool is_due;                    /* this hold may have ended waits: waiters are woken or told as it ends */
-  table_queued_begin *first;      /* the begin queue, by order of arrival, up to `last` */
+  size_t queued;                  /* how many threads sleep for a slot */
   bs_notices told;                /* by the last command whose caller wanted no list */
-  table_queued_begin *last;
   table_asks *asks;               /* null if nobody can ask without a sleep */
   size_t sleepers;                /* how many threads sleep, for a lock or for a slot */
   uint64_t waited;                /* how many commands had been accepted when the last lock was left waiting */
@@ -450,65 +447,50 @@ static void table_make_steady(pthread_cond_t *cond) {
 /* Of a begin for new work, which no earlier begin has tried. */
 #define TABLE_NEW_WORK UINT64_MAX
 
-/* Begins a transaction, whose work has been tried since this number. */
-static inline bs_reply table_begin_since(bs_table *table, uint64_t since) {
-  return since == TABLE_NEW_WORK ? bs_begin(&table->manager) : bs_begin_again(&table->manager, since);
+/* The begin of this name. */
+static table_queued_begin *table_begin_named(uint64_t name) {
+  return (table_queued_begin *)(uintptr_t)name;
 }
 
-static void table_join_begin_queue(bs_table *table, table_queued_begin *own) {
-  own->ahead = table->last;
-  own->behind = NULL;
-  if (table->last == NULL) table->first = own;
-  else table->last->behind = own;
-  table->last = own;
-}
-
-static void table_leave_begin_queue(bs_table *table, table_queued_begin *own) {
-  if (own->ahead == NULL) table->first = own->behind;
-  else own->ahead->behind = own->behind;
-  if (own->behind == NULL) table->last = own->ahead;
-  else own->behind->ahead = own->ahead;
-}
-
-/* After what may have ended a transaction: begins for the threads in the begin queue, in order, while a slot is free.
- * So no critical section leaves a slot free while a thread sleeps for one. And no turn can be lost: a thread whose time
- * is over has begun by then, or is in the queue still. */
-static TABLE_APART void table_serve_begin_queue(bs_table *table) {
-  while (table->first != NULL) {
-    table_queued_begin *next = table->first;
-    bs_reply begun = table_begin_since(table, next->since);
-    if (begun.status == BS_TOO_MANY_TXNS) return;
-    next->begun = begun;
-    table_leave_begin_queue(table, next);
-    pthread_cond_signal(&next->came);
+/* Gives the begins that the library has handed on to the threads that sleep for them. So no critical section leaves one
+ * untaken. No turn can be lost: a thread whose time is over has begun by then, or is in the queue still. */
+static TABLE_APART void table_take_all_begun(bs_table *table) {
+  bs_reply begun = bs_call_take_begun(&table->manager);
+  for (; begun.count != 0; begun = bs_call_take_begun(&table->manager)) {
+    table_queued_begin *own = table_begin_named(begun.count);
+    own->begun = begun;
+    own->begun.count = 0;
+    table->queued--;
+    pthread_cond_signal(&own->came);
   }
 }
 
+/* After what may have ended a transaction. */
 static inline void table_hand_on(bs_table *table) {
-  if (table->first != NULL) table_serve_begin_queue(table);
+  if (table->queued > 0) table_take_all_begun(table);
 }
 
-/* Sleeps for a slot, with the latch held before and after, until another thread has begun for this one, or the time is
+/* Sleeps for a slot, with the latch held before and after, until the library has begun for this thread, or the time is
  * over, or the table ends. It asks whether it has begun before it looks at the clock. */
-static TABLE_APART bs_reply table_sleep_in_begin_queue(bs_table *table, uint64_t since, const struct timespec *until) {
-  table_queued_begin own;
+static TABLE_APART bs_reply table_sleep_in_begin_queue(bs_table *table, table_queued_begin *own,
+                                                       const struct timespec *until) {
   int late = 0;
-  own.since = since;
-  own.begun = bs_call_only(BS_WAITING);
-  table_make_steady(&own.came);
-  table_join_begin_queue(table, &own);
+  own->begun = bs_call_only(BS_WAITING);
+  table_make_steady(&own->came);
+  table->queued++;
   table->sleepers++;
-  while (own.begun.status == BS_WAITING && late != ETIMEDOUT && table->stage == TABLE_OPEN) {
-    late = table_doze(table, &own.came, until);
+  while (own->begun.status == BS_WAITING && late != ETIMEDOUT && table->stage == TABLE_OPEN) {
+    late = table_doze(table, &own->came, until);
   }
-  if (own.begun.status == BS_WAITING) {
-    table_leave_begin_queue(table, &own);
-    own.begun.status = BS_TIMED_OUT;
+  if (own->begun.status == BS_WAITING) {
+    bs_call_withdraw_begin(&table->manager, (uint64_t)(uintptr_t)own);
+    table->queued--;
+    own->begun.status = BS_TIMED_OUT;
   }
-  if (table->stage == TABLE_ENDING) own.begun = table_no_table(table);
+  if (table->stage == TABLE_ENDING) own->begun = table_no_table(table);
   table_woken(table);
-  pthread_cond_destroy(&own.came);
-  return own.begun;
+  pthread_cond_destroy(&own->came);
+  return own->begun;
 }
 
 /* The time by CLOCK_MONOTONIC that is so far from now. */
@@ -641,10 +623,13 @@ bs_reply bs_call_table_make(bs_table **table, const bs_options *options, size_t 
 
 /* Wakes all sleepers of a table that ends. */
 static void table_wake_all(bs_table *table) {
-  table_queued_begin *each;
+  bs_reply queued;
   size_t slot;
   for (slot = 0; slot < BS_SLOTS; slot++) pthread_cond_broadcast(&table->ended[slot]);
-  for (each = table->first; each != NULL; each = each->behind) pthread_cond_signal(&each->came);
+  do {
+    queued = bs_call_take_late_begin(&table->manager, UINT64_MAX);
+    if (queued.count != 0) pthread_cond_signal(&table_begin_named(queued.count)->came);
+  } while (queued.count != 0);
   pthread_cond_broadcast(&table->began);
   pthread_cond_broadcast(&table->over);
   bs_call_run_out(&table->running);
@@ -744,10 +729,11 @@ bs_reply bs_table_begin_again(bs_table *table, uint64_t since) {
 }
 
 bs_reply bs_table_begin_again_in_turn(bs_table *table, uint64_t since, const struct timespec *until) {
+  table_queued_begin own;
   bs_reply reply;
   if (!table_enter_to_sleep(table, until)) return table_no_sleep(table);
-  reply = table_begin_since(table, since);
-  if (reply.status == BS_TOO_MANY_TXNS) reply = table_sleep_in_begin_queue(table, since, until);
+  reply = bs_call_begin_in_turn(&table->manager, since, (uint64_t)(uintptr_t)&own, UINT64_MAX);
+  if (reply.status == BS_WAITING) reply = table_sleep_in_begin_queue(table, &own, until);
   table_release(table);
   return reply;
 }
@@ -1423,10 +1409,6 @@ static bs_reply table_row_made(bs_table *table, const bs_command *c, bs_txn txn)
   return table_row_tried(table, txn, &row, c->mode);
 }
 
-static TABLE_APART bs_reply table_no_slot(void) {
-  return bs_call_only(BS_TOO_MANY_TXNS);
-}
-
 /* Makes a command that begins, or that requests or releases locks, except the most frequent. */
 static TABLE_APART bs_reply table_other_made(bs_table *table, const bs_command *c, bs_txn txn, bs_notices *told) {
   bs_manager *m = &table->manager;
@@ -1444,16 +1426,16 @@ static TABLE_APART bs_reply table_other_made(bs_table *table, const bs_command *
     case BS_DO_UNLOCK_ROW: return bs_unlock_row(m, txn, c->file, c->number, told);
     case BS_DO_TRY_PATH: return table_path_tried(table, txn, c->node, c->mode, c->keep);
     case BS_DO_TRY_ROW: return table_row_made(table, c, txn);
-    case BS_DO_BEGIN_AGAIN: return table->first != NULL ? table_no_slot() : bs_begin_again(m, c->number);
+    case BS_DO_BEGIN_AGAIN: return bs_begin_again(m, c->number);
     default: return bs_call_only(BS_BAD_NUMBER);
   }
 }
 
-/* Makes a command. A slot that the list has freed is for the begin queue. */
+/* Makes a command. */
 static inline bs_reply table_made(bs_table *table, const bs_command *c, bs_txn txn, bs_notices *told) {
   bs_manager *m = &table->manager;
   switch (c->kind) {
-    case BS_DO_BEGIN: return table->first != NULL ? table_no_slot() : bs_begin(m);
+    case BS_DO_BEGIN: return bs_begin(m);
     case BS_DO_LOCK: return table_lock_made(table, c, txn, told);
     case BS_DO_COMMIT: return bs_commit(m, txn, told);
     case BS_DO_INSERT: return bs_insert(m, txn, c->file, c->keys, c->key_count);
@@ -1756,10 +1738,7 @@ bs_running *bs_call_running(const bs_manager *manager) {
 
 uint64_t bs_call_queued(const bs_manager *manager) {
   const bs_table *held = table_held_with(manager);
-  const table_queued_begin *each = held == NULL ? NULL : held->first;
-  uint64_t count = 0;
-  for (; each != NULL; each = each->behind) count++;
-  return count;
+  return held == NULL ? 0 : held->queued;
 }
 
 bool bs_call_may_sleep(void) {

@@ -371,8 +371,8 @@ static inline bs_txn bs_begun(void) {
  * name. A path continues if others became victims for a lock above, and is never BS_ON_THE_WAY: its `told` has the
  * notices of all its locks. Transactions that a command tells are woken, whether it is the first or the last. An
  * unknown kind is refused with BS_BAD_NUMBER. If the table is refused, so is the first command; a null list has no
- * commands. A begin is refused with BS_TOO_MANY_TXNS while a thread sleeps in bs_table_begin_in_turn: that thread gets
- * a slot that the list has freed, after the last command. */
+ * commands. A begin is refused with BS_TOO_MANY_TXNS while a thread sleeps in bs_table_begin_in_turn: the first of these
+ * gets the slot that a command of the list frees. */
 size_t bs_table_run(bs_table *table, bs_command *commands, size_t count);
 
 /* Makes tries in order, in one critical section, each BS_DO_TRY, BS_DO_TRY_PATH or BS_DO_TRY_ROW, up to the first that

@@ -321,7 +321,7 @@ enum { AREAS = 2, FILES = 4, INTERVALS = 3, RECORDS = 24, ROWS = 10, ACCOUNTS = 
 static bs_table *table;
 
 static bool is_handed_on(void) {
-  return table != NULL && table->first != NULL;
+  return table != NULL && table->queued > 0;
 }
 
 static bs_node root, areas[AREAS], files[FILES], indexes[FILES], intervals[FILES][INTERVALS], accounts[ACCOUNTS];

@@ -115,19 +115,17 @@ section-is-nobodys	s/^  table_held = table;//
 section-is-anybodys	s/^static __thread [^ ]* bs_table/static bs_table/
 section-forgets-the-one-before	s/^  table->held_before = table_held;/  table->held_before = NULL;/
 let-go-holds-on	s/^  \*at = table->held_before;//
-begin-passes-the-queue	s/table->first != NULL ? table_no_slot() : bs_begin(m);/bs_begin(m);/
-begin-again-passes-the-queue	s/table->first != NULL ? table_no_slot() : bs_begin_again(m, c->number);/bs_begin_again(m, c->number);/
 listed-work-is-new	s/bs_begin_again(m, c->number);/bs_begin(m);/
-work-in-the-queue-is-new	s/    bs_reply begun = table_begin_since(table, next->since);/    bs_reply begun = bs_begin(\&table->manager);/
-work-in-turn-is-new	s/  reply = table_begin_since(table, since);/  reply = bs_begin(\&table->manager);/
+work-in-turn-is-new	s/begin_in_turn(&table->manager, since,/begin_in_turn(\&table->manager, TABLE_NEW_WORK,/
 work-again-is-new	s/  TABLE_ASK(table, bs_begin_again(&table->manager, since));/  TABLE_ASK(table, bs_begin(\&table->manager));/
-last-comes-first	s/    table_queued_begin \*next = table->first;/    table_queued_begin *next = table->last;/
 call-keeps-the-slot	s/  table_hand_on(table);  *\\$/ \\/
 run-keeps-the-slot	/^size_t bs_table_run(/,/^}/s/^  table_hand_on(table);$//
 section-keeps-the-slot	/^bs_reply bs_table_let_go(/,/^}/s/^  table_hand_on(table);$//
-one-slot-is-handed-on	s/  while (table->first != NULL) {/  if (table->first != NULL) {/
-time-before-queued-begin	s/  if (own.begun.status == BS_WAITING) {/  if (late == ETIMEDOUT) {/
-queued-begin-wakes-nobody	s/    pthread_cond_signal(&next->came);//
+one-slot-is-handed-on	s/  for (; begun.count != 0; begun = .*/  if (begun.count != 0) {/
+time-before-queued-begin	s/  if (own->begun.status == BS_WAITING) {/  if (late == ETIMEDOUT) {/
+queued-begin-wakes-nobody	s/    pthread_cond_signal(&own->came);//
+late-begin-stays-in-the-queue	s/^    bs_call_withdraw_begin(.*//
+who-began-is-still-counted	s/^    table->queued--;$//
 deadline-is-forgotten	s/  until = table_earlier(table, txn, until);//
 deadline-is-of-the-slot	s/  if (own->age != txn.age) return until;/  if (own->age == 0) return until;/
 deadline-hides-the-call	s/  return own->time.tv_sec == until->tv_sec .*/  return \&own->time;/
@@ -175,7 +173,7 @@ a-list-tells-nobody	/^size_t bs_table_run(/,/^}/s/  table_release(table);/  pthr
 a-call-tells-nobody	s/  table_release(table);                                         \\/  pthread_mutex_unlock(\&(table)->latch); \\/
 on-end-is-given-twice	s/  if (table->asks != NULL) return table_leave(table, bs_call_only(BS_IN_USE));//
 spare-asks-are-kept	s/  while (table->asks != NULL \&\& table->asks->spare != NULL) {/  while (false) {/
-end-leaves-the-queue	s/  for (each = table->first; each != NULL; .*//
+end-leaves-the-queue	s/    if (queued.count != 0) pthread_cond_signal(.*//
 sleeper-follows-a-later-deadline	s/^    until = &time;//
 path-forgets-its-time-on-its-way	/^bs_reply bs_table_lock_path(/,/^}/s/node, mode, until);/node, mode, until), until = NULL;/
 path-forgets-its-deadline-on-its-way	/^bs_reply bs_table_lock_path(/,/^}/s/    reply = table_path_inside(.*/&\n    table->deadlines[txn.slot].age = 0;/
@@ -187,9 +185,6 @@ later-by-nanoseconds-alone	/^static bool table_is_later(/,/^}/s/(one->tv_sec == 
 path-of-another-is-cleared	s/  if (table->paths\[txn.slot\] == &path) table->paths/  table->paths/
 path-of-before-stays	s/  table->paths\[txn.slot\] = &path;/  if (table->paths[txn.slot] == NULL) &/
 cancel-takes-any-path	s/path == NULL || path->txn.age != txn.age) return/path == NULL) return/
-last-in-queue-is-the-first	/^static void table_leave_begin_queue(/,/^}/s/table->last = own->ahead;/table->last = table->first;/
-last-in-queue-stays	/^static void table_leave_begin_queue(/,/^}/s/  if (own->behind == NULL) table->last = own->ahead;/  if (own->behind == NULL \&\& own->ahead == NULL) table->last = NULL; else if (own->behind == NULL) own->ahead->behind = NULL;/
-who-is-behind-forgets-who-is-ahead	/^static void table_leave_begin_queue(/,/^}/s/own->behind->ahead = own->ahead;/own->behind->ahead = NULL;/
 end-wakes-the-first-word	/^static void table_wake_all(/,/^}/s/slot < BS_SLOTS/slot < 64/
 late-asks-are-of-the-first-word	/^static size_t table_end_late(/,/^}/s/slot < BS_SLOTS/slot < 64/
 next-time-is-of-the-first-word	/^static uint64_t table_next_time(/,/^}/s/slot < BS_SLOTS/slot < 64/
@@ -260,7 +255,7 @@ deadlocks-keep-their-rows	/^static bool running_take_deadlock(/,/^}/s/^  memmove
 deadlock-that-is-lost-is-not-counted	s/^  if (!running_join_deadlock(teller)) running->lost_deadlocks++;/  running_join_deadlock(teller);/
 deadlocks-need-no-room	/^static bool running_join_deadlock(/,/^}/s/ || last->count > RUNNING_STUCK - teller->stuck_count//
 deadlocks-have-no-end	/^static bool running_join_deadlock(/,/^}/s/teller->deadlock_count == RUNNING_DEADLOCKS || //
-begins-that-wait-are-not-counted	/^uint64_t bs_call_queued(/,/^}/s/^  for (; each != NULL; .*//
+begins-that-wait-are-not-counted	/^uint64_t bs_call_queued(/,/^}/s/held->queued/0/
 deadlock-waits-behind-long-waits	/^static void running_tell_next(/,/^}/s/^  if (running_take_deadlock(teller)) {/  if (slot == BS_SLOTS \&\& running_take_deadlock(teller)) {/
 function-is-called-under-the-latch	/^static void running_tell(/,/^}/{s/^  pthread_mutex_unlock(running->latch);//;s/^  pthread_mutex_lock(running->latch);//}
 function-taken-back-is-not-awaited	s/^  if (!running_is_own(running)) running_await_return(running);//

@@ -6,3 +6,4 @@ pub mod RowCalls
 pub mod Showing
 pub mod Tries
 pub mod Backs
+pub mod Turns

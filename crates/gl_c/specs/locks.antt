@@ -4,3 +4,4 @@ pub mod Rows
 pub mod Savepoints
 pub mod Tries
 pub mod Verdicts
+pub mod Turns

@@ -2,5 +2,6 @@
 
 mod rows;
 mod tries;
+mod turns;
 mod txns;
 mod waiting;

@@ -1,6 +1,7 @@
 //! The numbers that C uses for modes, ways of detection and statuses.
 
 ghost use Rattle.std.specs.Prelude.{◌≡◌};
+ghost use Rattle.gl_c.specs.locks.Turns.{since_at};
 ghost use Rattle.gl_c.specs.Numbers.{detect_at, effect_number, keep_at, mode_at, mode_number, slot_at, victims_at};
 
 use gl_modes::Mode;
@@ -135,5 +136,16 @@ pub(crate) fn slot_at(number: u32) -> Option<Slot>
         Some(number as Slot)
     } else {
         None
+    }
+}
+
+/// Since when the work of a begin was tried; the greatest number says that it is new.
+pub(crate) fn since_at(number: u64) -> Option<u64>
+    ensures { result ≡ since_at number }
+{
+    if number == u64::MAX {
+        None
+    } else {
+        Some(number)
     }
 }

@@ -7,18 +7,20 @@ ghost use Rattle.gl_c.specs.answers.Replies.{count_reply, refused_at, refused_re
 ghost use Rattle.gl_c.specs.locks.Rows.{call_reply, row_lock_status};
 ghost use Rattle.gl_c.specs.locks.Savepoints.{back_reply};
 ghost use Rattle.gl_c.specs.locks.Tries.{tried_reply, tried_row_reply};
+ghost use Rattle.gl_c.specs.locks.Turns.{begun_reply, found_reply, turn_reply, word_reply};
 ghost use Rattle.gl_c.specs.locks.Verdicts.{verdict_reply};
+ghost use Rattle.gl_waiting.specs.Asking.{begin_said};
 
 use crate::names::{Node, Txn};
 use crate::numbers::{
-    DONE, GONE, MOVED, NOT_ROWS, ON_THE_WAY, OTHER_KEYS, ROWS_BY_NUMBER, VICTIM, WAITING,
+    DONE, GONE, MOVED, NO_PLACE, NOT_ROWS, ON_THE_WAY, OTHER_KEYS, ROWS_BY_NUMBER, VICTIM, WAITING,
     effect_number, mode_number,
 };
 use gl_catalog::{Answer, Reached};
 use gl_modes::{Mode, NodeId, Refusal};
 use gl_registry::RowAnswer;
 use gl_table::{Locked, TxnId};
-use gl_waiting::{RowTried, Tried};
+use gl_waiting::{QueuedBegin, RowTried, Tried, Turn};
 use gl_wakes::{Grant, Stop};
 
 /// The answer of a call: a status, what the call answers, and zero in all other fields.
@@ -210,6 +212,57 @@ impl Reply {
             RowTried::WouldBlock(node) => Reply::refused(Refusal::WouldBlock).at(node),
             RowTried::Refused(refusal) => Reply::refused(refusal),
             RowTried::NotRows => Reply::with_status(NOT_ROWS),
+        }
+    }
+
+    /// The reply for a begin in turn.
+    pub(crate) fn of_turn(turn: Turn) -> Reply
+        ensures { result ≡ turn_reply turn }
+    {
+        match turn {
+            Turn::Came(came) => Reply::of_begin(came),
+            Turn::Queued => Reply::with_status(WAITING),
+            Turn::NoMemory => Reply::refused(Refusal::NoMemory),
+        }
+    }
+
+    /// The reply for a begin.
+    fn of_begin(came: Result<TxnId, Refusal>) -> Reply
+        ensures { result ≡ reply_of (begin_said came) }
+    {
+        match came {
+            Ok(txn) => Reply::of(Answer::Begun(txn)),
+            Err(refusal) => Reply::refused(refusal),
+        }
+    }
+
+    /// The reply for a begin that was handed on, with its name.
+    pub(crate) fn of_begun(begun: Option<(QueuedBegin, Result<TxnId, Refusal>)>) -> Reply
+        ensures { result ≡ begun_reply begun }
+    {
+        match begun {
+            Some((begin, came)) => Reply {
+                count: begin.word,
+                ..Reply::of_begin(came)
+            },
+            None => Reply::with_status(NO_PLACE),
+        }
+    }
+
+    /// The reply whether a begin waited for a slot.
+    pub(crate) fn of_found(found: bool) -> Reply
+        ensures { result ≡ found_reply found }
+    {
+        Reply::with_status(if found { DONE } else { NO_PLACE })
+    }
+
+    /// The name of a begin.
+    pub(crate) fn of_word(begin: Option<QueuedBegin>) -> Reply
+        ensures { result ≡ word_reply begin }
+    {
+        match begin {
+            Some(begin) => Reply::with_count(begin.word),
+            None => Reply::with_status(NO_PLACE),
         }
     }
 

@@ -31,6 +31,7 @@ use std::alloc::Global;
 use std::marker::Model;
 
 mod tries;
+mod turns;
 
 /// The table of waiters, the slots whose wait the last counted call may have ended, and what watchers
 /// were shown, if there ever was one.

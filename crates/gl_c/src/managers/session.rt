@@ -1,7 +1,7 @@
 //! A manager with its list of notices.
 
 ghost use Rattle.gl_slots.specs.Limit.{most_slots};
-ghost use Rattle.std.specs.Prelude.{◌≡◌, ◌≤◌, ◌^◌, IfErr, IfOk, Some};
+ghost use Rattle.std.specs.Prelude.{◌≡◌, ◌≤◌, ◌^◌, IfErr, IfOk, Some, drop, slice_get};
 ghost use Rattle.gl_modes.specs.declared.refusal.Refusal.{Refusal as ARefusal};
 ghost use Rattle.gl_table.specs.Table.{board_of};
 ghost use Rattle.gl_catalog.specs.Manager.{IsLawfulManager, state_of};
@@ -15,7 +15,10 @@ ghost use Rattle.gl_c.specs.locks.Savepoints.{back_call};
 ghost use Rattle.gl_c.specs.managers.Managing.{IsNew};
 ghost use Rattle.gl_c.specs.locks.Rows.{named_reply, row_call};
 ghost use Rattle.gl_c.specs.locks.Tries.{tried_path_call, tried_row_call};
+ghost use Rattle.gl_c.specs.locks.Turns.{begun_reply, found_reply, turn_call, word_reply};
 ghost use Rattle.gl_c.specs.locks.Verdicts.{verdict_reply};
+ghost use Rattle.gl_waiting.specs.Begins.{has_word, is_late, without_first};
+ghost use Rattle.std.specs.List.{find, list_any};
 ghost use Rattle.gl_c.specs.watchers.Watching.{OnlyShows};
 ghost use Rattle.gl_c.specs.managers.Guarded.{GuardedView};
 ghost use Rattle.gl_c.specs.managers.Session.{IsIdle, guarded_of};
@@ -29,7 +32,7 @@ use gl_modes::{Mode, NodeId, Refusal};
 use gl_registry::{Row, RowCall};
 use gl_slots::Slots;
 use gl_table::{Detect, Told, TxnId};
-use gl_waiting::Keep;
+use gl_waiting::{Keep, QueuedBegin};
 use gl_waits::Victims;
 use gl_window::{WatchFault, Watcher};
 use std::alloc::Global;
@@ -180,6 +183,37 @@ impl Session {
         let answer = self.guarded.serve(command, &mut self.told);
         self.told.clear();
         Reply::of_served(answer)
+    }
+
+    /// Begins a transaction in turn.
+    pub(crate) fn begin_in_turn(&mut self, begin: QueuedBegin) -> Reply
+        ensures { Answers self.old (turn_call begin) result self.new }
+    {
+        Reply::of_turn(self.guarded.begin_in_turn(begin))
+    }
+
+    /// Takes the first of the begins that were handed on.
+    pub(crate) fn take_begun(&mut self) -> Reply
+        ensures reply { result ≡ begun_reply (slice_get self.old.begun 0) }
+        ensures rest { self.new ≡ record self.old { begun = drop 1 self.old.begun } }
+    {
+        Reply::of_begun(self.guarded.take_begun())
+    }
+
+    /// Takes a begin of this name out of those that wait for a slot.
+    pub(crate) fn withdraw_begin(&mut self, word: u64) -> Reply
+        ensures reply { result ≡ found_reply (list_any (has_word word) self.old.queue) }
+        ensures rest { self.new ≡ record self.old { queue = without_first (has_word word) self.old.queue } }
+    {
+        Reply::of_found(self.guarded.withdraw_begin(word))
+    }
+
+    /// Takes the first begin whose time is over out of those that wait for a slot.
+    pub(crate) fn take_late_begin(&mut self, now: u64) -> Reply
+        ensures reply { result ≡ word_reply (find (is_late now) self.old.queue) }
+        ensures rest { self.new ≡ record self.old { queue = without_first (is_late now) self.old.queue } }
+    {
+        Reply::of_word(self.guarded.take_late_begin(now))
     }
 
     /// The node of a row.

@@ -21,6 +21,7 @@ ghost use Rattle.gl_c.specs.Numbers.{no_manager};
 ghost use Rattle.gl_c.specs.answers.Replies.{status_reply};
 ghost use Rattle.gl_c.specs.locks.Rows.{FindsRow, row_call};
 ghost use Rattle.gl_c.specs.locks.Tries.{tried_path_call, tried_row_call};
+ghost use Rattle.gl_c.specs.locks.Turns.{TakesBegun, TakesLate, Withdraws, turn_call};
 ghost use Rattle.gl_c.specs.locks.Verdicts.{Judges};
 ghost use Rattle.gl_c.specs.watchers.Watching.{Attends};
 
@@ -40,7 +41,7 @@ use gl_catalog::Command;
 use gl_modes::{Mode, NodeId};
 use gl_registry::{Row, RowCall};
 use gl_table::TxnId;
-use gl_waiting::Keep;
+use gl_waiting::{Keep, QueuedBegin};
 use gl_window::{WatchFault, Watcher};
 use std::alloc::Global;
 use std::mem::replace;
@@ -238,6 +239,58 @@ impl Handle {
             return Reply::with_status(NO_MANAGER);
         };
         let reply = session.look(query);
+        *self = Handle::of(alloc, session);
+        reply
+    }
+
+    /// Begins a transaction in turn.
+    pub(crate) fn begin_in_turn(&mut self, begin: QueuedBegin) -> Reply
+        ensures { Asks (guarded_in self.old) (turn_call begin) result (guarded_in self.new) }
+    {
+        let alloc = self.alloc;
+        let Some(mut session) = self.take() else {
+            return Reply::with_status(NO_MANAGER);
+        };
+        let reply = session.begin_in_turn(begin);
+        *self = Handle::of(alloc, session);
+        reply
+    }
+
+    /// Takes the first of the begins that were handed on.
+    pub(crate) fn take_begun(&mut self) -> Reply
+        ensures { TakesBegun (guarded_in self.old) result (guarded_in self.new) }
+    {
+        let alloc = self.alloc;
+        let Some(mut session) = self.take() else {
+            return Reply::with_status(NO_MANAGER);
+        };
+        let reply = session.take_begun();
+        *self = Handle::of(alloc, session);
+        reply
+    }
+
+    /// Takes a begin of this name out of those that wait for a slot.
+    pub(crate) fn withdraw_begin(&mut self, word: u64) -> Reply
+        ensures { Withdraws (guarded_in self.old) word result (guarded_in self.new) }
+    {
+        let alloc = self.alloc;
+        let Some(mut session) = self.take() else {
+            return Reply::with_status(NO_MANAGER);
+        };
+        let reply = session.withdraw_begin(word);
+        *self = Handle::of(alloc, session);
+        reply
+    }
+
+    /// Takes the first begin whose time is over out of those that wait for a slot.
+    pub(crate) fn take_late_begin(&mut self, now: u64) -> Reply
+        ensures { TakesLate (guarded_in self.old) now result (guarded_in self.new) }
+    {
+        let alloc = self.alloc;
+        let Some(mut session) = self.take() else {
+            return Reply::with_status(NO_MANAGER);
+        };
+        let reply = session.take_late_begin(now);
         *self = Handle::of(alloc, session);
         reply
     }
