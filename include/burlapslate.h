@@ -633,8 +633,8 @@ static inline bs_reply bs_verdict(const bs_manager *manager, bs_txn txn, bs_node
 }
 
 /* The slots whose wait the last accepted command may have ended: wake their sleepers. These are the slots that it told,
- * and the slot that a cancel or an abort names; it ended no other transaction's wait. After a bs_release_since that
- * releases nothing there are none. A refused command and a question leave the slots as they are. */
+ * and the slot that a cancel or an abort names; it ended no other transaction's wait. A refused command, a
+ * bs_release_since that releases nothing and a question leave the slots as they are. */
 static inline bs_found bs_ended(const bs_manager *manager) {
   return bs_call_can_ask(manager) ? bs_call_ended(manager) : bs_call_none_found(bs_call_unasked(manager).status);
 }

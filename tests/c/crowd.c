@@ -28,7 +28,7 @@ enum kind {
   KINDS
 };
 
-enum { MOST_NUMBERS = 3, MOST_PARENTS = 2 };
+enum { MOST_NUMBERS = 3, MOST_PARENTS = 2, MOST_QUEUED = 2048 };
 
 /* A call, with all its arguments. */
 struct call {
@@ -157,23 +157,66 @@ static void give_numbers(struct call *call, const uint64_t *numbers, size_t coun
 }
 
 /* The calls that the header makes in place of those of burlapslate.h. */
+
+/* Gives the begins that the library has handed on to their threads. */
+static void take_handed_on(void);
+
+/* A call hands on begins as its last act: each is logged after it, and is not this thread's. */
+static void write_down_handed_on(bs_manager *m) {
+  size_t last = my_last, last_but_one = my_last_but_one, i;
+  uint64_t accepted = accepted_by(m);
+  take_handed_on();
+  my_last = last, my_last_but_one = last_but_one;
+  for (i = log_count - 1; i > last; i--) {
+    log_of_calls[i].accepted = accepted;
+    if (log_of_calls[i].reply.status == BS_DONE) accepted--;
+  }
+  log_of_calls[last].accepted = accepted;
+}
+
 static bs_reply serve(bs_manager *m, struct call call, bs_notices *told) {
   static bs_notices none; /* protected by the latch too */
   bs_reply reply = made(m, &call, told == NULL ? &none : told);
-  return write_down(m, &call, reply, told);
+  write_down(m, &call, reply, told);
+  write_down_handed_on(m);
+  return reply;
 }
 
-/* Whether the begin is for a thread that sleeps for a slot: then it is not this thread's. */
-static bool is_handed_on(void);
-
 static bs_reply served_begin(bs_manager *m, enum kind kind, uint64_t since) {
-  size_t last = my_last, last_but_one = my_last_but_one;
   struct call call = adding(kind, NULL, 0);
-  bs_reply reply;
   call.key = since;
-  reply = serve(m, call, NULL);
-  if (is_handed_on()) my_last = last, my_last_but_one = last_but_one;
+  return serve(m, call, NULL);
+}
+
+/* Since when the work of each begin that waits for a slot was tried, by the begin's name. */
+static struct { uint64_t name, since; } queued[MOST_QUEUED];
+
+static size_t place_of_queued(uint64_t name) {
+  size_t i = 0;
+  while (i < MOST_QUEUED && queued[i].name != 0 && queued[i].name != name) i++;
+  if (i == MOST_QUEUED) abort();
+  return i;
+}
+
+static void write_down_begin(bs_manager *m, uint64_t since, bs_reply reply) {
+  struct call call = adding(since == UINT64_MAX ? BEGIN : BEGIN_AGAIN, NULL, 0);
+  call.key = since == UINT64_MAX ? 0 : since;
+  write_down(m, &call, reply, NULL);
+}
+
+static bs_reply served_begin_in_turn(bs_manager *m, uint64_t since, uint64_t name, uint64_t until) {
+  bs_reply reply = bs_call_begin_in_turn(m, since, name, until);
+  size_t place = place_of_queued(name);
+  if (reply.status == BS_WAITING) queued[place].name = name, queued[place].since = since;
+  else write_down_begin(m, since, reply);
   return reply;
+}
+
+static bs_reply served_begun(bs_manager *m) {
+  bs_reply begun = bs_call_take_begun(m), reply = begun;
+  reply.count = 0;
+  if (begun.count != 0) write_down_begin(m, queued[place_of_queued(begun.count)].since, reply);
+  return begun;
 }
 
 static bs_reply served_lock(bs_manager *m, enum kind kind, bs_txn txn, bs_node node, bs_mode mode, bs_notices *told) {
@@ -276,6 +319,8 @@ static bs_reply served_index(bs_manager *m, enum kind kind, bs_txn txn, const bs
 }
 
 #define bs_begin(m) served_begin(m, BEGIN, 0)
+#define bs_call_begin_in_turn(m, since, name, until) served_begin_in_turn(m, since, name, until)
+#define bs_call_take_begun(m) served_begun(m)
 #define bs_begin_again(m, since) served_begin(m, BEGIN_AGAIN, since)
 #define bs_lock(m, txn, node, mode, told) served_lock(m, LOCK, txn, node, mode, told)
 #define bs_lock_path(m, txn, node, mode, told) served_lock(m, LOCK_PATH, txn, node, mode, told)
@@ -320,8 +365,8 @@ enum { AREAS = 2, FILES = 4, INTERVALS = 3, RECORDS = 24, ROWS = 10, ACCOUNTS = 
 
 static bs_table *table;
 
-static bool is_handed_on(void) {
-  return table != NULL && table->queued > 0;
+static void take_handed_on(void) {
+  if (table != NULL) table_hand_on(table);
 }
 
 static bs_node root, areas[AREAS], files[FILES], indexes[FILES], intervals[FILES][INTERVALS], accounts[ACCOUNTS];

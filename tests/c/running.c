@@ -1615,6 +1615,7 @@ static void make_history(struct pair *p) {
 static void metrics_say_what_is(void) {
   struct sleeper queued;
   struct pair p;
+  bs_txn first;
   struct text text;
   bs_options options = options_of(BS_AT_BLOCK, BS_YOUNGEST, 2);
   make_history(&p);
@@ -1637,7 +1638,7 @@ static void metrics_say_what_is(void) {
   WANT(strcmp(text.at + text.length - 6, "# EOF\n") == 0);
   shut_table();
   DONE(bs_table_make(&table, &options));
-  DONE(bs_table_begin(table));
+  first = DONE(bs_table_begin(table)).txn;
   DONE(bs_table_begin(table));
   queued = sleeper_of(BY_BEGIN, p.holder, root, BS_X);
   start(&queued.thread, fall_asleep, &queued);
@@ -1645,6 +1646,13 @@ static void metrics_say_what_is(void) {
   text = metrics_by_now();
   WANT(has_line(&text, "burlapslate_begins_waiting 1") && has_line(&text, "burlapslate_transactions_limit 2"));
   WANT(has_line(&text, "burlapslate_waiting 0")); /* A begin is no wait. */
+  DONE(bs_table_commit(table, first, NULL));
+  BACK(&queued, BS_DONE);
+  text = metrics_by_now();
+  WANT(has_line(&text, "burlapslate_begins_waiting 0"));
+  queued = sleeper_of(BY_BEGIN, p.holder, root, BS_X);
+  start(&queued.thread, fall_asleep, &queued);
+  await_sleepers(1);
   DONE(bs_table_end(table));
   BACK(&queued, BS_NO_MANAGER);
   DONE(bs_table_free(&table));

@@ -14,16 +14,21 @@
 #include <stdarg.h>
 #include <stdio.h>
 
-/* This many begins of the header are refused memory. */
+/* This many begins that are handed on are refused memory: their slots are for the next. */
 static int refused_begins;
 
-static bs_reply noted_begin(bs_manager *m) {
-  if (refused_begins == 0) return bs_begin(m);
+static bs_reply noted_begun(bs_manager *m) {
+  bs_reply begun = bs_call_take_begun(m);
+  bs_reply refused = bs_call_only(BS_NO_MEMORY);
+  bs_notices notices;
+  if (refused_begins == 0 || begun.count == 0) return begun;
   refused_begins--;
-  return bs_call_only(BS_NO_MEMORY);
+  bs_abort(m, begun.txn, &notices);
+  refused.count = begun.count;
+  return refused;
 }
 
-#define bs_begin(m) noted_begin(m)
+#define bs_call_take_begun(m) noted_begun(m)
 
 /* How many tried paths told somebody. */
 static size_t told_by_tries;
@@ -1085,7 +1090,7 @@ static bool begins_behind_the_time(long microseconds) {
   while (!is_in_begin_queue && !is_over(&until)) {
     nap();
     WANT(bs_table_hold(table) != NULL);
-    is_in_begin_queue = table->first != NULL;
+    is_in_begin_queue = table->queued > 0;
     if (!is_in_begin_queue) bs_table_let_go(table);
   }
   if (is_in_begin_queue) {
@@ -3927,8 +3932,6 @@ static void refused_queued_begins(void) {
   DONE(bs_table_commit(table, holder, NULL));
   join(queued[0].thread);
   ANSWERS(BS_NO_MEMORY, queued[0].reply);
-  refused_begins = 1;
-  ANSWERS(BS_NO_MEMORY, bs_table_begin_in_turn(table, NULL));
   begin();
   close_table();
 }
