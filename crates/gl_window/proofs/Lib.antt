@@ -1,4 +1,5 @@
 pub mod Adding
+pub mod Emptiness
 pub mod Fronts
 pub mod Idle
 pub mod Lists
