@@ -40,6 +40,10 @@ hands_fewer v v' h = by v.queue h.is_first (ap (λ (x : WaitingView). x.queue) h
 pub went_on_more : (went_on : Bool) (k : ℕ) → true ≡ (went_on || not (suc k == 0))
 went_on_more went_on k = let more : (suc k == 0) ≡ false = grind (arith, nat_tests) in rw more (sym (or-true went_on))
 
+-- one more is some
+pub any_more : (k : ℕ) → true ≡ not (suc k == 0)
+any_more k = let more : (suc k == 0) ≡ false = grind (arith, nat_tests) in rw more refl
+
 -- nobody waits in an empty queue
 pub none_first : (queue : List QueuedBegin) → slice_get queue 0 ≡ None → queue ≡ []
 none_first [] is = refl

@@ -324,6 +324,10 @@ abbrev pub HandsOn : ℕ → WaitingView → WaitingView → Type 0
 HandsOn zero v v' = v' ≡ v
 HandsOn (suc k) v v' = (mid : WaitingView) × HandsFirst v mid × HandsOn k mid v'
 
+-- begins are handed on, if there are any that can begin
+abbrev pub HandsOnIf : Bool → WaitingView → WaitingView → Type 0
+HandsOnIf any v v' = (count : ℕ) × HandsOn count v v' × (any ≡ not (count == 0))
+
 -- begins are handed on after a call that set off the first of these; if any was, the call went on
 pub record HandsOnAfter (own : SetOff) (v : WaitingView) (off : SetOff) (v' : WaitingView) : Type 0 where
   pub count : ℕ

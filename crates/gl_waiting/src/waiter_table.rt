@@ -7,7 +7,7 @@ ghost use Rattle.gl_registry.specs.Rows.{name_of};
 ghost use Rattle.gl_graph.specs.Refusals.{max_count};
 ghost use Rattle.gl_waiting.specs.Ends.{EndsInTime, PlaceGoes};
 ghost use Rattle.gl_waiting.specs.Going.{Calls};
-ghost use Rattle.gl_waiting.specs.Asking.{Asks, AsksOnce, Awaits, Begins, BeginsInTurn, BeginsNext, Expires, HandsOnAfter, IsBeginAnswer, IsInTurn, LocksPath};
+ghost use Rattle.gl_waiting.specs.Asking.{Asks, AsksOnce, Awaits, Begins, BeginsInTurn, BeginsNext, Expires, HandsOnAfter, HandsOnIf, IsBeginAnswer, IsInTurn, LocksPath};
 ghost use Rattle.gl_waiting.specs.Asking.{KeepsTurns, RollsBackTo, Serves, ServesRow};
 ghost use Rattle.gl_waiting.specs.Asking.{TimesOut, TriesRowThere, TriesThere, begin_of, begin_said, is_done, is_for_instant, is_too_many};
 ghost use Rattle.gl_waiting.specs.Begins.{earliest_of, has_word, is_late, without_first};
@@ -413,23 +413,25 @@ impl WaiterTable {
         if self.begins.is_empty() {
             return own;
         }
-        self.hand_on_some(own)
+        let more = self.hand_on_some();
+        SetOff {
+            ended: own.ended,
+            went_on: own.went_on || more,
+        }
     }
 
-    /// The same if some wait. Not inlined: a call while nobody waits for a slot never gets here.
+    /// The same if some wait; it answers whether any was handed on. Not inlined: a call while nobody waits for a slot never
+    /// gets here.
     #[inline(never)]
-    fn hand_on_some(&mut self, own: SetOff) -> SetOff
-        ensures hands { HandsOnAfter own self.old result self.new }
+    fn hand_on_some(&mut self) -> bool
+        ensures hands { HandsOnIf result self.old self.new }
         ensures turn { IsInTurn self.new }
     {
-        let mut went_on = own.went_on;
+        let mut went_on = false;
         'begins: while self.next_begin() {
             went_on = true;
         }
-        SetOff {
-            ended: own.ended,
-            went_on,
-        }
+        went_on
     }
 
     /// Begins for the first who waits for a slot, and hands that on with its answer. Answers `false` if nobody waits, or

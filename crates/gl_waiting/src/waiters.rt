@@ -44,18 +44,21 @@ pub(crate) fn settle(delivery: &mut Delivery, places: &mut Places, ended: Slots)
             went_on: false,
         };
     }
-    settle_some(delivery, places, ended)
+    SetOff {
+        ended,
+        went_on: settle_some(delivery, places, ended),
+    }
 }
 
-/// The same of slots of which there are some. Not inlined: a call that ends nobody's wait never gets here.
+/// The same of slots of which there are some; it answers whether anything was carried out. Not inlined: a call that ends
+/// nobody's wait never gets here.
 #[inline(never)]
-fn settle_some(delivery: &mut Delivery, places: &mut Places, ended: Slots) -> SetOff
+fn settle_some(delivery: &mut Delivery, places: &mut Places, ended: Slots) -> bool
     requires awaits { AwaitBut (has_slot ended) (state_of delivery.old.manager) places.old }
     ensures awaits { Await (state_of delivery.new.manager) places.new }
     ensures goes { GoesOn delivery.old places.old delivery.new places.new }
     ensures low { delivery.old.manager.accepted ≤ delivery.new.manager.accepted }
-    ensures ended { result.ended ≡ ended }
-    ensures went_on { WentOn result.went_on delivery.old delivery.new }
+    ensures went_on { WentOn result delivery.old delivery.new }
 {
     let before = delivery.manager().accepted();
     let mut due = ended;
@@ -64,10 +67,7 @@ fn settle_some(delivery: &mut Delivery, places: &mut Places, ended: Slots) -> Se
         // Who went on was counted, so that this ends when the count does, if not before.
         let after = delivery.manager().accepted();
         if due.is_empty() {
-            return SetOff {
-                ended,
-                went_on: after != before,
-            };
+            return after != before;
         }
     }
 }

@@ -1,6 +1,6 @@
 use Rattle.std.proofs.Common.{Bool, subst, suc}
 use Rattle.gl_waiting.specs.Asking.{BeginsNext}
-use Rattle.gl_waiting.proofs.Turns.{hands_then, went_on_more}
+use Rattle.gl_waiting.proofs.Turns.{any_more, hands_then}
 use Rattle.gl_waiting.proofs.waiter_table.WaiterTable.hand_on_some.Goals as goal
 
 pub begins-preserved : goal.begins-preserved
@@ -11,6 +11,6 @@ begins-preserved c =
       hands = (
         suc was.0,
         hands_then was.0 c.args.self.now c.begins.self c.next_begin.new.self was.1 first,
-        went_on_more c.args.own.went_on was.0,
+        any_more was.0,
       );
     }
