@@ -178,7 +178,8 @@ impl Waiting {
         told: &mut Told,
     ) -> (RowTried, SetOff)
         requires empty { told.old.items ≡ [] }
-        ensures { InTurn self.old (λ off mid. TriesRowThere self.old (record { txn = txn; row = row; keys = keys.entry; mode = mode }) result.0 told.new.items off mid)
+        ensures { InTurn self.old (λ off mid. TriesRowThere self.old
+            (record { txn = txn; row = row; keys = keys.entry; mode = mode }) result.0 told.new.items off mid)
             result.1 self.new }
     {
         let (tried, own) = self.table.try_row(txn, row, keys, mode, told);

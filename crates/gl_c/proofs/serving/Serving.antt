@@ -99,7 +99,8 @@ module _ (g : Inside) (v : WaitingView) (run : IsRun (state_of g.waiting.manager
         → KnowsWaits (state_of after.manager) after.shown after.parties → Leaves IsCalled spares (view_of g) after
     leaves_counted IsCalled off after so called more kept shows known =
         let due : ShowsOn (is_none (known_after off.went_on (parties_in g.showing) spares)) (board_of (state_of v.manager)) (shown_in g.showing) after.shown =
-        subst (λ (o : Option Strip). ShowsOn (is_none (known_after off.went_on (parties_in g.showing) spares)) (board_of (state_of v.manager)) o after.shown) shown
+        subst (λ (o : Option Strip). ShowsOn (is_none (known_after off.went_on (parties_in g.showing) spares)) (board_of
+        (state_of v.manager)) o after.shown) shown
         (subst (λ (o : Option Slots). ShowsOn (is_none o) (board_of (state_of v.manager)) (shown_in showing) after.shown)
         (parties ∙ ap (λ (b : Bool). known_after b (parties_in g.showing) spares) (sym so)) shows) in
         record {

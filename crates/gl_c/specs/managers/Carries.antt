@@ -20,7 +20,8 @@ use Rattle.gl_c.specs.Numbers.{no_manager}
 use Rattle.gl_c.specs.answers.Replies.{served_reply, status_reply}
 use Rattle.gl_c.specs.managers.Serving.{Leaves}
 
--- a kind of call: what it does to the table of waiters, begins that are handed on by it included, whether it is known to leave all waits, by the parties to them, and what C is answered
+-- a kind of call: what it does to the table of waiters, with the begins that it hands on; whether it is known to leave all waits, by the parties to them; and
+-- what C is answered
 pub record CallOf (A : Type 0) : Type 1 where
   pub does : WaitingView → A → Told → SetOff → WaitingView → Type 0
   pub spares : A → Told → Slots → Bool

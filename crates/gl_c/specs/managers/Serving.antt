@@ -31,8 +31,8 @@ ShowsOn due board (Some before) after = (s : Strip) × (after ≡ Some s) × Goe
 abbrev pub known_after : Bool → Option Slots → (Slots → Bool) → Option Slots
 known_after went_on parties spares = if went_on then None else still_known parties spares
 
--- a call does this to the table of waiters; if it counted a command, the waits that it ended are noted; watchers are shown the snapshot after it or nothing, and
--- nothing if it is known to leave all waits; else nothing changes beside the table
+-- a call does this to the table of waiters; if it counted a command, the waits that it ended are noted; watchers are shown the snapshot after it or nothing,
+-- and nothing if it is known to leave all waits; else nothing changes beside the table
 pub record Leaves (IsCalled : SetOff → WaitingView → Type 0) (spares : Slots → Bool) (g g' : GuardedView) : Type 0 where
   pub off : SetOff
   pub called : IsCalled off (waiting_in g')

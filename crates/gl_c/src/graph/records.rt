@@ -75,7 +75,8 @@ pub extern "C" fn bs_call_rekey(
     key: u64,
     told: &mut Notices,
 ) -> Reply
-    ensures { Carries (guarded_in manager.old) (command_call (command.Rekey (txn_id txn) (node_id rec) (node_id index) key)) result told.new (guarded_in manager.new) }
+    ensures { Carries (guarded_in manager.old) (command_call (command.Rekey (txn_id txn) (node_id rec) (node_id index) key)) result told.new
+        (guarded_in manager.new) }
 {
     let command = Command::Rekey {
         txn: txn.id(),

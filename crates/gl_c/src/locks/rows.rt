@@ -30,7 +30,8 @@ pub extern "C" fn bs_call_lock_row(
     mode: u32,
     told: &mut Notices,
 ) -> Reply
-    ensures { Where (mode_at mode) (λ wanted. Carries (guarded_in manager.old) (row_call (call.Lock (txn_id txn) (row_at file number) keys.entry wanted)) result told.new (guarded_in manager.new))
+    ensures { Where (mode_at mode) (λ wanted. Carries (guarded_in manager.old) (row_call (call.Lock (txn_id txn)
+        (row_at file number) keys.entry wanted)) result told.new (guarded_in manager.new))
         (Declines (guarded_in manager.old) bad_number result (guarded_in manager.new) × Tells told.new []) }
 {
     let Some(mode) = mode_at(mode) else {
@@ -75,7 +76,8 @@ pub extern "C" fn bs_call_rekey_row(
     key: u64,
     told: &mut Notices,
 ) -> Reply
-    ensures { Carries (guarded_in manager.old) (row_call (call.Rekey (txn_id txn) (row_at file number) (node_id index) key)) result told.new (guarded_in manager.new) }
+    ensures { Carries (guarded_in manager.old) (row_call (call.Rekey (txn_id txn) (row_at file number) (node_id index) key)) result told.new
+        (guarded_in manager.new) }
 {
     let call = RowCall::Rekey {
         txn: txn.id(),

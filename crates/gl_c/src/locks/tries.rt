@@ -48,7 +48,8 @@ pub extern "C" fn bs_call_try_row(
     mode: u32,
     told: &mut Notices,
 ) -> Reply
-    ensures { Where (mode_at mode) (λ wanted. Carries (guarded_in manager.old) (tried_row_call (record { txn = txn_id txn; row = row_at file number; keys = keys.entry; mode = wanted })) result told.new (guarded_in manager.new))
+    ensures { Where (mode_at mode) (λ wanted. Carries (guarded_in manager.old) (tried_row_call
+        (record { txn = txn_id txn; row = row_at file number; keys = keys.entry; mode = wanted })) result told.new (guarded_in manager.new))
         (NamesNothing (guarded_in manager.old) result told.new (guarded_in manager.new)) }
 {
     let Some(mode) = mode_at(mode) else {

@@ -11,7 +11,8 @@ use Rattle.gl_c.proofs.graph.schema.bs_call_index_by.Goals as goal
 pub returns-in-Some : goal.returns-in-Some
 returns-in-Some c =
     under_few c.args.parents.now c.as_slice.result _ _ c.in-Some.ensures.few (c.as_slice.ensures.value ∙ c.in-Some.ensures.names)
-    (subst (λ (t : TxnId). Asks (guarded_in c.args.manager.now) (command_call (command.IndexBy t c.as_slice.result (node_id c.args.file) c.args.bounds)) c.ask.result
+    (subst (λ (t : TxnId). Asks (guarded_in c.args.manager.now) (command_call (command.IndexBy t c.as_slice.result
+    (node_id c.args.file) c.args.bounds)) c.ask.result
     (guarded_in c.ask.new.self)) c.id.ensures.is
     (subst (λ (n : NodeId). Asks (guarded_in c.args.manager.now) (command_call (command.IndexBy c.id.result c.as_slice.result n c.args.bounds)) c.ask.result
     (guarded_in c.ask.new.self)) c.id-in-Some.ensures c.ask.ensures))

@@ -12,7 +12,9 @@ use Rattle.gl_c.proofs.locks.txns.bs_call_lock.Goals as goal
 pub returns : goal.returns
 returns c =
     where_some (mode_at c.args.mode) c.in-Some.mode _ _ (sym c.mode_at.ensures ∙ c.in-Some.is)
-    (subst (λ (t : TxnId). Carries (guarded_in c.args.manager.now) (command_call (command.Lock t (node_id c.args.node) c.in-Some.mode)) c.carry_out.result c.carry_out.new.told
+    (subst (λ (t : TxnId). Carries (guarded_in c.args.manager.now) (command_call (command.Lock t
+    (node_id c.args.node) c.in-Some.mode)) c.carry_out.result c.carry_out.new.told
     (guarded_in c.carry_out.new.self)) c.id.ensures.is
-    (subst (λ (n : NodeId). Carries (guarded_in c.args.manager.now) (command_call (command.Lock c.id.result n c.in-Some.mode)) c.carry_out.result c.carry_out.new.told
+    (subst (λ (n : NodeId). Carries (guarded_in c.args.manager.now) (command_call
+    (command.Lock c.id.result n c.in-Some.mode)) c.carry_out.result c.carry_out.new.told
     (guarded_in c.carry_out.new.self)) c.id-2.ensures c.carry_out.ensures))

@@ -21,7 +21,8 @@ pub adopt_under-requires-clause-rule : goal.adopt_under-requires-clause-rule
 adopt_under-requires-clause-rule c =
     let may = may_adopt (state_of c.args.self.now) c.args.t c.args.file c.args.keys.now c.args.mode (goes_none _ _ c.in_ok-parents.ensures.refuses) in
     ap (λ ps. rule_refusal (held_of c.self.inside.table.headers c.args.t.slot) ps c.args.mode) (c.as_slice.ensures.value ∙ c.in_ok-parents.ensures.parents)
-    ∙ ap (λ (v : ManagerView). rule_refusal ((state_of v).held c.args.t.slot) (record_parents (state_of c.args.self.now).graph c.args.file c.args.keys.now) c.args.mode)
+    ∙ ap (λ (v : ManagerView). rule_refusal ((state_of v).held c.args.t.slot) (record_parents
+    (state_of c.args.self.now).graph c.args.file c.args.keys.now) c.args.mode)
     c.self.view_is
     ∙ may.rule
 

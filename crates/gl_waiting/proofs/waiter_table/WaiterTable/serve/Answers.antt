@@ -30,6 +30,9 @@ returns c =
       goes = c.settle.ensures.goes;
       went_on = c.settle.ensures.went_on;
       turns = (refl, refl);
-      nothing = nothing_counted c.self.inside.delivery c.serve-answer.new.self c.settle.new.delivery c.serve-answer.result.1 c.self.inside.places c.settle.new.places
-          c.self.inside.begins (carries_or_not c.self.inside.delivery c.serve-answer.new.self c.args.command c.serve-answer.new.told.items c.serve-answer.result.1 c.serve-answer.ensures.carries) c.settle.ensures.low c.settle.ensures.none;
+      nothing = nothing_counted c.self.inside.delivery c.serve-answer.new.self c.settle.new.delivery c.serve-answer.result.1 c.self.inside.places
+          c.settle.new.places
+          c.self.inside.begins
+          (carries_or_not c.self.inside.delivery c.serve-answer.new.self c.args.command c.serve-answer.new.told.items c.serve-answer.result.1
+          c.serve-answer.ensures.carries) c.settle.ensures.low c.settle.ensures.none;
     })

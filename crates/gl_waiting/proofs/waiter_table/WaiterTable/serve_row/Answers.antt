@@ -35,6 +35,9 @@ returns c =
       goes = c.settle.ensures.goes;
       went_on = c.settle.ensures.went_on;
       turns = (refl, refl);
-      nothing = nothing_counted c.self.inside.delivery c.serve_row-answer.new.self c.settle.new.delivery c.serve_row-answer.result.1 c.self.inside.places c.settle.new.places
-          c.self.inside.begins (carries_or_not c.self.inside.delivery c.serve_row-answer.new.self _ c.serve_row-answer.new.told.items c.serve_row-answer.result.1 served.carries) c.settle.ensures.low c.settle.ensures.none;
+      nothing = nothing_counted c.self.inside.delivery c.serve_row-answer.new.self c.settle.new.delivery c.serve_row-answer.result.1 c.self.inside.places
+          c.settle.new.places
+          c.self.inside.begins
+          (carries_or_not c.self.inside.delivery c.serve_row-answer.new.self _ c.serve_row-answer.new.told.items c.serve_row-answer.result.1 served.carries)
+          c.settle.ensures.low c.settle.ensures.none;
     })

@@ -30,6 +30,9 @@ returns c =
       goes = c.settle.ensures.goes;
       went_on = c.settle.ensures.went_on;
       turns = (refl, refl);
-      nothing = nothing_counted c.self.inside.delivery c.try_path-tried.new.self c.settle.new.delivery c.try_path-tried.result.1 c.self.inside.places c.settle.new.places
-          c.self.inside.begins (path_or_not c.args.keep c.args.txn (c.args.node, c.args.mode) c.self.inside.delivery c.try_path-tried.result.0 c.try_path-tried.new.told.items c.try_path-tried.result.1 c.try_path-tried.new.self tried.tries) c.settle.ensures.low c.settle.ensures.none;
+      nothing = nothing_counted c.self.inside.delivery c.try_path-tried.new.self c.settle.new.delivery c.try_path-tried.result.1 c.self.inside.places
+          c.settle.new.places
+          c.self.inside.begins (path_or_not c.args.keep c.args.txn
+          (c.args.node, c.args.mode) c.self.inside.delivery c.try_path-tried.result.0 c.try_path-tried.new.told.items c.try_path-tried.result.1
+          c.try_path-tried.new.self tried.tries) c.settle.ensures.low c.settle.ensures.none;
     })

@@ -33,6 +33,9 @@ returns c =
       goes = c.settle.ensures.goes;
       went_on = c.settle.ensures.went_on;
       turns = (refl, refl);
-      nothing = nothing_counted c.self.inside.delivery c.try_row-tried.new.self c.settle.new.delivery c.try_row-tried.result.1 c.self.inside.places c.settle.new.places
-          c.self.inside.begins (row_or_not wish c.self.inside.delivery c.try_row-tried.result.0 c.try_row-tried.new.told.items c.try_row-tried.result.1 c.try_row-tried.new.self tried.tries) c.settle.ensures.low c.settle.ensures.none;
+      nothing = nothing_counted c.self.inside.delivery c.try_row-tried.new.self c.settle.new.delivery c.try_row-tried.result.1 c.self.inside.places
+          c.settle.new.places
+          c.self.inside.begins
+          (row_or_not wish c.self.inside.delivery c.try_row-tried.result.0 c.try_row-tried.new.told.items c.try_row-tried.result.1 c.try_row-tried.new.self
+          tried.tries) c.settle.ensures.low c.settle.ensures.none;
     })

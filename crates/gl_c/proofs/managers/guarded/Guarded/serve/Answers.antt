@@ -27,9 +27,11 @@ invariant_of-self c =
 
 pub returns-then-accepted-before : goal.returns-then-accepted-before
 returns-then-accepted-before c =
-    subst (λ (g : GuardedView). Performs g (command_call c.args.command) c.serve-answer.result.0 c.serve-answer.new.told.items (with_waiting (view_of c.self.inside) c.serve-answer.new.self)) c.self.view_is
+    subst (λ (g : GuardedView). Performs g (command_call c.args.command) c.serve-answer.result.0 c.serve-answer.new.told.items (with_waiting
+    (view_of c.self.inside) c.serve-answer.new.self)) c.self.view_is
     (leaves_idle c.self.inside c.serve-answer.new.self (turn_run c.self.inside.waiting _ c.serve-answer.result.1 c.serve-answer.new.self c.serve-answer.ensures
-    (λ own mid h. serves_run c.self.inside.waiting c.args.command c.serve-answer.result.0 c.serve-answer.new.told.items own mid h)) c.self.invariant (same c) _ (spared_by c.args.command c.serve-answer.result.0 c.serve-answer.new.told.items) c.serve-answer.result.1
+    (λ own mid h. serves_run c.self.inside.waiting c.args.command c.serve-answer.result.0 c.serve-answer.new.told.items own mid h)) c.self.invariant
+    (same c) _ (spared_by c.args.command c.serve-answer.result.0 c.serve-answer.new.told.items) c.serve-answer.result.1
     c.serve-answer.ensures)
 
 -- some were
@@ -37,17 +39,27 @@ returns-then-accepted-before c =
 pub invariant_of-self-2 : goal.invariant_of-self-2
 invariant_of-self-2 c =
     sound_counted c.self.inside c.serve-answer.new.self (turn_run c.self.inside.waiting _ c.serve-answer.result.1 c.serve-answer.new.self c.serve-answer.ensures
-    (λ own mid h. serves_run c.self.inside.waiting c.args.command c.serve-answer.result.0 c.serve-answer.new.told.items own mid h)) c.self.invariant c.serve-answer.result.1.went_on
-    (spared_by c.args.command c.serve-answer.result.0 c.serve-answer.new.told.items) c.keep.new.showing c.keep.ensures.shown (c.keep.ensures.parties ∙ ap (λ (l : Told). known_after c.serve-answer.result.1.went_on (parties_in c.self.inside.showing) (spared_by c.args.command c.serve-answer.result.0 l)) c.as_slice.ensures.value) c.serve-answer.result.1.ended
-    (λ quiet. command_known c.self.inside.waiting (shown_in c.self.inside.showing) (parties_in c.self.inside.showing) c.self.invariant.known c.serve-answer.result.1
-    c.serve-answer.new.self quiet c.law.ensures.manager.lawful c.law.ensures.manager.few c.args.command c.serve-answer.result.0 c.serve-answer.new.told.items (turn_alone c.self.inside.waiting _ c.serve-answer.result.1 c.serve-answer.new.self c.serve-answer.ensures quiet))
+    (λ own mid h. serves_run c.self.inside.waiting c.args.command c.serve-answer.result.0 c.serve-answer.new.told.items own mid h)) c.self.invariant
+    c.serve-answer.result.1.went_on
+    (spared_by c.args.command c.serve-answer.result.0 c.serve-answer.new.told.items) c.keep.new.showing c.keep.ensures.shown (c.keep.ensures.parties ∙ ap
+    (λ (l : Told). known_after c.serve-answer.result.1.went_on (parties_in c.self.inside.showing)
+    (spared_by c.args.command c.serve-answer.result.0 l)) c.as_slice.ensures.value) c.serve-answer.result.1.ended
+    (λ quiet. command_known c.self.inside.waiting (shown_in c.self.inside.showing)
+    (parties_in c.self.inside.showing) c.self.invariant.known c.serve-answer.result.1
+    c.serve-answer.new.self quiet c.law.ensures.manager.lawful c.law.ensures.manager.few c.args.command c.serve-answer.result.0
+    c.serve-answer.new.told.items (turn_alone c.self.inside.waiting _ c.serve-answer.result.1 c.serve-answer.new.self c.serve-answer.ensures quiet))
 
 pub returns : goal.returns
 returns c =
-    subst (λ (g : GuardedView). Performs g (command_call c.args.command) c.serve-answer.result.0 c.serve-answer.new.told.items c.show_if_due.new.self) c.self.view_is
-    (leaves_counted c.self.inside c.serve-answer.new.self (turn_run c.self.inside.waiting _ c.serve-answer.result.1 c.serve-answer.new.self c.serve-answer.ensures
-    (λ own mid h. serves_run c.self.inside.waiting c.args.command c.serve-answer.result.0 c.serve-answer.new.told.items own mid h)) c.self.invariant c.serve-answer.result.1.went_on
-    (spared_by c.args.command c.serve-answer.result.0 c.serve-answer.new.told.items) c.keep.new.showing c.keep.ensures.shown (c.keep.ensures.parties ∙ ap (λ (l : Told). known_after c.serve-answer.result.1.went_on (parties_in c.self.inside.showing) (spared_by c.args.command c.serve-answer.result.0 l)) c.as_slice.ensures.value) _ c.serve-answer.result.1 c.show_if_due.new.self refl
+    subst (λ (g : GuardedView). Performs g
+    (command_call c.args.command) c.serve-answer.result.0 c.serve-answer.new.told.items c.show_if_due.new.self) c.self.view_is
+    (leaves_counted c.self.inside c.serve-answer.new.self
+    (turn_run c.self.inside.waiting _ c.serve-answer.result.1 c.serve-answer.new.self c.serve-answer.ensures
+    (λ own mid h. serves_run c.self.inside.waiting c.args.command c.serve-answer.result.0 c.serve-answer.new.told.items own mid h)) c.self.invariant
+    c.serve-answer.result.1.went_on
+    (spared_by c.args.command c.serve-answer.result.0 c.serve-answer.new.told.items) c.keep.new.showing c.keep.ensures.shown (c.keep.ensures.parties ∙ ap
+    (λ (l : Told). known_after c.serve-answer.result.1.went_on (parties_in c.self.inside.showing)
+    (spared_by c.args.command c.serve-answer.result.0 l)) c.as_slice.ensures.value) _ c.serve-answer.result.1 c.show_if_due.new.self refl
     c.serve-answer.ensures (λ is. c.if-accepted-before.false (counted_as _ _ _ c.accepted.ensures c.manager-2.ensures ∙ is
     ∙ sym (counted_as _ _ _ c.accepted-before.ensures c.manager.ensures)))
     c.show_if_due.ensures.kept c.show_if_due.ensures.shown c.show_if_due.ensures.known)

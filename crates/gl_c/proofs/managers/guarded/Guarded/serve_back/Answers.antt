@@ -22,32 +22,45 @@ same c =
 
 pub invariant_of-self : goal.invariant_of-self
 invariant_of-self c =
-    sound_idle c.self.inside c.release_since-released.new.self (turn_run c.self.inside.waiting _ c.release_since-released.result.1 c.release_since-released.new.self c.release_since-released.ensures
-    (λ own mid h. back_run c.self.inside.waiting c.args.txn c.args.mark c.release_since-released.result.0 c.release_since-released.new.told.items own mid h)) c.self.invariant (same c)
+    sound_idle c.self.inside c.release_since-released.new.self
+    (turn_run c.self.inside.waiting _ c.release_since-released.result.1 c.release_since-released.new.self c.release_since-released.ensures
+    (λ own mid h. back_run c.self.inside.waiting c.args.txn c.args.mark c.release_since-released.result.0 c.release_since-released.new.told.items own mid
+    h)) c.self.invariant (same c)
 
 pub returns-then-accepted-before : goal.returns-then-accepted-before
 returns-then-accepted-before c =
-    subst (λ (g : GuardedView). Performs g (back_call c.args.txn c.args.mark) c.release_since-released.result.0 c.release_since-released.new.told.items (with_waiting (view_of c.self.inside) c.release_since-released.new.self)) c.self.view_is
-    (leaves_idle c.self.inside c.release_since-released.new.self (turn_run c.self.inside.waiting _ c.release_since-released.result.1 c.release_since-released.new.self c.release_since-released.ensures
-    (λ own mid h. back_run c.self.inside.waiting c.args.txn c.args.mark c.release_since-released.result.0 c.release_since-released.new.told.items own mid h)) c.self.invariant (same c) _ (has_none) c.release_since-released.result.1
+    subst (λ (g : GuardedView). Performs g (back_call c.args.txn c.args.mark) c.release_since-released.result.0 c.release_since-released.new.told.items
+    (with_waiting (view_of c.self.inside) c.release_since-released.new.self)) c.self.view_is
+    (leaves_idle c.self.inside c.release_since-released.new.self
+    (turn_run c.self.inside.waiting _ c.release_since-released.result.1 c.release_since-released.new.self c.release_since-released.ensures
+    (λ own mid h. back_run c.self.inside.waiting c.args.txn c.args.mark c.release_since-released.result.0 c.release_since-released.new.told.items own mid
+    h)) c.self.invariant (same c) _ (has_none) c.release_since-released.result.1
     c.release_since-released.ensures)
 
 -- some were
 
 pub invariant_of-self-2 : goal.invariant_of-self-2
 invariant_of-self-2 c =
-    sound_counted c.self.inside c.release_since-released.new.self (turn_run c.self.inside.waiting _ c.release_since-released.result.1 c.release_since-released.new.self c.release_since-released.ensures
-    (λ own mid h. back_run c.self.inside.waiting c.args.txn c.args.mark c.release_since-released.result.0 c.release_since-released.new.told.items own mid h)) c.self.invariant c.release_since-released.result.1.went_on
+    sound_counted c.self.inside c.release_since-released.new.self
+    (turn_run c.self.inside.waiting _ c.release_since-released.result.1 c.release_since-released.new.self c.release_since-released.ensures
+    (λ own mid h. back_run c.self.inside.waiting c.args.txn c.args.mark c.release_since-released.result.0 c.release_since-released.new.told.items own mid
+    h)) c.self.invariant c.release_since-released.result.1.went_on
     (has_none) c.keep_nobody.new.showing c.keep_nobody.ensures.shown (c.keep_nobody.ensures.parties) c.release_since-released.result.1.ended
-    (λ quiet. back_knows c.self.inside.waiting (shown_in c.self.inside.showing) (parties_in c.self.inside.showing) c.self.invariant.known c.release_since-released.result.1
-    c.release_since-released.new.self quiet c.args.txn c.args.mark c.release_since-released.result.0 c.release_since-released.new.told.items (turn_alone c.self.inside.waiting _ c.release_since-released.result.1 c.release_since-released.new.self c.release_since-released.ensures quiet))
+    (λ quiet. back_knows c.self.inside.waiting (shown_in c.self.inside.showing)
+    (parties_in c.self.inside.showing) c.self.invariant.known c.release_since-released.result.1
+    c.release_since-released.new.self quiet c.args.txn c.args.mark c.release_since-released.result.0 c.release_since-released.new.told.items
+    (turn_alone c.self.inside.waiting _ c.release_since-released.result.1 c.release_since-released.new.self c.release_since-released.ensures quiet))
 
 pub returns : goal.returns
 returns c =
-    subst (λ (g : GuardedView). Performs g (back_call c.args.txn c.args.mark) c.release_since-released.result.0 c.release_since-released.new.told.items c.show_if_due.new.self) c.self.view_is
-    (leaves_counted c.self.inside c.release_since-released.new.self (turn_run c.self.inside.waiting _ c.release_since-released.result.1 c.release_since-released.new.self c.release_since-released.ensures
-    (λ own mid h. back_run c.self.inside.waiting c.args.txn c.args.mark c.release_since-released.result.0 c.release_since-released.new.told.items own mid h)) c.self.invariant c.release_since-released.result.1.went_on
-    (has_none) c.keep_nobody.new.showing c.keep_nobody.ensures.shown (c.keep_nobody.ensures.parties) _ c.release_since-released.result.1 c.show_if_due.new.self refl
+    subst (λ (g : GuardedView). Performs g
+    (back_call c.args.txn c.args.mark) c.release_since-released.result.0 c.release_since-released.new.told.items c.show_if_due.new.self) c.self.view_is
+    (leaves_counted c.self.inside c.release_since-released.new.self
+    (turn_run c.self.inside.waiting _ c.release_since-released.result.1 c.release_since-released.new.self c.release_since-released.ensures
+    (λ own mid h. back_run c.self.inside.waiting c.args.txn c.args.mark c.release_since-released.result.0 c.release_since-released.new.told.items own mid
+    h)) c.self.invariant c.release_since-released.result.1.went_on
+    (has_none) c.keep_nobody.new.showing c.keep_nobody.ensures.shown
+    (c.keep_nobody.ensures.parties) _ c.release_since-released.result.1 c.show_if_due.new.self refl
     c.release_since-released.ensures (λ is. c.if-accepted-before.false (counted_as _ _ _ c.accepted.ensures c.manager-2.ensures ∙ is
     ∙ sym (counted_as _ _ _ c.accepted-before.ensures c.manager.ensures)))
     c.show_if_due.ensures.kept c.show_if_due.ensures.shown c.show_if_due.ensures.known)

@@ -22,32 +22,54 @@ same c =
 
 pub invariant_of-self : goal.invariant_of-self
 invariant_of-self c =
-    sound_idle c.self.inside c.lock_path-reached.new.self (turn_run c.self.inside.waiting _ c.lock_path-reached.result.1 c.lock_path-reached.new.self c.lock_path-reached.ensures
-    (λ own mid h. path_run c.self.inside.waiting c.args.txn (c.args.node, c.args.mode) c.lock_path-reached.result.0 c.lock_path-reached.new.told.items own mid h)) c.self.invariant (same c)
+    sound_idle c.self.inside c.lock_path-reached.new.self
+    (turn_run c.self.inside.waiting _ c.lock_path-reached.result.1 c.lock_path-reached.new.self c.lock_path-reached.ensures
+    (λ own mid h. path_run c.self.inside.waiting c.args.txn
+    (c.args.node, c.args.mode) c.lock_path-reached.result.0 c.lock_path-reached.new.told.items own mid h)) c.self.invariant (same c)
 
 pub returns-then-accepted-before : goal.returns-then-accepted-before
 returns-then-accepted-before c =
-    subst (λ (g : GuardedView). Performs g (path_call c.args.txn (c.args.node, c.args.mode)) c.lock_path-reached.result.0 c.lock_path-reached.new.told.items (with_waiting (view_of c.self.inside) c.lock_path-reached.new.self)) c.self.view_is
-    (leaves_idle c.self.inside c.lock_path-reached.new.self (turn_run c.self.inside.waiting _ c.lock_path-reached.result.1 c.lock_path-reached.new.self c.lock_path-reached.ensures
-    (λ own mid h. path_run c.self.inside.waiting c.args.txn (c.args.node, c.args.mode) c.lock_path-reached.result.0 c.lock_path-reached.new.told.items own mid h)) c.self.invariant (same c) _ (λ known. leaves_on_path known c.args.txn c.lock_path-reached.result.0 c.lock_path-reached.new.told.items) c.lock_path-reached.result.1
+    subst (λ (g : GuardedView). Performs g (path_call c.args.txn
+    (c.args.node, c.args.mode)) c.lock_path-reached.result.0 c.lock_path-reached.new.told.items (with_waiting
+    (view_of c.self.inside) c.lock_path-reached.new.self)) c.self.view_is
+    (leaves_idle c.self.inside c.lock_path-reached.new.self
+    (turn_run c.self.inside.waiting _ c.lock_path-reached.result.1 c.lock_path-reached.new.self c.lock_path-reached.ensures
+    (λ own mid h. path_run c.self.inside.waiting c.args.txn
+    (c.args.node, c.args.mode) c.lock_path-reached.result.0 c.lock_path-reached.new.told.items own mid h)) c.self.invariant (same c) _
+    (λ known. leaves_on_path known c.args.txn c.lock_path-reached.result.0 c.lock_path-reached.new.told.items) c.lock_path-reached.result.1
     c.lock_path-reached.ensures)
 
 -- some were
 
 pub invariant_of-self-2 : goal.invariant_of-self-2
 invariant_of-self-2 c =
-    sound_counted c.self.inside c.lock_path-reached.new.self (turn_run c.self.inside.waiting _ c.lock_path-reached.result.1 c.lock_path-reached.new.self c.lock_path-reached.ensures
-    (λ own mid h. path_run c.self.inside.waiting c.args.txn (c.args.node, c.args.mode) c.lock_path-reached.result.0 c.lock_path-reached.new.told.items own mid h)) c.self.invariant c.lock_path-reached.result.1.went_on
-    (λ known. leaves_on_path known c.args.txn c.lock_path-reached.result.0 c.lock_path-reached.new.told.items) c.keep_on_path.new.showing c.keep_on_path.ensures.shown (c.keep_on_path.ensures.parties ∙ ap (λ (l : Told). known_after c.lock_path-reached.result.1.went_on (parties_in c.self.inside.showing) (λ known. leaves_on_path known c.args.txn c.lock_path-reached.result.0 l)) c.as_slice.ensures.value) c.lock_path-reached.result.1.ended
-    (λ quiet. path_knows c.self.inside.waiting (shown_in c.self.inside.showing) (parties_in c.self.inside.showing) c.self.invariant.known c.lock_path-reached.result.1
-    c.lock_path-reached.new.self quiet c.law.ensures.manager.lawful c.law.ensures.manager.few c.args.txn (c.args.node, c.args.mode) c.lock_path-reached.result.0 c.lock_path-reached.new.told.items (turn_alone c.self.inside.waiting _ c.lock_path-reached.result.1 c.lock_path-reached.new.self c.lock_path-reached.ensures quiet))
+    sound_counted c.self.inside c.lock_path-reached.new.self
+    (turn_run c.self.inside.waiting _ c.lock_path-reached.result.1 c.lock_path-reached.new.self c.lock_path-reached.ensures
+    (λ own mid h. path_run c.self.inside.waiting c.args.txn
+    (c.args.node, c.args.mode) c.lock_path-reached.result.0 c.lock_path-reached.new.told.items own mid h)) c.self.invariant c.lock_path-reached.result.1.went_on
+    (λ known. leaves_on_path known c.args.txn c.lock_path-reached.result.0 c.lock_path-reached.new.told.items) c.keep_on_path.new.showing
+    c.keep_on_path.ensures.shown (c.keep_on_path.ensures.parties ∙ ap (λ (l : Told). known_after c.lock_path-reached.result.1.went_on
+    (parties_in c.self.inside.showing)
+    (λ known. leaves_on_path known c.args.txn c.lock_path-reached.result.0 l)) c.as_slice.ensures.value) c.lock_path-reached.result.1.ended
+    (λ quiet. path_knows c.self.inside.waiting (shown_in c.self.inside.showing)
+    (parties_in c.self.inside.showing) c.self.invariant.known c.lock_path-reached.result.1
+    c.lock_path-reached.new.self quiet c.law.ensures.manager.lawful c.law.ensures.manager.few c.args.txn
+    (c.args.node, c.args.mode) c.lock_path-reached.result.0 c.lock_path-reached.new.told.items
+    (turn_alone c.self.inside.waiting _ c.lock_path-reached.result.1 c.lock_path-reached.new.self c.lock_path-reached.ensures quiet))
 
 pub returns : goal.returns
 returns c =
-    subst (λ (g : GuardedView). Performs g (path_call c.args.txn (c.args.node, c.args.mode)) c.lock_path-reached.result.0 c.lock_path-reached.new.told.items c.show_if_due.new.self) c.self.view_is
-    (leaves_counted c.self.inside c.lock_path-reached.new.self (turn_run c.self.inside.waiting _ c.lock_path-reached.result.1 c.lock_path-reached.new.self c.lock_path-reached.ensures
-    (λ own mid h. path_run c.self.inside.waiting c.args.txn (c.args.node, c.args.mode) c.lock_path-reached.result.0 c.lock_path-reached.new.told.items own mid h)) c.self.invariant c.lock_path-reached.result.1.went_on
-    (λ known. leaves_on_path known c.args.txn c.lock_path-reached.result.0 c.lock_path-reached.new.told.items) c.keep_on_path.new.showing c.keep_on_path.ensures.shown (c.keep_on_path.ensures.parties ∙ ap (λ (l : Told). known_after c.lock_path-reached.result.1.went_on (parties_in c.self.inside.showing) (λ known. leaves_on_path known c.args.txn c.lock_path-reached.result.0 l)) c.as_slice.ensures.value) _ c.lock_path-reached.result.1 c.show_if_due.new.self refl
+    subst (λ (g : GuardedView). Performs g (path_call c.args.txn
+    (c.args.node, c.args.mode)) c.lock_path-reached.result.0 c.lock_path-reached.new.told.items c.show_if_due.new.self) c.self.view_is
+    (leaves_counted c.self.inside c.lock_path-reached.new.self
+    (turn_run c.self.inside.waiting _ c.lock_path-reached.result.1 c.lock_path-reached.new.self c.lock_path-reached.ensures
+    (λ own mid h. path_run c.self.inside.waiting c.args.txn
+    (c.args.node, c.args.mode) c.lock_path-reached.result.0 c.lock_path-reached.new.told.items own mid h)) c.self.invariant c.lock_path-reached.result.1.went_on
+    (λ known. leaves_on_path known c.args.txn c.lock_path-reached.result.0 c.lock_path-reached.new.told.items) c.keep_on_path.new.showing
+    c.keep_on_path.ensures.shown (c.keep_on_path.ensures.parties ∙ ap (λ (l : Told). known_after c.lock_path-reached.result.1.went_on
+    (parties_in c.self.inside.showing)
+    (λ known. leaves_on_path known c.args.txn c.lock_path-reached.result.0 l)) c.as_slice.ensures.value) _ c.lock_path-reached.result.1
+    c.show_if_due.new.self refl
     c.lock_path-reached.ensures (λ is. c.if-accepted-before.false (counted_as _ _ _ c.accepted.ensures c.manager-2.ensures ∙ is
     ∙ sym (counted_as _ _ _ c.accepted-before.ensures c.manager.ensures)))
     c.show_if_due.ensures.kept c.show_if_due.ensures.shown c.show_if_due.ensures.known)

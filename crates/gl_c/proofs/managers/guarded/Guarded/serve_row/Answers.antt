@@ -35,33 +35,56 @@ same c =
 
 pub invariant_of-self : goal.invariant_of-self
 invariant_of-self c =
-    sound_idle c.self.inside c.serve_row-answer.new.self (turn_run c.self.inside.waiting _ c.serve_row-answer.result.1 c.serve_row-answer.new.self c.serve_row-answer.ensures
+    sound_idle c.self.inside c.serve_row-answer.new.self
+    (turn_run c.self.inside.waiting _ c.serve_row-answer.result.1 c.serve_row-answer.new.self c.serve_row-answer.ensures
     (λ own mid h. row_run c.self.inside.waiting c.args.call c.serve_row-answer.result.0 c.serve_row-answer.new.told.items own mid h)) c.self.invariant (same c)
 
 pub returns-then-accepted-before : goal.returns-then-accepted-before
 returns-then-accepted-before c =
-    subst (λ (g : GuardedView). Performs g (row_call c.args.call) c.serve_row-answer.result.0 c.serve_row-answer.new.told.items (with_waiting (view_of c.self.inside) c.serve_row-answer.new.self)) c.self.view_is
-    (leaves_idle c.self.inside c.serve_row-answer.new.self (turn_run c.self.inside.waiting _ c.serve_row-answer.result.1 c.serve_row-answer.new.self c.serve_row-answer.ensures
-    (λ own mid h. row_run c.self.inside.waiting c.args.call c.serve_row-answer.result.0 c.serve_row-answer.new.told.items own mid h)) c.self.invariant (same c) _ (spared_by (own_command unnamed c.args.call) (answer_in c.serve_row-answer.result.0) c.serve_row-answer.new.told.items) c.serve_row-answer.result.1
+    subst (λ (g : GuardedView). Performs g (row_call c.args.call) c.serve_row-answer.result.0 c.serve_row-answer.new.told.items (with_waiting
+    (view_of c.self.inside) c.serve_row-answer.new.self)) c.self.view_is
+    (leaves_idle c.self.inside c.serve_row-answer.new.self
+    (turn_run c.self.inside.waiting _ c.serve_row-answer.result.1 c.serve_row-answer.new.self c.serve_row-answer.ensures
+    (λ own mid h. row_run c.self.inside.waiting c.args.call c.serve_row-answer.result.0 c.serve_row-answer.new.told.items own mid h)) c.self.invariant
+    (same c) _ (spared_by (own_command unnamed c.args.call)
+    (answer_in c.serve_row-answer.result.0) c.serve_row-answer.new.told.items) c.serve_row-answer.result.1
     c.serve_row-answer.ensures)
 
 -- some were
 
 pub invariant_of-self-2 : goal.invariant_of-self-2
 invariant_of-self-2 c =
-    sound_counted c.self.inside c.serve_row-answer.new.self (turn_run c.self.inside.waiting _ c.serve_row-answer.result.1 c.serve_row-answer.new.self c.serve_row-answer.ensures
-    (λ own mid h. row_run c.self.inside.waiting c.args.call c.serve_row-answer.result.0 c.serve_row-answer.new.told.items own mid h)) c.self.invariant c.serve_row-answer.result.1.went_on
-    (spared_by (own_command unnamed c.args.call) (answer_in c.serve_row-answer.result.0) c.serve_row-answer.new.told.items) c.keep.new.showing c.keep.ensures.shown (noted c.serve_row-answer.result.1.went_on (parties_in c.self.inside.showing) c.args.call c.command.result (answer_in c.serve_row-answer.result.0) c.answer_of.result c.serve_row-answer.new.told.items c.as_slice.result.now (parties_in c.keep.new.showing) c.keep.ensures.parties c.command.ensures c.answer_of.ensures c.as_slice.ensures.value) c.serve_row-answer.result.1.ended
-    (λ quiet. row_knows c.self.inside.waiting (shown_in c.self.inside.showing) (parties_in c.self.inside.showing) c.self.invariant.known c.serve_row-answer.result.1
-    c.serve_row-answer.new.self quiet c.law.ensures.manager.lawful c.law.ensures.manager.few c.args.call c.serve_row-answer.result.0 c.serve_row-answer.new.told.items (turn_alone c.self.inside.waiting _ c.serve_row-answer.result.1 c.serve_row-answer.new.self c.serve_row-answer.ensures quiet) (λ is. c.if-accepted-before.false (counted_as _ _ _ c.accepted.ensures c.manager-2.ensures ∙ is
+    sound_counted c.self.inside c.serve_row-answer.new.self
+    (turn_run c.self.inside.waiting _ c.serve_row-answer.result.1 c.serve_row-answer.new.self c.serve_row-answer.ensures
+    (λ own mid h. row_run c.self.inside.waiting c.args.call c.serve_row-answer.result.0 c.serve_row-answer.new.told.items own mid h)) c.self.invariant
+    c.serve_row-answer.result.1.went_on
+    (spared_by (own_command unnamed c.args.call)
+    (answer_in c.serve_row-answer.result.0) c.serve_row-answer.new.told.items) c.keep.new.showing c.keep.ensures.shown
+    (noted c.serve_row-answer.result.1.went_on (parties_in c.self.inside.showing) c.args.call c.command.result
+    (answer_in c.serve_row-answer.result.0) c.answer_of.result c.serve_row-answer.new.told.items c.as_slice.result.now
+    (parties_in c.keep.new.showing) c.keep.ensures.parties c.command.ensures c.answer_of.ensures c.as_slice.ensures.value) c.serve_row-answer.result.1.ended
+    (λ quiet. row_knows c.self.inside.waiting (shown_in c.self.inside.showing)
+    (parties_in c.self.inside.showing) c.self.invariant.known c.serve_row-answer.result.1
+    c.serve_row-answer.new.self quiet c.law.ensures.manager.lawful c.law.ensures.manager.few c.args.call c.serve_row-answer.result.0
+    c.serve_row-answer.new.told.items
+    (turn_alone c.self.inside.waiting _ c.serve_row-answer.result.1 c.serve_row-answer.new.self c.serve_row-answer.ensures quiet)
+    (λ is. c.if-accepted-before.false (counted_as _ _ _ c.accepted.ensures c.manager-2.ensures ∙ is
     ∙ sym (counted_as _ _ _ c.accepted-before.ensures c.manager.ensures))))
 
 pub returns : goal.returns
 returns c =
-    subst (λ (g : GuardedView). Performs g (row_call c.args.call) c.serve_row-answer.result.0 c.serve_row-answer.new.told.items c.show_if_due.new.self) c.self.view_is
-    (leaves_counted c.self.inside c.serve_row-answer.new.self (turn_run c.self.inside.waiting _ c.serve_row-answer.result.1 c.serve_row-answer.new.self c.serve_row-answer.ensures
-    (λ own mid h. row_run c.self.inside.waiting c.args.call c.serve_row-answer.result.0 c.serve_row-answer.new.told.items own mid h)) c.self.invariant c.serve_row-answer.result.1.went_on
-    (spared_by (own_command unnamed c.args.call) (answer_in c.serve_row-answer.result.0) c.serve_row-answer.new.told.items) c.keep.new.showing c.keep.ensures.shown (noted c.serve_row-answer.result.1.went_on (parties_in c.self.inside.showing) c.args.call c.command.result (answer_in c.serve_row-answer.result.0) c.answer_of.result c.serve_row-answer.new.told.items c.as_slice.result.now (parties_in c.keep.new.showing) c.keep.ensures.parties c.command.ensures c.answer_of.ensures c.as_slice.ensures.value) _ c.serve_row-answer.result.1 c.show_if_due.new.self refl
+    subst (λ (g : GuardedView). Performs g
+    (row_call c.args.call) c.serve_row-answer.result.0 c.serve_row-answer.new.told.items c.show_if_due.new.self) c.self.view_is
+    (leaves_counted c.self.inside c.serve_row-answer.new.self
+    (turn_run c.self.inside.waiting _ c.serve_row-answer.result.1 c.serve_row-answer.new.self c.serve_row-answer.ensures
+    (λ own mid h. row_run c.self.inside.waiting c.args.call c.serve_row-answer.result.0 c.serve_row-answer.new.told.items own mid h)) c.self.invariant
+    c.serve_row-answer.result.1.went_on
+    (spared_by (own_command unnamed c.args.call)
+    (answer_in c.serve_row-answer.result.0) c.serve_row-answer.new.told.items) c.keep.new.showing c.keep.ensures.shown
+    (noted c.serve_row-answer.result.1.went_on (parties_in c.self.inside.showing) c.args.call c.command.result
+    (answer_in c.serve_row-answer.result.0) c.answer_of.result c.serve_row-answer.new.told.items c.as_slice.result.now
+    (parties_in c.keep.new.showing) c.keep.ensures.parties c.command.ensures c.answer_of.ensures c.as_slice.ensures.value) _ c.serve_row-answer.result.1
+    c.show_if_due.new.self refl
     c.serve_row-answer.ensures (λ is. c.if-accepted-before.false (counted_as _ _ _ c.accepted.ensures c.manager-2.ensures ∙ is
     ∙ sym (counted_as _ _ _ c.accepted-before.ensures c.manager.ensures)))
     c.show_if_due.ensures.kept c.show_if_due.ensures.shown c.show_if_due.ensures.known)

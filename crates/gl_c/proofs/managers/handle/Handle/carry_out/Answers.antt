@@ -9,5 +9,6 @@ pub returns : goal.returns
 returns c =
     let from : c.deref_mut.result.now ≡ c.in-Some.session.value = search rules in
     let to : guarded_in c.of.result ≡ Some c.carry_out-reply.new.self = search rules in
-    carried (command_call c.args.command) _ c.in-Some.session.value c.deref_mut.result.now c.carry_out-reply.new.self c.carry_out-reply.result (guarded_in c.of.result)
+    carried (command_call c.args.command) _ c.in-Some.session.value c.deref_mut.result.now c.carry_out-reply.new.self c.carry_out-reply.result
+    (guarded_in c.of.result)
     c.in-Some.ensures.taken from to c.carry_out-reply.new.notices c.carry_out-reply.ensures

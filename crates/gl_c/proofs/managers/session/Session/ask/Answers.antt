@@ -8,7 +8,8 @@ returns c =
     record {
       answer = c.serve-answer.result;
       told = c.serve-answer.new.told.items;
-      performs = subst (λ (g : GuardedView). Performs g (command_call c.args.command) c.serve-answer.result c.serve-answer.new.told.items c.serve-answer.new.self)
+      performs = subst (λ (g : GuardedView). Performs g
+          (command_call c.args.command) c.serve-answer.result c.serve-answer.new.told.items c.serve-answer.new.self)
           c.self.view_is c.serve-answer.ensures;
       replied = c.of_served.ensures;
     }

@@ -9,7 +9,8 @@ returns c =
     record {
       answer = c.serve_row-answer.result;
       told = c.serve_row-answer.new.told.items;
-      performs = subst (λ (g : GuardedView). Performs g (row_call c.args.call) c.serve_row-answer.result c.serve_row-answer.new.told.items c.serve_row-answer.new.self)
+      performs = subst (λ (g : GuardedView). Performs g
+          (row_call c.args.call) c.serve_row-answer.result c.serve_row-answer.new.told.items c.serve_row-answer.new.self)
           c.self.view_is c.serve_row-answer.ensures;
       replied = c.of_row_call.ensures;
       tells = search rules;
