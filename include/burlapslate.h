@@ -48,7 +48,7 @@
  *
  * ZERO. An option that is 0 has its default. A name that is all zero names nothing.
  *
- * STACK. Making a manager needs some 140 kilobytes of stack, any other call at most 20. With 1,024 slots it needs two
+ * STACK. Making a manager needs some 220 kilobytes of stack, any other call at most 20. With 1,024 slots it needs three
  * megabytes, and a call that reads a board or detects a deadlock 0.7: give the thread that much.
  */
 #ifndef BURLAPSLATE_H

@@ -82,7 +82,7 @@
 //! its thread, and a try of a path that keeps nothing for
 //! the nodes that it acquires.
 //!
-//! With 1,024 slots, making a manager takes two megabytes of stack, and reading a board 0.7: more than a thread has by
+//! With 1,024 slots, making a manager takes three megabytes of stack, and reading a board 0.7: more than a thread has by
 //! default ([`std::thread::Builder::stack_size`]).
 
 //!
