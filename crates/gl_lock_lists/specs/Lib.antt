@@ -1,2 +1,5 @@
+pub mod Rows
+pub mod Sound
+pub mod Lends
 pub mod Lists
 pub mod Apart

@@ -2,5 +2,8 @@
 #![tactic(auto)]
 
 mod list;
+mod node_map;
+mod rows;
 
 pub use list::{Entry, LockList};
+pub use node_map::NodeMap;

@@ -16,9 +16,9 @@ ghost use Rattle.std.specs.Map.{keys_of, lookup};
 ghost use Rattle.gl_modes.specs.Modes.{is_at_least, same_mode};
 ghost use Rattle.gl_modes.specs.Nodes.{same_node};
 
+use crate::node_map::NodeMap;
 use gl_graph::Graph;
 use gl_modes::{MOST_PARENTS, Mode, NodeId, covers};
-use gl_node_map::NodeMap;
 use indexmap::IndexMap;
 use std::alloc::{AllocError, Global};
 

@@ -1,8 +1,8 @@
 //! A list under nodes, compared with an `IndexMap`.
 
 use crate::wanted::same;
+use gl_lock_lists::NodeMap;
 use gl_modes::NodeId;
-use gl_node_map::NodeMap;
 use indexmap::IndexMap;
 use std::alloc::{AllocError, Global};
 use std::process::Abort;

@@ -1,0 +1,18 @@
+use Rattle.std.proofs.Common.{◌≡◌, ◌∙◌, ap, Some, slice_get, subst, sym}
+use Rattle.std.specs.Map.Iter.{deref_pair}
+use Rattle.std.specs.Option.{option_map}
+use Rattle.indexmap.specs.IndexMap.{index_of}
+use Rattle.gl_modes.specs.declared.node.NodeId.{NodeId}
+use Rattle.gl_modes.specs.Nodes.{same_node}
+use Rattle.gl_modes.proofs.NodeLemmas.{same_node-equal}
+use Rattle.gl_lock_lists.proofs.RowLemmas.{place_of_row}
+use Rattle.gl_lock_lists.proofs.rows.stands_at.Goals as goal
+
+pub returns-then-place-len-clause-there : goal.returns-then-place-len-clause-there
+returns-then-place-len-clause-there g c is =
+    let es = c.args.map.now.entries in
+    let row = deref_pair c.unwrap.result in
+    let at : slice_get es c.args.place ≡ Some row = sym c.get_index.ensures.entry ∙ ap (option_map deref_pair) c.unwrap.ensures in
+    subst (λ (n : NodeId). index_of same_node c.args.map.now n ≡ Some c.args.place)
+    (same_node-equal row.0 c.args.node (sym c.eq.ensures ∙ is))
+    (place_of_row es c.len.ensures.unique c.args.place row at)
