@@ -1,9 +1,9 @@
 -- What is stored beside the graph, read from the node that an id names.
 use Rattle.std.specs.Prelude.{◌≡◌, ℕ, ◌+◌, ◌<◌, ◌≤◌, Bool, true, false, ◌==◌, ◌||◌, nat_lt, nat_le, List, [], ◌∷◌, length, Option, Some, None}
-use Rattle.std.specs.Prelude.{if◌then◌else◌, cond, slice_get, count_by, ◌&&◌}
+use Rattle.std.specs.Prelude.{if◌then◌else◌, cond, slice_get, count_by, ◌&&◌, IfSome}
 use Rattle.std.specs.List.{list_any}
 use Rattle.std.specs.Borrow.{Bor}
-use Rattle.std.specs.Option.{option_copied}
+use Rattle.std.specs.Option.{option_copied, option_map}
 use Rattle.std.specs.Slice.{IsItemAt}
 use Rattle.std.proofs.lemmas.Option.{slice_get_past, slice_get_read}
 use Rattle.std.proofs.lemmas.List.Sums.{sum_by-cons}
@@ -16,11 +16,10 @@ use Rattle.gl_graph.specs.declared.node.Body.{Body}
 use Rattle.gl_graph.specs.declared.node.Body.TheVariants as body
 use Rattle.gl_graph.specs.declared.node.Node.{Node as Stored}
 use Rattle.gl_graph.specs.Shapes.{is_file_shape, is_index_shape, bounds_in}
-use Rattle.gl_graph.specs.Graph.{node_at, shape_of, shape_in, parents_in, parents_of, interval, interval_at, indexes_of}
+use Rattle.gl_graph.specs.Graph.{Graph, node_at, shape_of, shape_in, interval, interval_at, indexes_of}
 use Rattle.gl_graph.specs.Lawful.{IsRising, IsLawfulGraph}
 use Rattle.gl_graph.specs.View.{View, graph_of, node_of, record_count, Beside, Lists, due_as, due}
 use Rattle.gl_graph.specs.Seen.{shape_in_body, indexes_in_body, records_in_body, intervals_in_body, vertex_of, named_in, named, beside_in_body, Holds}
-use Rattle.gl_graph.specs.Seen.{parents_in_body}
 use Rattle.gl_graph.specs.Sound.{limits_of, view_of, IsSound}
 use Rattle.gl_graph.specs.declared.graph.Graph.TheInside.{Inside}
 use Rattle.gl_graph.proofs.Dues.{file_due, intervals_stored, span_count, span_get}
@@ -46,6 +45,21 @@ module _ (i : Inside) (sound : IsSound i) (v : View) (view : view_of i ≡ v) wh
   pub held : Holds (limits_of i) i.nodes i.births (graph_of v) (due (graph_of v))
   held = subst (λ (w : View). Holds (limits_of i) i.nodes i.births (graph_of w) (due (graph_of w))) view sound.holds
 
+  -- a look-up shows the node that the id names, and what is due beside it
+  pub node_shown : (n : NodeId) (r : Option (Bor Stored)) → option_copied r ≡ named i.nodes n
+      → option_map (λ (x : Bor Stored). node_of n.key (vertex_of x.now)) r ≡ node_at (graph_of v) n
+  node_shown n r e =
+      by r ∙ ap (seen_in n.key) e ∙ sym (node_named (limits_of i) i.nodes i.births sound.holds.apart n) ∙ ap (λ w. node_at (graph_of w) n) view
+    where
+      by : (r : Option (Bor Stored)) → option_map (λ (x : Bor Stored). node_of n.key (vertex_of x.now)) r ≡ seen_in n.key (option_copied r)
+      by None = refl
+      by (Some x) = refl
+
+  pub beside_shown : (n : NodeId) (r : Option (Bor Stored)) → option_copied r ≡ named i.nodes n
+      → IfSome r (λ x. beside_in_body x.now.body ≡ due (graph_of v) n)
+  beside_shown n None e = tt
+  beside_shown n (Some x) e = let slot = named_slot i.nodes n x.now (sym e) in beside_stored held n x.now slot.0 slot.1
+
 lists_stored : (b : Body) (is : List NodeId) (k : ℕ) → beside_in_body b ≡ Lists is k → (indexes_in_body b ≡ is) × (records_in_body b ≡ k)
 lists_stored (body.File kept above) is k e = (ap lists_in e, ap records_in e)
   where
@@ -58,64 +72,12 @@ lists_stored (body.File kept above) is k e = (ap lists_in e, ap records_in e)
     records_in _ = 0
 lists_stored _ is k e = cc
 
-module _ (i : Inside) (sound : IsSound i) (v : View) (view : view_of i ≡ v) (n : NodeId) where
-  node_missed : named i.nodes n ≡ None → node_at (graph_of v) n ≡ None
-  node_missed e = ap (λ w. node_at (graph_of w) n) (sym view) ∙ node_named (limits_of i) i.nodes i.births sound.holds.apart n ∙ ap (seen_in n.key) e
+-- what is stored beside a file
+pub indexes_found : (g : Graph) (f : NodeId) (b : Body) → beside_in_body b ≡ due g f → is_file_shape (shape_of g f) ≡ true → indexes_in_body b ≡ indexes_of g f
+indexes_found g f b e h = (lists_stored b _ _ (e ∙ file_due g f h)).0
 
-  node_found : (x : Stored) → named i.nodes n ≡ Some x → node_at (graph_of v) n ≡ Some (node_of n.key (vertex_of x))
-  node_found x e = ap (λ w. node_at (graph_of w) n) (sym view) ∙ node_named (limits_of i) i.nodes i.births sound.holds.apart n ∙ ap (seen_in n.key) e
-
-  pub shape_missed : named i.nodes n ≡ None → shape_of (graph_of v) n ≡ None
-  shape_missed e = ap shape_in (node_missed e)
-
-  pub shape_found : (x : Stored) → named i.nodes n ≡ Some x → shape_of (graph_of v) n ≡ Some (shape_in_body x.body)
-  shape_found x e = ap shape_in (node_found x e)
-
-  pub parents_missed : named i.nodes n ≡ None → parents_of (graph_of v) n ≡ []
-  parents_missed e = ap parents_in (node_missed e)
-
-  pub parents_found : (x : Stored) → named i.nodes n ≡ Some x → parents_of (graph_of v) n ≡ parents_in_body x.body
-  parents_found x e = ap parents_in (node_found x e)
-
-  pub beside_found : (x : Stored) → named i.nodes n ≡ Some x → beside_in_body x.body ≡ due (graph_of v) n
-  beside_found x e =
-      let slot = named_slot i.nodes n x e in
-      beside_stored (held i sound v view) n x slot.0 slot.1
-
-  pub indexes_found : (x : Stored) → named i.nodes n ≡ Some x → is_file_shape (shape_of (graph_of v) n) ≡ true
-      → indexes_in_body x.body ≡ indexes_of (graph_of v) n
-  indexes_found x e h = (lists_stored x.body _ _ (beside_found x e ∙ file_due (graph_of v) n h)).0
-
-  pub records_found : (x : Stored) → named i.nodes n ≡ Some x → is_file_shape (shape_of (graph_of v) n) ≡ true
-      → records_in_body x.body ≡ record_count (graph_of v) n
-  records_found x e h = (lists_stored x.body _ _ (beside_found x e ∙ file_due (graph_of v) n h)).1
-
-  pub file_not_missed : named i.nodes n ≡ None → is_file_shape (shape_of (graph_of v) n) ≡ true → ⊥
-  file_not_missed e h = no (sym (ap is_file_shape (shape_missed e)) ∙ h)
-
-  pub index_not_missed : named i.nodes n ≡ None → is_index_shape (shape_of (graph_of v) n) ≡ true → ⊥
-  index_not_missed e h = no (sym (ap is_index_shape (shape_missed e)) ∙ h)
-
-  pub bounds_found : (x : Stored) → named i.nodes n ≡ Some x → bounds_in (shape_of (graph_of v) n) ≡ bounds_in (Some (shape_in_body x.body))
-  bounds_found x e = ap bounds_in (shape_found x e)
-
-  -- an index stores its intervals at their places
-  pub record KeepsIntervals (is : List NodeId) (bounds : List ℕ) : Type 0 where
-    pub count : length is ≡ length bounds + 1
-    pub each : (place : ℕ) → place ≤ length bounds → slice_get is place ≡ Some (interval (graph_of v) n place)
-    pub rising : IsRising bounds
-
-  pub index_kept : (x : Stored) → named i.nodes n ≡ Some x → is_index_shape (shape_of (graph_of v) n) ≡ true
-      → KeepsIntervals (intervals_in_body x.body) (bounds_in (Some (shape_in_body x.body)))
-  index_kept x e h =
-      let index = index_in (shape_of (graph_of v) n) h in
-      let spans = intervals_stored x.body _ (beside_found x e ∙ ap (due_as (graph_of v) n) index.1) in
-      subst (KeepsIntervals (intervals_in_body x.body)) (bounds_found x e) (record {
-        count = ap length spans ∙ span_count (graph_of v) n 0 (length (bounds_in (shape_of (graph_of v) n)) + 1);
-        each = λ place low. ap (λ xs. slice_get xs place) spans
-            ∙ span_get (graph_of v) n 0 (length (bounds_in (shape_of (graph_of v) n)) + 1) place place (omega arith) (omega arith);
-        rising = (index_node (graph_of v) (law_of i sound v view) n index.0 (bounds_in (shape_of (graph_of v) n)) index.1).rising.1;
-      })
+pub records_found : (g : Graph) (f : NodeId) (b : Body) → beside_in_body b ≡ due g f → is_file_shape (shape_of g f) ≡ true → records_in_body b ≡ record_count g f
+records_found g f b e h = (lists_stored b _ _ (e ∙ file_due g f h)).1
 
 -- a node that is no index has no intervals
 pub no_intervals : (b : Body) → is_index_shape (Some (shape_in_body b)) ≡ false → intervals_in_body b ≡ []
@@ -134,26 +96,47 @@ any_counted p (x ∷ xs) =
     positive : (k : ℕ) → nat_lt 0 (1 + k) ≡ true
     positive k = grind (arith, nat_tests)
 
-module _ (i : Inside) (sound : IsSound i) (v : View) (view : view_of i ≡ v) (n : NodeId) where
-  -- an interval by its place
-  pub interval_found : (x : Stored) → named i.nodes n ≡ Some x → (place : ℕ) → slice_get (intervals_in_body x.body) place ≡ interval_at (graph_of v) n place
-  interval_found x e place =
-      split (is_index_shape (shape_of (graph_of v) n)) (λ t.
-      let kept = index_kept i sound v view n x e t in
-      let many : length (bounds_in (shape_of (graph_of v) n)) ≡ length (bounds_in (Some (shape_in_body x.body))) = ap length
-      (bounds_found i sound v view n x e) in
-      split (nat_le place (length (bounds_in (shape_of (graph_of v) n))))
-      (λ low. kept.each place (let l : place ≤ length (bounds_in (shape_of (graph_of v) n)) = grind (arith, nat_tests) in omega arith)
-      ∙ sym (ap₂ (λ a b. if a && b then Some (interval (graph_of v) n place) else None) t low)) (λ high. slice_get_past (intervals_in_body x.body) place
-      (let h : length (bounds_in (shape_of (graph_of v) n)) < place = grind (arith, nat_tests) in let c = kept.count in omega arith)
-      ∙ sym (ap₂ (λ a b. if a && b then Some (interval (graph_of v) n place) else None) t high))) (λ t.
-      let none = no_intervals x.body (ap is_index_shape (sym (shape_found i sound v view n x e)) ∙ t) in
-      ap (λ (is : List NodeId). slice_get is place) none
-      ∙ sym (ap (λ a. if a && nat_le place (length (bounds_in (shape_of (graph_of v) n))) then Some (interval (graph_of v) n place) else None) t))
+-- a node that is looked up, and what is due beside it
+module _ (g : Graph) (law : IsLawfulGraph g) (n : NodeId) (x : Stored) (node : Some (node_of n.key (vertex_of x)) ≡ node_at g n)
+    (beside : beside_in_body x.body ≡ due g n) where
+  pub bounds_found : bounds_in (shape_of g n) ≡ bounds_in (Some (shape_in_body x.body))
+  bounds_found = ap (λ o. bounds_in (shape_in o)) (sym node)
 
-  pub interval_missed : named i.nodes n ≡ None → (place : ℕ) → interval_at (graph_of v) n place ≡ None
-  interval_missed e place = ap (λ o. if is_index_shape o && nat_le place (length (bounds_in o)) then Some (interval (graph_of v) n place) else None)
-      (shape_missed i sound v view n e)
+  -- an index stores its intervals at their places
+  pub record KeepsIntervals (is : List NodeId) (bounds : List ℕ) : Type 0 where
+    pub count : length is ≡ length bounds + 1
+    pub each : (place : ℕ) → place ≤ length bounds → slice_get is place ≡ Some (interval g n place)
+    pub rising : IsRising bounds
+
+  pub index_kept : is_index_shape (shape_of g n) ≡ true → KeepsIntervals (intervals_in_body x.body) (bounds_in (Some (shape_in_body x.body)))
+  index_kept h =
+      let index = index_in (shape_of g n) h in
+      let spans = intervals_stored x.body _ (beside ∙ ap (due_as g n) index.1) in
+      subst (KeepsIntervals (intervals_in_body x.body)) bounds_found (record {
+        count = ap length spans ∙ span_count g n 0 (length (bounds_in (shape_of g n)) + 1);
+        each = λ place low. ap (λ xs. slice_get xs place) spans
+            ∙ span_get g n 0 (length (bounds_in (shape_of g n)) + 1) place place (omega arith) (omega arith);
+        rising = (index_node g law n index.0 (bounds_in (shape_of g n)) index.1).rising.1;
+      })
+
+  -- an interval by its place
+  pub interval_found : (place : ℕ) → slice_get (intervals_in_body x.body) place ≡ interval_at g n place
+  interval_found place =
+      split (is_index_shape (shape_of g n)) (λ t.
+      let kept = index_kept t in
+      let many : length (bounds_in (shape_of g n)) ≡ length (bounds_in (Some (shape_in_body x.body))) = ap length bounds_found in
+      split (nat_le place (length (bounds_in (shape_of g n))))
+      (λ low. kept.each place (let l : place ≤ length (bounds_in (shape_of g n)) = grind (arith, nat_tests) in omega arith)
+      ∙ sym (ap₂ (λ a b. if a && b then Some (interval g n place) else None) t low)) (λ high. slice_get_past (intervals_in_body x.body) place
+      (let h : length (bounds_in (shape_of g n)) < place = grind (arith, nat_tests) in let c = kept.count in omega arith)
+      ∙ sym (ap₂ (λ a b. if a && b then Some (interval g n place) else None) t high))) (λ t.
+      let none = no_intervals x.body (ap (λ o. is_index_shape (shape_in o)) node ∙ t) in
+      ap (λ (is : List NodeId). slice_get is place) none
+      ∙ sym (ap (λ a. if a && nat_le place (length (bounds_in (shape_of g n))) then Some (interval g n place) else None) t))
+
+pub interval_missed : (g : Graph) (n : NodeId) → None ≡ node_at g n → (place : ℕ) → None ≡ interval_at g n place
+interval_missed g n e place =
+    ap (λ o. if is_index_shape (shape_in o) && nat_le place (length (bounds_in (shape_in o))) then Some (interval g n place) else None) e
 
 -- what is lent at a place is the element there
 pub item_copied : {A : Type 0} (xs : List A) (i : ℕ) (r : Option (Bor A)) → IsItemAt xs i r → option_copied r ≡ slice_get xs i

@@ -1,6 +1,7 @@
 //! The nodes of a lock graph. Keys are reused; births are not.
 
-ghost use Rattle.std.specs.Prelude.{◌≡◌, ◌≢◌, ◌≤◌, ◌^◌, ℕ, true, Option, None, slice_get};
+ghost use Rattle.std.specs.Prelude.{◌≡◌, ◌≢◌, ◌≤◌, ◌^◌, ℕ, true, IfSome, Option, None, slice_get};
+ghost use Rattle.std.specs.Option.{option_map};
 ghost use Rattle.gl_graph.specs.Shapes.{
   bounds_in,
   file_in,
@@ -15,13 +16,15 @@ ghost use Rattle.gl_graph.specs.Graph.{
   indexes_of,
   interval_at,
   interval_of,
+  node_at,
   node_count,
   parents_of,
   shape_of,
 };
 ghost use Rattle.gl_graph.specs.Lawful.{IsLawfulGraph};
 ghost use Rattle.gl_graph.specs.Refusals.{births_worn, has_records};
-ghost use Rattle.gl_graph.specs.View.{graph_of, record_count};
+ghost use Rattle.gl_graph.specs.Seen.{beside_in_body, vertex_of};
+ghost use Rattle.gl_graph.specs.View.{due, graph_of, node_of, record_count};
 
 use gl_modes::NodeId;
 use slab::Slab;
@@ -142,11 +145,21 @@ impl Graph {
         self.nodes.vacant_key()
     }
 
+    /// The node that the id names.
+    #[inline]
+    fn node(&self, n: NodeId) -> Option<&Node>
+        ensures node { option_map (λ x. node_of n.key (vertex_of x.now)) result ≡ node_at (graph_of self.now) n }
+        ensures beside { IfSome result (λ x. beside_in_body x.now.body ≡ due (graph_of self.now) n) }
+        ensures lawful { IsLawfulGraph (graph_of self.now) }
+    {
+        find(&self.nodes, n)
+    }
+
     /// The kind of the node; `None` if the id names none.
     pub fn kind(&self, n: NodeId) -> Option<Kind>
         ensures { result ≡ kind_in (shape_of (graph_of self.now) n) }
     {
-        match find(&self.nodes, n) {
+        match self.node(n) {
             Some(node) => Some(node.body.kind()),
             None => None,
         }
@@ -156,7 +169,7 @@ impl Graph {
     pub fn parents(&self, n: NodeId) -> &[NodeId]
         ensures { result.now ≡ parents_of (graph_of self.now) n }
     {
-        match find(&self.nodes, n) {
+        match self.node(n) {
             Some(node) => node.body.parents(),
             None => &[],
         }
@@ -166,7 +179,7 @@ impl Graph {
     pub fn keys(&self, rec: NodeId) -> &[u64]
         ensures { result.now ≡ keys_in (shape_of (graph_of self.now) rec) }
     {
-        match find(&self.nodes, rec) {
+        match self.node(rec) {
             Some(node) => node.body.keys(),
             None => &[],
         }
@@ -177,7 +190,7 @@ impl Graph {
         requires { is_file_shape (shape_of (graph_of self.now) file) ≡ true }
         ensures { result.now ≡ indexes_of (graph_of self.now) file }
     {
-        match find(&self.nodes, file) {
+        match self.node(file) {
             Some(node) => node.body.indexes(),
             None => &[],
         }
@@ -196,7 +209,7 @@ impl Graph {
     pub fn is_adopted(&self, file: NodeId) -> bool
         ensures { result ≡ is_adopted (shape_of (graph_of self.now) file) }
     {
-        match find(&self.nodes, file) {
+        match self.node(file) {
             Some(node) => node.body.is_adopted(),
             None => false,
         }
@@ -207,7 +220,7 @@ impl Graph {
         requires { is_file_shape (shape_of (graph_of self.now) file) ≡ true }
         ensures { result ≡ record_count (graph_of self.now) file }
     {
-        match find(&self.nodes, file) {
+        match self.node(file) {
             Some(node) => node.body.records(),
             None => 0,
         }
@@ -217,7 +230,7 @@ impl Graph {
     pub fn interval(&self, index: NodeId, place: usize) -> Option<NodeId>
         ensures { result ≡ interval_at (graph_of self.now) index place }
     {
-        match find(&self.nodes, index) {
+        match self.node(index) {
             Some(node) => node.body.intervals().get(place).copied(),
             None => None,
         }
@@ -227,7 +240,7 @@ impl Graph {
     pub fn file_of_index(&self, index: NodeId) -> Option<NodeId>
         ensures { result ≡ file_in (shape_of (graph_of self.now) index) }
     {
-        match find(&self.nodes, index) {
+        match self.node(index) {
             Some(node) => node.body.file(),
             None => None,
         }
@@ -237,7 +250,7 @@ impl Graph {
     pub fn intervals(&self, index: NodeId) -> &[NodeId]
         ensures { (place : ℕ) → slice_get result.now place ≡ interval_at (graph_of self.now) index place }
     {
-        match find(&self.nodes, index) {
+        match self.node(index) {
             Some(node) => node.body.intervals(),
             None => &[],
         }
@@ -248,7 +261,7 @@ impl Graph {
     pub fn bounds(&self, index: NodeId) -> &[u64]
         ensures { result.now ≡ bounds_in (shape_of (graph_of self.now) index) }
     {
-        match find(&self.nodes, index) {
+        match self.node(index) {
             Some(node) => node.body.bounds(),
             None => &[],
         }
@@ -258,7 +271,7 @@ impl Graph {
     pub fn place(&self, n: NodeId) -> Option<usize>
         ensures { result ≡ place_in (shape_of (graph_of self.now) n) }
     {
-        match find(&self.nodes, n) {
+        match self.node(n) {
             Some(node) => node.body.place(),
             None => None,
         }
@@ -269,7 +282,7 @@ impl Graph {
         requires { is_index_shape (shape_of (graph_of self.now) index) ≡ true }
         ensures { result ≡ interval_of (graph_of self.now) index key }
     {
-        let Some(node) = find(&self.nodes, index) else {
+        let Some(node) = self.node(index) else {
             unreachable!()
         };
         node.body.intervals()[interval_place(node.body.bounds(), key)]

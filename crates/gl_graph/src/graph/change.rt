@@ -19,7 +19,7 @@ use super::Graph;
 use crate::kind::Kind;
 use crate::node::{Body, Node};
 use crate::store::{
-    count_down, find, remove_all, unlist_index, write_adopted, write_key, write_records,
+    count_down, remove_all, unlist_index, write_adopted, write_key, write_records,
 };
 use gl_modes::NodeId;
 
@@ -36,7 +36,7 @@ impl Graph {
     pub fn is_in_use(&self, n: NodeId) -> bool
         ensures { result ≡ is_in_use (graph_of self.now) n }
     {
-        let Some(node) = find(&self.nodes, n) else {
+        let Some(node) = self.node(n) else {
             return false;
         };
         match &node.body {

@@ -8,7 +8,6 @@ ghost use Rattle.gl_graph.specs.View.{graph_of};
 
 use super::Graph;
 use crate::kind::Kind;
-use crate::store::find;
 use gl_modes::NodeId;
 
 impl Graph {
@@ -18,7 +17,7 @@ impl Graph {
         ensures kind { option_map (λ p. p.0) result ≡ kind_in (shape_of (graph_of self.now) n) }
         ensures parents { IfSome result (λ p. p.1.now ≡ parents_of (graph_of self.now) n) }
     {
-        match find(&self.nodes, n) {
+        match self.node(n) {
             Some(node) => Some((node.body.kind(), node.body.parents())),
             None => None,
         }

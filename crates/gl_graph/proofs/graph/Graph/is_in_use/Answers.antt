@@ -4,28 +4,26 @@ use Rattle.std.proofs.lemmas.Bool.Decides.{nat_tests}
 use Rattle.gl_graph.specs.declared.node.FileBody.{FileBody}
 use Rattle.gl_graph.specs.declared.node.IndexBody.{IndexBody}
 use Rattle.gl_graph.specs.Shapes.{is_file_shape}
-use Rattle.gl_graph.specs.Graph.{shape_of}
+use Rattle.gl_graph.specs.Graph.{shape_in, shape_of}
 use Rattle.gl_graph.specs.Refusals.{has_records, is_shape_in_use}
 use Rattle.gl_graph.specs.View.{graph_of}
-use Rattle.gl_graph.proofs.Beside.{shape_missed}
 use Rattle.gl_graph.proofs.InUse.{inner_in_use, file_in_use, index_file, index_in_use, other_in_use}
 use Rattle.gl_graph.proofs.graph.Graph.is_in_use.Goals as goal
 
 pub returns-in_default : goal.returns-in_default
 returns-in_default c =
-    sym (ap (is_shape_in_use (graph_of c.args.self.now) c.args.n) (shape_missed c.self.inside c.self.invariant c.args.self.now c.self.view_is c.args.n
-    (sym c.in_default.ensures)))
+    ap (λ o. is_shape_in_use (graph_of c.args.self.now) c.args.n (shape_in o)) c.in_default.ensures.node
 
 pub returns-in-Inner : goal.returns-in-Inner
 returns-in-Inner c =
-    sym (inner_in_use c.self.inside c.self.invariant c.args.self.now c.self.view_is c.args.n
-    c.in-Some.node.now (sym c.in-Some.ensures) c.in-Inner.children _ c.in-Inner.is)
+    sym (inner_in_use (graph_of c.args.self.now) c.node.ensures.lawful c.args.n
+    c.in-Some.node.now c.in-Some.ensures.node c.in-Some.ensures.beside c.in-Inner.children _ c.in-Inner.is)
 
 pub has_records-requires : goal.has_records-requires
 has_records-requires c =
     ap (λ (b : IndexBody). is_file_shape (shape_of (graph_of c.args.self.now) b.file)) c.deref-in-Index.ensures
-    ∙ index_file c.self.inside c.self.invariant c.args.self.now c.self.view_is c.args.n
-    c.in-Some.node.now (sym c.in-Some.ensures) _ c.in-Index.kept c.in-Index.is
+    ∙ index_file (graph_of c.args.self.now) c.node.ensures.lawful c.args.n
+    c.in-Some.node.now c.in-Some.ensures.node c.in-Some.ensures.beside _ c.in-Index.kept c.in-Index.is
 
 pub returns-then-deref-gt0 : goal.returns-then-deref-gt0
 returns-then-deref-gt0 c =
@@ -33,8 +31,8 @@ returns-then-deref-gt0 c =
     let more = c.if-deref-gt0.true in
     let test : nat_lt 0 c.deref.result.now.records ≡ true = grind (arith, nat_tests) in
     test
-    ∙ sym (file_in_use c.self.inside c.self.invariant c.args.self.now c.self.view_is c.args.n
-    c.in-Some.node.now (sym c.in-Some.ensures) _ c.in-File.kept c.in-File.is
+    ∙ sym (file_in_use (graph_of c.args.self.now) c.node.ensures.lawful c.args.n
+    c.in-Some.node.now c.in-Some.ensures.node c.in-Some.ensures.beside _ c.in-File.kept c.in-File.is
     ∙ ap (λ b. b || nat_lt 0 (length c.in-File.kept.value.indexes.items)) (sym is ∙ test))
 
 some_listed : (k : ℕ) → not (k == 0) ≡ nat_lt 0 k
@@ -48,18 +46,18 @@ returns-else-deref-gt0 c =
     let test : nat_lt 0 c.deref.result.now.records ≡ false = grind (arith, nat_tests) in
     ap not (c.is_empty.ensures ∙ ap (λ (b : FileBody). length b.indexes.items == 0) c.deref-else-deref-gt0.ensures)
     ∙ some_listed (length c.in-File.kept.value.indexes.items)
-    ∙ sym (file_in_use c.self.inside c.self.invariant c.args.self.now c.self.view_is c.args.n
-    c.in-Some.node.now (sym c.in-Some.ensures) _ c.in-File.kept c.in-File.is
+    ∙ sym (file_in_use (graph_of c.args.self.now) c.node.ensures.lawful c.args.n
+    c.in-Some.node.now c.in-Some.ensures.node c.in-Some.ensures.beside _ c.in-File.kept c.in-File.is
     ∙ ap (λ b. b || nat_lt 0 (length c.in-File.kept.value.indexes.items)) (sym is ∙ test))
 
 pub returns-in-Index : goal.returns-in-Index
 returns-in-Index c =
     c.has_records.ensures
     ∙ ap (λ (b : IndexBody). has_records (graph_of c.args.self.now) b.file) c.deref-in-Index.ensures
-    ∙ sym (index_in_use c.self.inside c.self.invariant c.args.self.now c.self.view_is c.args.n
-    c.in-Some.node.now (sym c.in-Some.ensures) _ c.in-Index.kept c.in-Index.is)
+    ∙ sym (index_in_use (graph_of c.args.self.now) c.node.ensures.lawful c.args.n
+    c.in-Some.node.now c.in-Some.ensures.node c.in-Some.ensures.beside _ c.in-Index.kept c.in-Index.is)
 
 pub returns-in_default-body : goal.returns-in_default-body
 returns-in_default-body c =
-    sym (other_in_use c.self.inside c.self.invariant c.args.self.now c.self.view_is c.args.n
-    c.in-Some.node.now (sym c.in-Some.ensures) c.in_default-body.not-Inner c.in_default-body.not-File c.in_default-body.not-Index)
+    sym (other_in_use (graph_of c.args.self.now) c.node.ensures.lawful c.args.n
+    c.in-Some.node.now c.in-Some.ensures.node c.in-Some.ensures.beside c.in_default-body.not-Inner c.in_default-body.not-File c.in_default-body.not-Index)
