@@ -16,9 +16,9 @@ use Rattle.gl_graph.specs.Lawful.{IsLawfulGraph, AreInnerParents}
 use Rattle.gl_graph.specs.Changes.{born_node, IsBorn}
 use Rattle.gl_graph.specs.View.{graph_of, node_of, record_count, children_of, Beside, Counts, Lists, Nothing, due_as, due}
 use Rattle.gl_graph.specs.Seen.{Limits, vertex_of, seen, shape_in_body, parents_in_body, body_with_records, IsPlainBody, beside_in_body, Holds, AreSound}
-use Rattle.gl_graph.specs.Grown.{AreStored, AreRecounted, EachKeeps}
+use Rattle.gl_graph.specs.Grown.{AreRecounted}
 use Rattle.gl_graph.proofs.Born.{new_node, old_below, old_same}
-use Rattle.gl_graph.proofs.Counted.{are_stored, each_keeps, counted_in, counts_written}
+use Rattle.gl_graph.proofs.Counted.{AreKept, are_kept, counted_in, counts_written}
 use Rattle.gl_graph.proofs.Counts.{dead_records, dead_indexes}
 use Rattle.gl_graph.proofs.Dues.{record_test, inner_due, file_due, record_due, no_inner_among, not_among, children_fit, dead_children, children_born}
 use Rattle.gl_graph.proofs.Dues.{records_born, born_same, due_old, one_more}
@@ -107,18 +107,15 @@ module _ {limits : Limits} {old mid : Slab Stored} {births : ℕ} {g : Graph} (h
     inner' : AreInnerParents after 0 ps
     inner' = parents_kept g after law (born_same g law node no_index) 0 ps inner
 
-    pub plain_stored : AreStored mid ps
-    plain_stored = are_stored added law' ps inner'.inner inner'.distinct
-
     not_mine : list_any (same_node id) ps ≡ false
     not_mine = not_among g ps id inner.inner not_live
 
     other : (n : NodeId) → is_live g n ≡ true → same_node n id ≡ false
     other n live = not_true _ (λ t. no (sym not_live ∙ ap (is_live g) (sym (same_node-equal n id t)) ∙ live))
 
-    pub plain_room : EachKeeps (λ children. children + 1 < 2 ^ 64) mid ps
-    plain_room =
-        each_keeps added law' ps inner'.inner inner'.distinct (λ children. children + 1 < 2 ^ 64)
+    pub plain_kept : AreKept (λ children. children + 1 < 2 ^ 64) mid ps
+    plain_kept =
+        are_kept added law' ps inner'.inner inner'.distinct (λ children. children + 1 < 2 ^ 64)
         (λ n listed is. let was = all_at (λ q. is_inner_shape (shape_of g q)) ps n listed inner.inner in
         subst (λ b. counted_in b + 1 < 2 ^ 64)
         (sym (put_other id (beside_in_body x.body) (due g) n (other n (plain_live g n (inner_plain _ was))) ∙ inner_due g n was)) (children_fit g law n))

@@ -68,13 +68,17 @@ place_of (m ∷ ids) n h =
     or_elim (same_node n m) (list_any (same_node n) ids) h (λ here. (0, ap Some (sym (same_node-equal n m here))))
     (λ there. let f = place_of ids n there in (suc f.0, f.1))
 
+-- these nodes are stored under different keys, each with such a number of children
+pub record AreKept (Such : ℕ → Type 0) (nodes : Slab Stored) (ids : List NodeId) : Type 0 where
+  pub stored : AreStored nodes ids
+  pub each : EachKeeps Such nodes ids
+
 module _ {limits : Limits} {mid : Slab Stored} {births : ℕ} {g : Graph} {beside : NodeId → Beside} (h : Holds limits mid births g beside)
     (law : IsLawfulGraph g) (ids : List NodeId) (inner : are_inner g ids ≡ true) (distinct : are_distinct ids ≡ true) where
   live_at : (place : ℕ) (n : NodeId) → slice_get ids place ≡ Some n → is_live g n ≡ true
   live_at place n at = plain_live g n (inner_plain _ (all_at (λ q. is_inner_shape (shape_of g q)) ids n (listed_at ids place n at) inner))
 
-  -- they are stored under different keys
-  pub are_stored : AreStored mid ids
+  are_stored : AreStored mid ids
   are_stored = record {
     there = λ place n at. ap is_some (live_held h n (live_at place n at)).there;
     apart = λ place other m n at at' same.
@@ -84,14 +88,17 @@ module _ {limits : Limits} {mid : Slab Stored} {births : ℕ} {g : Graph} {besid
         ∙ sym (get_or_from_slice_get ids other n (record { key = 0; birth = 0 }) at'));
   }
 
-  pub each_keeps : (Such : ℕ → Type 0)
-      → ((n : NodeId) → list_any (same_node n) ids ≡ true → is_inner_shape (shape_of g n) ≡ true → Such (counted_in (beside n))) → EachKeeps Such mid ids
-  each_keeps Such such place n x at e =
-      let y = live_held h n (live_at place n at) in
-      let same : y.stored ≡ x = some_is (sym y.there ∙ e) in
-      let listed = listed_at ids place n at in
-      subst Such (sym (ap (λ (z : Stored). children_in_body z.body) (sym same) ∙ children_stored y.stored.body ∙ ap counted_in y.kept))
-      (such n listed (all_at (λ q. is_inner_shape (shape_of g q)) ids n listed inner))
+  pub are_kept : (Such : ℕ → Type 0)
+      → ((n : NodeId) → list_any (same_node n) ids ≡ true → is_inner_shape (shape_of g n) ≡ true → Such (counted_in (beside n))) → AreKept Such mid ids
+  are_kept Such such = record {
+    stored = are_stored;
+    each = λ place n x at e.
+        let y = live_held h n (live_at place n at) in
+        let same : y.stored ≡ x = some_is (sym y.there ∙ e) in
+        let listed = listed_at ids place n at in
+        subst Such (sym (ap (λ (z : Stored). children_in_body z.body) (sym same) ∙ children_stored y.stored.body ∙ ap counted_in y.kept))
+        (such n listed (all_at (λ q. is_inner_shape (shape_of g q)) ids n listed inner));
+  }
 
   module _ (fresh : ℕ → ℕ) (new : Slab Stored) (re : AreRecounted fresh mid new ids (length ids)) where
     -- a slot that is counted anew has one of these nodes
@@ -157,9 +164,15 @@ module _ (fresh : ℕ → ℕ) (old mid : Slab Stored) (ids : List NodeId) (coun
   pub next_stored : is_some (get mid n.key) ≡ true
   next_stored = ap is_some next_same ∙ stored.there count n at
 
-  module _ (new : Slab Stored) (len : slab_len new ≡ slab_len mid)
-      (write : (x : Stored) → get old n.key ≡ Some x
-      → Updates mid new n.key (Some (record x { body = body_with_children x.body (fresh (children_in_body x.body)) }))) where
+  module _ (y : Stored) (there : get mid n.key ≡ Some y) (children : ℕ) (read : children ≡ children_in_body y.body) (new : Slab Stored)
+      (len : slab_len new ≡ slab_len mid) (written : (x : Stored) → get mid n.key ≡ Some x
+      → Updates mid new n.key (Some (record x { body = body_with_children x.body (fresh children) }))) where
+    write : (x : Stored) → get old n.key ≡ Some x
+        → Updates mid new n.key (Some (record x { body = body_with_children x.body (fresh (children_in_body x.body)) }))
+    write x e =
+        let count : children ≡ children_in_body x.body = read ∙ ap (λ (z : Stored). children_in_body z.body) (some_is (sym there ∙ next_same ∙ e)) in
+        subst (λ k. Updates mid new n.key (Some (record x { body = body_with_children x.body (fresh k) }))) count (written x (next_same ∙ e))
+
     pub recounted_more : AreRecounted fresh old new ids (count + 1)
     recounted_more = record {
       counted = λ place m x low there e. split (place == count)

@@ -22,12 +22,12 @@ use Rattle.gl_graph.specs.View.{View, graph_of, node_of, record_count, children_
 use Rattle.gl_graph.specs.Seen.{Limits, vertex_of, seen, shape_in_body, parents_in_body, body_with_intervals, body_with_indexes, beside_in_body, Holds}
 use Rattle.gl_graph.specs.Seen.{AreSound}
 use Rattle.gl_graph.specs.Seen.{AreBornApart, AreBornWithin}
-use Rattle.gl_graph.specs.Grown.{ids_of, AreIntervalsBorn, AreStored, AreRecounted, EachKeeps}
+use Rattle.gl_graph.specs.Grown.{ids_of, AreIntervalsBorn, AreRecounted}
 use Rattle.gl_graph.specs.Sound.{limits_of, view_of, IsSound}
 use Rattle.gl_graph.specs.declared.graph.Graph.TheInside.{Inside}
 use Rattle.gl_graph.proofs.Beside.{held}
 use Rattle.gl_graph.proofs.Born.{old_same, old_or_new, place_in, new_id, new_not_old, old_below}
-use Rattle.gl_graph.proofs.Counted.{are_stored, each_keeps, counted_in, counts_written}
+use Rattle.gl_graph.proofs.Counted.{AreKept, are_kept, counted_in, counts_written}
 use Rattle.gl_graph.proofs.Counts.{count_cons, count_grown}
 use Rattle.gl_graph.proofs.Dues.{child_test, record_test, inner_due, file_due, intervals_same, due_stays, children_fit, one_more}
 use Rattle.gl_graph.proofs.Held.{put, put_here, put_other, IsStored, live_held, births_held, within_held, beside_written, node_added, key_free, sound_held}
@@ -278,12 +278,9 @@ module _ {limits : Limits} {old mid : Slab Stored} {births : ℕ} {g : Graph} (h
             no_inner (Some (File adopted)) k = refl
             no_inner _ k = absurd (no k)
 
-        pub index_stored : AreStored fourth ps
-        index_stored = are_stored listed lawful ps inner.inner inner.distinct
-
-        pub index_room : EachKeeps (λ children. children + 1 < 2 ^ 64) fourth ps
-        index_room =
-            each_keeps listed lawful ps inner.inner inner.distinct (λ children. children + 1 < 2 ^ 64)
+        pub index_parents : AreKept (λ children. children + 1 < 2 ^ 64) fourth ps
+        index_parents =
+            are_kept listed lawful ps inner.inner inner.distinct (λ children. children + 1 < 2 ^ 64)
             (λ m listed' i. let was = all_at (λ q. is_inner_shape (shape_of g q)) ps m listed' may.inner.inner in
             subst (λ b. counted_in b + 1 < 2 ^ 64) (sym (still m (plain_live g m (inner_plain _ was)) (inner_other m was) ∙ inner_due g m was))
             (children_fit g law m))

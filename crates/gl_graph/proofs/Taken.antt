@@ -25,12 +25,12 @@ use Rattle.gl_graph.specs.Refusals.{is_in_use}
 use Rattle.gl_graph.specs.View.{graph_of, record_count, children_of, intervals_from, Beside, Lists, due_as, due}
 use Rattle.gl_graph.specs.Seen.{Limits, seen, shape_in_body, parents_in_body, intervals_in_body, body_with_records, body_without_index}
 use Rattle.gl_graph.specs.Seen.{beside_in_body, AreBornApart, Holds, AreSound}
-use Rattle.gl_graph.specs.Grown.{AreStored, AreGone, AreRecounted, EachKeeps}
+use Rattle.gl_graph.specs.Grown.{AreStored, AreGone, AreRecounted}
 use Rattle.gl_graph.proofs.Added.{records_written}
 use Rattle.gl_graph.proofs.Branch.{left, gone, gone_is, at_gone, at_beside, left_is, left_shape, left_birth, live, interval_count, is_interval_shape}
 use Rattle.gl_graph.proofs.Branch.{movable_no_interval, no_interval_file, no_branch, left_lawful, count_left, other_indexes, indexes_left, records_left}
 use Rattle.gl_graph.proofs.Branch.{interval_stays, children_are, child_interval, interval_child, inner_left}
-use Rattle.gl_graph.proofs.Counted.{are_stored, each_keeps, counted_in, counts_written}
+use Rattle.gl_graph.proofs.Counted.{AreKept, are_kept, counted_in, counts_written}
 use Rattle.gl_graph.proofs.Dues.{child_test, record_test, inner_due, file_due, record_fixed, no_inner_parent, intervals_same, due_stays, count_without}
 use Rattle.gl_graph.proofs.Dues.{span_get}
 use Rattle.gl_graph.proofs.Dues.{span_count, intervals_stored, some_child, own_parents, not_its_own, one_less}
@@ -70,8 +70,11 @@ module _ {limits : Limits} {old : Slab Stored} {births : ℕ} {g : Graph} (h : H
   records_less f k =
       Rattle.gl_graph.proofs.Dues.count_left g law (record_test f) refl r rec_lives ∙ ap (λ b. record_count rest f + ones b) (record_of_file g law r rec f k)
 
-  pub counted_there : record_count g file ≡ record_count rest file + 1
+  counted_there : record_count g file ≡ record_count rest file + 1
   counted_there = records_less file file_is ∙ ap (λ b. record_count rest file + ones b) (same_node-refl file)
+
+  pub some_record : (n : NodeId) → n ≡ file → 1 ≤ record_count g n
+  some_record n is_its = let c = counted_there in let same = ap (record_count g) is_its in omega arith
 
   module _ {mid : Slab Stored} (u : Updates old mid r.key None) (len : slab_len mid + 1 ≡ slab_len old) where
     file_there : get mid file.key ≡ Some slot.stored
@@ -84,12 +87,19 @@ module _ {limits : Limits} {old : Slab Stored} {births : ℕ} {g : Graph} (h : H
         no_file (Some (Rattle.gl_graph.specs.Shapes.File adopted)) k = absurd (no k)
         no_file _ k = refl
 
-    pub file_contained : ContainsKey mid file.key
-    file_contained = ap is_some file_there
+    pub file_contained : (n : NodeId) → n ≡ file → ContainsKey mid n.key
+    file_contained n is_its = ap (λ (m : NodeId). is_some (get mid m.key)) is_its ∙ ap is_some file_there
 
-    module _ (records : ℕ) (count : records + 1 ≡ record_count g file) (new : Slab Stored)
-        (write : (y : Stored) → get mid file.key ≡ Some y → Updates mid new file.key (Some (record y { body = body_with_records y.body records })))
-        (len' : slab_len new ≡ slab_len mid) where
+    module _ (named : NodeId) (is_its : named ≡ file) (all : ℕ) (count : all ≡ record_count g named) (new : Slab Stored)
+        (written_as : (y : Stored) → get mid named.key ≡ Some y
+        → Updates mid new named.key (Some (record y { body = body_with_records y.body (all - 1) }))) (len' : slab_len new ≡ slab_len mid) where
+      abbrev records : ℕ
+      records = all - 1
+
+      write : (y : Stored) → get mid file.key ≡ Some y → Updates mid new file.key (Some (record y { body = body_with_records y.body records }))
+      write = subst (λ (n : NodeId). (y : Stored) → get mid n.key ≡ Some y
+          → Updates mid new n.key (Some (record y { body = body_with_records y.body records }))) is_its written_as
+
       written : Holds limits new births rest (put file (beside_in_body (body_with_records slot.stored.body records)) (due g))
       written =
           beside_written (node_removed h law r rec_lives u len) file slot.stored
@@ -105,7 +115,7 @@ module _ {limits : Limits} {old : Slab Stored} {births : ℕ} {g : Graph} (h : H
       due_file : is_live rest file ≡ true → beside_in_body (body_with_records slot.stored.body records) ≡ due rest file
       due_file alive =
           records_written slot.stored.body (indexes_of g file) (record_count g file) records (slot.kept ∙ file_due g file file_is)
-          ∙ ap₂ Lists (sym (Rattle.gl_graph.proofs.Removed.indexes_left g law r rec file)) (let c = counted_there in omega arith)
+          ∙ ap₂ Lists (sym (Rattle.gl_graph.proofs.Removed.indexes_left g law r rec file)) (let c = counted_there in let was = count ∙ ap (record_count g) is_its in omega arith)
           ∙ sym (file_due rest file (ap (λ o. is_file_shape (shape_in o)) (stays file alive) ∙ file_is))
 
       pub removed_sound : AreSound limits new births
@@ -176,13 +186,11 @@ module _ {limits : Limits} {old : Slab Stored} {births : ℕ} {g : Graph} (h : H
       (λ i bs e place low. (interval_stays g law n movable free m i bs e (not_gone m alive) place low).1)
 
   -- the node is gone, and its parents are counted down
-  module _ (x : Stored) (there : get old n.key ≡ Some x) (s : Slab Stored) (beside : NodeId → Beside) (now : Holds limits s births (left g n) beside)
+  module _ (x : Stored) (there : get old n.key ≡ Some x) (ps : List NodeId) (ps_are : ps ≡ parents_in_body x.body) (s : Slab Stored)
+      (beside : NodeId → Beside) (now : Holds limits s births (left g n) beside)
       (inner_same : (m : NodeId) → is_inner_shape (shape_of g m) ≡ true → beside m ≡ due g m) where
-    abbrev pub ps : List NodeId
-    ps = parents_in_body x.body
-
     parents_are : parents_of g n ≡ ps
-    parents_are = ap parents_in node_slot.node ∙ ap (λ (z : Stored). parents_in_body z.body) (some_is (sym node_slot.there ∙ there))
+    parents_are = ap parents_in node_slot.node ∙ ap (λ (z : Stored). parents_in_body z.body) (some_is (sym node_slot.there ∙ there)) ∙ sym ps_are
 
     distinct : are_distinct ps ≡ true
     distinct = ap are_distinct (sym parents_are) ∙ (own_parents g law n movable).distinct
@@ -194,12 +202,9 @@ module _ {limits : Limits} {old : Slab Stored} {births : ℕ} {g : Graph} (h : H
     was_inner : (m : NodeId) → is_inner_shape (shape_of (left g n) m) ≡ true → is_inner_shape (shape_of g m) ≡ true
     was_inner m i = ap is_inner_shape (sym (left_shape g n m (plain_live (left g n) m (inner_plain _ i)))) ∙ i
 
-    pub parents_stored : AreStored s ps
-    parents_stored = are_stored now (left_lawful g law n movable free) ps inner distinct
-
-    pub parents_some : EachKeeps (λ children. 1 ≤ children) s ps
-    parents_some =
-        each_keeps now (left_lawful g law n movable free) ps inner distinct (λ children. 1 ≤ children)
+    parents_kept : AreKept (λ children. 1 ≤ children) s ps
+    parents_kept =
+        are_kept now (left_lawful g law n movable free) ps inner distinct (λ children. 1 ≤ children)
         (λ m listed i. subst (λ b. 1 ≤ counted_in b) (sym (inner_same m (was_inner m i) ∙ inner_due g m (was_inner m i)))
         (some_child g law m n (ap (list_any (same_node m)) parents_are ∙ listed)))
 
@@ -210,7 +215,7 @@ module _ {limits : Limits} {old : Slab Stored} {births : ℕ} {g : Graph} (h : H
       settled : Holds limits new births (left g n) (λ m. recounted (down m) (beside m))
       settled = counts_written now (left_lawful g law n movable free) ps inner distinct (λ children. children - 1) new re
 
-      pub left_graph : graph_of (seen limits new births) ≡ without_branch g n
+      left_graph : graph_of (seen limits new births) ≡ without_branch g n
       left_graph = settled.graph
 
       due_down : (m : NodeId) → is_live (left g n) m ≡ true → is_index_of_shape m (shape_of g n) ≡ false → recounted (down m) (due g m) ≡ due (left g n) m
@@ -218,7 +223,7 @@ module _ {limits : Limits} {old : Slab Stored} {births : ℕ} {g : Graph} (h : H
           due_left (down m) m alive (λ i. sym (one_less (list_any (same_node m) ps) (children_of g m) (children_of (left g n) m)
           (ap (λ qs. children_of (left g n) m + ones (list_any (same_node m) qs)) (sym parents_are) ∙ children_less m i))) not_its
 
-      pub left_sound : ((m : NodeId) → is_live (left g n) m ≡ true
+      left_sound : ((m : NodeId) → is_live (left g n) m ≡ true
           → ((is_index_of_shape m (shape_of g n) ≡ false) × (beside m ≡ due g m)) ⊎
           (recounted (down m) (beside m) ≡ due (left g n) m)) → AreSound limits new births
       left_sound each =
@@ -228,16 +233,27 @@ module _ {limits : Limits} {old : Slab Stored} {births : ℕ} {g : Graph} (h : H
 
   -- no index
   module _ (alone : is_index_shape (shape_of g n) ≡ false) (mid : Slab Stored) (u : Updates old mid n.key None) (len : slab_len mid + 1 ≡ slab_len old) where
-    pub lone : Holds limits mid births (left g n) (due g)
+    lone : Holds limits mid births (left g n) (due g)
     lone = subst (λ (g' : Graph). Holds limits mid births g' (due g)) (sym (no_branch g law n movable free alone))
         (node_removed h law n lives u len)
 
-    pub of_none : (m : NodeId) → is_index_of_shape m (shape_of g n) ≡ false
+    of_none : (m : NodeId) → is_index_of_shape m (shape_of g n) ≡ false
     of_none m = by (shape_of g n) alone
       where
         by : (o : Option Shape) → is_index_shape o ≡ false → is_index_of_shape m o ≡ false
         by (Some (Index f bs)) k = absurd (no (sym k))
         by _ k = refl
+
+    module _ (x : Stored) (there : get old n.key ≡ Some x) (ps : List NodeId) (ps_are : ps ≡ parents_in_body x.body) where
+      pub alone_kept : AreKept (λ children. 1 ≤ children) mid ps
+      alone_kept = parents_kept x there ps ps_are mid (due g) lone (λ m i. refl)
+
+      module _ (new : Slab Stored) (re : AreRecounted (λ children. children - 1) mid new ps (length ps)) where
+        pub alone_graph : graph_of (seen limits new births) ≡ without_branch g n
+        alone_graph = left_graph x there ps ps_are mid (due g) lone (λ m i. refl) new re
+
+        pub alone_sound : AreSound limits new births
+        alone_sound = left_sound x there ps ps_are mid (due g) lone (λ m i. refl) new re (λ m stays. inl (of_none m, refl))
 
 -- a file that no longer lists an index
 unlisted_beside : (b : Body) (n : NodeId) (is : List NodeId) (k : ℕ) → beside_in_body b ≡ Lists is k
@@ -285,10 +301,7 @@ module _ {limits : Limits} {old : Slab Stored} {births : ℕ} {g : Graph} (h : H
       by _ none k = no k
 
   module _ (x : Stored) (there : get old n.key ≡ Some x) (f : NodeId) (bs : List ℕ) (shape : shape_in_body x.body ≡ Index f bs) (mid : Slab Stored)
-      (u : Updates old mid n.key None) (len : slab_len mid + 1 ≡ slab_len old) where
-    abbrev intervals : List NodeId
-    intervals = intervals_in_body x.body
-
+      (u : Updates old mid n.key None) (len : slab_len mid + 1 ≡ slab_len old) (ids : List NodeId) (ids_are : ids ≡ intervals_in_body x.body) where
     same_slot : its_slot.stored ≡ x
     same_slot = some_is (sym its_slot.there ∙ there)
 
@@ -298,24 +311,24 @@ module _ {limits : Limits} {old : Slab Stored} {births : ℕ} {g : Graph} (h : H
     shape_is : shape_of g n ≡ Some (Index f bs)
     shape_is = ap shape_in its_slot.node ∙ ap (λ (z : Stored). Some (shape_in_body z.body)) same_slot ∙ ap Some shape
 
-    spans : intervals_in_body x.body ≡ intervals_from g n 0 (length bs + 1)
-    spans = intervals_stored x.body (intervals_from g n 0 (length bs + 1))
+    spans : ids ≡ intervals_from g n 0 (length bs + 1)
+    spans = ids_are ∙ intervals_stored x.body (intervals_from g n 0 (length bs + 1))
         (ap (λ (z : Stored). beside_in_body z.body) (sym same_slot) ∙ its_slot.kept ∙ ap (due_as g n) shape_is)
 
-    count_is : length (intervals_in_body x.body) ≡ length bs + 1
+    count_is : length ids ≡ length bs + 1
     count_is = ap length spans ∙ span_count g n 0 (length bs + 1)
 
-    at_get : (place : ℕ) → place ≤ length bs → slice_get (intervals_in_body x.body) place ≡ Some (interval g n place)
+    at_get : (place : ℕ) → place ≤ length bs → slice_get ids place ≡ Some (interval g n place)
     at_get place low = ap (λ xs. slice_get xs place) spans ∙ span_get g n 0 (length bs + 1) place place (omega arith) (omega arith)
 
-    at_place : (place : ℕ) (m : NodeId) → slice_get (intervals_in_body x.body) place ≡ Some m → (place ≤ length bs) × (m ≡ interval g n place)
+    at_place : (place : ℕ) (m : NodeId) → slice_get ids place ≡ Some m → (place ≤ length bs) × (m ≡ interval g n place)
     at_place place m e =
-        let within = slice_get_within (intervals_in_body x.body) place m e in
+        let within = slice_get_within ids place m e in
         let many = count_is in
         let low : place ≤ length bs = omega arith in
         (low, some_is (sym e ∙ at_get place low))
 
-    interval_is : (place : ℕ) (m : NodeId) → slice_get (intervals_in_body x.body) place ≡ Some m
+    interval_is : (place : ℕ) (m : NodeId) → slice_get ids place ≡ Some m
         → (is_live g m ≡ true) × (is_interval_shape (shape_of g m) ≡ true) × (is_child g n m ≡ true)
     interval_is place m e =
         let at = at_place place m e in
@@ -325,12 +338,12 @@ module _ {limits : Limits} {old : Slab Stored} {births : ℕ} {g : Graph} (h : H
           ap (is_child g n) at.1 ∙ interval_child g law n f bs shape_is place at.0,
         )
 
-    key_apart : (place : ℕ) (m : NodeId) → slice_get (intervals_in_body x.body) place ≡ Some m → m.key ≢ n.key
+    key_apart : (place : ℕ) (m : NodeId) → slice_get ids place ≡ Some m → m.key ≢ n.key
     key_apart place m e same =
         let it = interval_is place m e in
         no (sym (movable_no_interval (shape_of g n) movable) ∙ ap (λ q. is_interval_shape (shape_of g q)) (sym (law.keys_differ m n it.0 alive same)) ∙ it.1)
 
-    pub intervals_there : AreStored mid (intervals_in_body x.body)
+    pub intervals_there : AreStored mid ids
     intervals_there = record {
       there = λ place m e.
           ap is_some (u.others m.key (key_apart place m e) ∙ (live_held h m (interval_is place m e).0).there);
@@ -342,7 +355,7 @@ module _ {limits : Limits} {old : Slab Stored} {births : ℕ} {g : Graph} (h : H
           omega arith;
     }
 
-    module _ (third : Slab Stored) (taken : AreGone mid third (intervals_in_body x.body) (length (intervals_in_body x.body))) where
+    module _ (third : Slab Stored) (taken : AreGone mid third ids (length ids)) where
       gone_for : (k : ℕ) (y : Stored) → k ≢ n.key → get old k ≡ Some y → gone g n y.birth ≡ is_child g n (record { key = k; birth = y.birth })
       gone_for k y ne e =
           gone_is g n alive (record { key = k; birth = y.birth }) (ap is_some (node_held h k y e))
@@ -370,7 +383,7 @@ module _ {limits : Limits} {old : Slab Stored} {births : ℕ} {g : Graph} (h : H
               let it = child_interval g law n f bs shape_is (record { key = k; birth = y.birth }) c
               (children_are g law n movable free (record { key = k; birth = y.birth }) c).1 in
               let at = at_get it.0 it.1 in
-              let within = slice_get_within (intervals_in_body x.body) it.0 _ at in
+              let within = slice_get_within ids it.0 _ at in
               ap (λ (q : NodeId). get third q.key) it.2 ∙ taken.gone it.0 (interval g n it.0) within at
               ∙ sym (ap (λ b. if b then None else Some y) (gone_for k y ne e ∙ c))) (λ c. taken.stays k (λ place m low at. λ (key : m.key ≡ k).
               let found = interval_is place m at in
@@ -483,27 +496,27 @@ module _ {limits : Limits} {old : Slab Stored} {births : ℕ} {g : Graph} (h : H
             no_inner (Some (Rattle.gl_graph.specs.Shapes.File adopted)) k = refl
             no_inner _ k = absurd (no k)
 
-        pub index_parents_stored : AreStored fourth (parents_in_body x.body)
-        index_parents_stored = parents_stored h law n movable free x there fourth now unlisted other_inner
+        module _ (ps : List NodeId) (ps_are : ps ≡ parents_in_body x.body) where
+          pub index_parents_kept : AreKept (λ children. 1 ≤ children) fourth ps
+          index_parents_kept = parents_kept h law n movable free x there ps ps_are fourth now unlisted other_inner
 
-        pub index_parents_some : EachKeeps (λ children. 1 ≤ children) fourth (parents_in_body x.body)
-        index_parents_some = parents_some h law n movable free x there fourth now unlisted other_inner
+          module _ (last : Slab Stored) (re : AreRecounted (λ children. children - 1) fourth last ps (length ps)) where
+            pub index_left_graph : graph_of (seen limits last births) ≡ without_branch g n
+            index_left_graph = left_graph h law n movable free x there ps ps_are fourth now unlisted other_inner last re
 
-        module _ (last : Slab Stored)
-            (re : AreRecounted (λ children. children - 1) fourth last (parents_in_body x.body) (length (parents_in_body x.body))) where
-          pub index_left_graph : graph_of (seen limits last births) ≡ without_branch g n
-          index_left_graph = left_graph h law n movable free x there fourth now unlisted other_inner last re
+            abbrev fewer : NodeId → ℕ → ℕ
+            fewer = down h law n movable free x there ps ps_are fourth now unlisted other_inner
 
-          pub index_left_sound : AreSound limits last births
-          index_left_sound =
-              left_sound h law n movable free x there fourth now unlisted other_inner last re (λ m live'. split (same_node m f) (λ t.
-              let same = same_node-equal m f t in
-              inr (ap (λ q. recounted (down h law n movable free x there fourth now unlisted other_inner q) (now q)) same
-              ∙ ap (recounted (down h law n movable free x there fourth now unlisted other_inner f))
-              (put_here f (beside_in_body (body_without_index file_slot.stored.body n)) (due g)
-              ∙ unlisted_beside file_slot.stored.body n (indexes_of g f) (record_count g f) (file_slot.kept ∙ file_due g f is_file))
-              ∙ sym (unlisted_beside file_slot.stored.body n (indexes_of g f) (record_count g f) (file_slot.kept ∙ file_due g f is_file))
-              ∙ file_due_now ∙ ap (due (left g n)) (sym same))) (λ t. inl (
-                ap (is_index_of_shape m) shape_is ∙ t,
-                put_other f (beside_in_body (body_without_index file_slot.stored.body n)) (due g) m t,
-              )))
+            pub index_left_sound : AreSound limits last births
+            index_left_sound =
+                left_sound h law n movable free x there ps ps_are fourth now unlisted other_inner last re (λ m live'. split (same_node m f) (λ t.
+                let same = same_node-equal m f t in
+                inr (ap (λ q. recounted (fewer q) (now q)) same
+                ∙ ap (recounted (fewer f))
+                (put_here f (beside_in_body (body_without_index file_slot.stored.body n)) (due g)
+                ∙ unlisted_beside file_slot.stored.body n (indexes_of g f) (record_count g f) (file_slot.kept ∙ file_due g f is_file))
+                ∙ sym (unlisted_beside file_slot.stored.body n (indexes_of g f) (record_count g f) (file_slot.kept ∙ file_due g f is_file))
+                ∙ file_due_now ∙ ap (due (left g n)) (sym same))) (λ t. inl (
+                  ap (is_index_of_shape m) shape_is ∙ t,
+                  put_other f (beside_in_body (body_without_index file_slot.stored.body n)) (due g) m t,
+                )))

@@ -19,10 +19,10 @@ use Rattle.gl_graph.specs.Changes.{with_node, with_parents, marked_shape, marked
 use Rattle.gl_graph.specs.Refusals.{first_cycle}
 use Rattle.gl_graph.specs.View.{graph_of, node_of, children_of, due_as, due}
 use Rattle.gl_graph.specs.Seen.{Limits, vertex_of, seen, shape_in_body, parents_in_body, body_adopted, body_with_parents, beside_in_body, Holds, AreSound}
-use Rattle.gl_graph.specs.Grown.{AreStored, AreRecounted, EachKeeps}
+use Rattle.gl_graph.specs.Grown.{AreRecounted}
 use Rattle.gl_graph.proofs.Branch.{movable_live, movable_no_record}
 use Rattle.gl_graph.proofs.Changed.{IsAlike, at_here, at_other, indexes_same, changed_frames, live_same}
-use Rattle.gl_graph.proofs.Counted.{are_stored, each_keeps, counted_in, counts_written}
+use Rattle.gl_graph.proofs.Counted.{AreKept, are_kept, counted_in, counts_written}
 use Rattle.gl_graph.proofs.Dues.{child_test, record_test, inner_due, intervals_same, children_fit, some_child, own_parents, one_moved}
 use Rattle.gl_graph.proofs.Held.{IsStored, live_held, node_stored, node_written, sound_held, recounted, recounted_same, recounted_twice, due_after}
 use Rattle.gl_graph.proofs.KindRules.{parents_kept, plain_live, inner_plain, file_plain}
@@ -246,12 +246,9 @@ module _ {limits : Limits} {old : Slab Stored} {births : ℕ} {g : Graph} (h : H
         ∙ ap (λ q. is_inner_shape (shape_of there' q)) (sym is) ∙ i) (λ t. sym (ap (λ o. is_inner_shape (shape_in o))
         (at_other g n (node_of n.key (vertex_of mover.stored)) (node_of n.key (vertex_of moved)) mover.node refl m (same_node-other m n t))) ∙ i)
 
-    pub olds_stored : AreStored mid olds
-    olds_stored = are_stored held' law' olds old_inner.inner old_inner.distinct
-
-    pub olds_some : EachKeeps (λ children. 1 ≤ children) mid olds
-    olds_some =
-        each_keeps held' law' olds old_inner.inner old_inner.distinct (λ children. 1 ≤ children)
+    pub olds_kept : AreKept (λ children. 1 ≤ children) mid olds
+    olds_kept =
+        are_kept held' law' olds old_inner.inner old_inner.distinct (λ children. 1 ≤ children)
         (λ m listed i. subst (λ b. 1 ≤ counted_in b) (sym (inner_due g m (was_inner m i))) (some_old m listed))
 
     module _ (less : Slab Stored) (re : AreRecounted (λ children. children - 1) mid less olds (length olds)) where
@@ -264,12 +261,9 @@ module _ {limits : Limits} {old : Slab Stored} {births : ℕ} {g : Graph} (h : H
       lessened : Holds limits less births there' (λ m. recounted (down m) (due g m))
       lessened = counts_written held' law' olds old_inner.inner old_inner.distinct (λ children. children - 1) less re
 
-      pub news_stored : AreStored less ps
-      news_stored = are_stored lessened law' ps new_inner.inner new_inner.distinct
-
-      pub news_room : EachKeeps (λ children. children + 1 < 2 ^ 64) less ps
-      news_room =
-          each_keeps lessened law' ps new_inner.inner new_inner.distinct (λ children. children + 1 < 2 ^ 64)
+      pub news_kept : AreKept (λ children. children + 1 < 2 ^ 64) less ps
+      news_kept =
+          are_kept lessened law' ps new_inner.inner new_inner.distinct (λ children. children + 1 < 2 ^ 64)
           (λ m listed i. subst (λ b. counted_in (recounted (down m) b) + 1 < 2 ^ 64) (sym (inner_due g m (was_inner m i)))
           (fits (list_any (same_node m) olds) (children_of g m) (children_fit g law m)))
         where

@@ -230,10 +230,7 @@ impl Graph {
     pub fn interval(&self, index: NodeId, place: usize) -> Option<NodeId>
         ensures { result ≡ interval_at (graph_of self.now) index place }
     {
-        match self.node(index) {
-            Some(node) => node.body.intervals().get(place).copied(),
-            None => None,
-        }
+        self.intervals(index).get(place).copied()
     }
 
     /// The file of an index; `None` if the id names no index.

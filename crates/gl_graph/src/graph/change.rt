@@ -18,9 +18,7 @@ ghost use Rattle.gl_graph.specs.View.{graph_of};
 use super::Graph;
 use crate::kind::Kind;
 use crate::node::{Body, Node};
-use crate::store::{
-    count_down, remove_all, unlist_index, write_adopted, write_key, write_records,
-};
+use crate::store::{count_down, remove_all, unlist_index, write_adopted, write_key, write_records};
 use gl_modes::NodeId;
 
 /// The first place of the node among these.

@@ -5,8 +5,7 @@ use Rattle.gl_graph.specs.Shapes.{Index}
 use Rattle.gl_graph.specs.Graph.{indexes_of}
 use Rattle.gl_graph.specs.View.{View, graph_of}
 use Rattle.gl_graph.proofs.Beside.{held, law_of}
-use Rattle.gl_graph.proofs.Indexed.{roomy_sound, roomy_view, roomy, births_left, index_apart, index_within, file_kept, index_stored, index_room, index_sound}
-use Rattle.gl_graph.proofs.Indexed.{index_made}
+use Rattle.gl_graph.proofs.Indexed.{roomy_sound, roomy_view, roomy, births_left, index_apart, index_within, file_kept, index_parents, index_sound, index_made}
 use Rattle.gl_graph.proofs.Unrefused.{reindex_unrefused}
 use Rattle.gl_graph.proofs.graph.Graph.add_index_unrefused.Goals as goal
 
@@ -62,14 +61,14 @@ write_indexes-requires c =
     c.insert_intervals.new.nodes c.insert_intervals.new.ids.items c.insert_intervals.ensures.born
     c.insert_intervals.new.ids refl c.write_intervals.new.nodes c.write_intervals.ensures.written c.write_intervals.ensures.len
 
-pub count_up-requires-clause-stored : goal.count_up-requires-clause-stored
-count_up-requires-clause-stored c =
+pub count_up-requires : goal.count_up-requires
+count_up-requires c =
     let made = c.in-Ok-new.ensures.made in
     let listed = c.push_reserved.ensures.items
     ∙ ap (λ (is : List NodeId). is ++ record { key = c.insert_reserved-key.result; birth = c.self.inside.births + 1 } ∷ [])
     (made.indexes ∙ c.indexes-listed.ensures ∙ ap (λ (v : View). indexes_of (graph_of v) c.args.file)
     (roomy_view c.self.inside c.args.self.now c.self.view_is c.reserve.new.self c.reserve.ensures.rest_kept)) in
-    index_stored (roomy c.self.inside c.self.invariant c.args.self.now c.self.view_is c.reserve.new.self c.reserve.ensures.rest_kept)
+    let kept = index_parents (roomy c.self.inside c.self.invariant c.args.self.now c.self.view_is c.reserve.new.self c.reserve.ensures.rest_kept)
     (law_of c.self.inside c.self.invariant c.args.self.now c.self.view_is) c.insert_reserved-key.result
     (record { birth = c.self.inside.births + 1; body = body.Index c.in-Ok-new.parts.body c.in-Ok-new.parts.parents })
     c.insert_reserved-key.ensures.was_vacant c.insert_reserved-key.ensures.updates refl c.insert_reserved-key.ensures.len c.args.file c.args.parents.now
@@ -77,24 +76,8 @@ count_up-requires-clause-stored c =
     (reindex_unrefused (graph_of c.args.self.now) c.args.parents.now c.args.file c.args.bounds.now c.requires)
     c.insert_intervals.new.nodes c.insert_intervals.new.ids.items c.insert_intervals.ensures.born
     c.insert_intervals.new.ids refl c.write_intervals.new.nodes c.write_intervals.ensures.written c.write_intervals.ensures.len
-    c.push_reserved.new.self listed c.write_indexes.new.nodes c.write_indexes.ensures.written c.write_indexes.ensures.len
-
-pub count_up-requires-clause-room : goal.count_up-requires-clause-room
-count_up-requires-clause-room c =
-    let made = c.in-Ok-new.ensures.made in
-    let listed = c.push_reserved.ensures.items
-    ∙ ap (λ (is : List NodeId). is ++ record { key = c.insert_reserved-key.result; birth = c.self.inside.births + 1 } ∷ [])
-    (made.indexes ∙ c.indexes-listed.ensures ∙ ap (λ (v : View). indexes_of (graph_of v) c.args.file)
-    (roomy_view c.self.inside c.args.self.now c.self.view_is c.reserve.new.self c.reserve.ensures.rest_kept)) in
-    index_room (roomy c.self.inside c.self.invariant c.args.self.now c.self.view_is c.reserve.new.self c.reserve.ensures.rest_kept)
-    (law_of c.self.inside c.self.invariant c.args.self.now c.self.view_is) c.insert_reserved-key.result
-    (record { birth = c.self.inside.births + 1; body = body.Index c.in-Ok-new.parts.body c.in-Ok-new.parts.parents })
-    c.insert_reserved-key.ensures.was_vacant c.insert_reserved-key.ensures.updates refl c.insert_reserved-key.ensures.len c.args.file c.args.parents.now
-    c.args.bounds.now (ap₂ Index made.file_is made.bounds) made.parents
-    (reindex_unrefused (graph_of c.args.self.now) c.args.parents.now c.args.file c.args.bounds.now c.requires)
-    c.insert_intervals.new.nodes c.insert_intervals.new.ids.items c.insert_intervals.ensures.born
-    c.insert_intervals.new.ids refl c.write_intervals.new.nodes c.write_intervals.ensures.written c.write_intervals.ensures.len
-    c.push_reserved.new.self listed c.write_indexes.new.nodes c.write_indexes.ensures.written c.write_indexes.ensures.len
+    c.push_reserved.new.self listed c.write_indexes.new.nodes c.write_indexes.ensures.written c.write_indexes.ensures.len in
+    record { stored = kept.stored; room = kept.each }
 
 pub invariant_of-self-3 : goal.invariant_of-self-3
 invariant_of-self-3 c =
