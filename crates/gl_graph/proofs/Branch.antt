@@ -2,6 +2,7 @@
 use Rattle.std.specs.Prelude.{◌≡◌, ◌≢◌, ℕ, suc, ◌+◌, ◌-◌, ◌<◌, ◌≤◌, Bool, true, false, not, ◌&&◌, ◌||◌, ◌==◌, nat_lt, nat_le, List, [], ◌∷◌, length}
 use Rattle.std.specs.Prelude.{Option, Some, None, is_some, if◌then◌else◌}
 use Rattle.std.specs.List.{filter, filter_map, list_all, list_any, range_with_len}
+use Rattle.std.proofs.Math.Bool.{and-false, and-true, or-false}
 use Rattle.std.proofs.Math.Path.{fun_ext}
 use Rattle.std.proofs.lemmas.Bool.Decides.{nat_tests}
 use Rattle.std.proofs.lemmas.List.Sums.{count_by-le-length}
@@ -19,7 +20,9 @@ use Rattle.gl_graph.specs.Lawful.{AreInnerParents, HasShape, IsLawfulGraph, are_
 use Rattle.gl_graph.specs.Changes.{without_node, without_branch}
 use Rattle.gl_graph.specs.Refusals.{has_records, is_in_use, is_shape_in_use}
 use Rattle.gl_graph.proofs.Look.{all_at, all_filter, finds, found_at, live_node, child_live, child_node, there_is, one_birth}
+pub use Rattle.gl_graph.proofs.KindRules.{is_interval_shape}
 use Rattle.gl_graph.proofs.KindRules.{index_in, is_plain, inner_plain, file_plain, index_plain, plain_live, index_of, index_node, interval_is}
+use Rattle.gl_graph.proofs.KindRules.{parent_is, parent_by, parent_kind}
 use Rattle.gl_graph.proofs.Listings.{kept, filter_of_map, map_fewer}
 use Rattle.gl_graph.proofs.Routes.{acyclic_fewer}
 use Rattle.gl_graph.proofs.RouteLengths.{listed}
@@ -28,10 +31,6 @@ use Rattle.gl_graph.proofs.Distinct.{index_listed}
 use Rattle.gl_graph.proofs.Tally.{picked, list_same, sifted, count_kept, tally_gap, node_tally}
 use Rattle.gl_graph.proofs.Unrefused.{or_no}
 use Rattle.gl_graph.specs.View.{record_count}
-
--- the shape of an interval
-abbrev pub is_interval_shape : Option Shape → Bool
-is_interval_shape o = is_some (place_in o)
 
 -- how many intervals a node of this shape has
 abbrev pub interval_count : Option Shape → ℕ
@@ -57,10 +56,6 @@ movable_no_interval _ h = refl
 pub movable_no_record : (o : Option Shape) → is_movable_shape o ≡ true → is_record_shape o ≡ false
 movable_no_record (Some (Rec keys)) h = absurd (no h)
 movable_no_record _ h = refl
-
--- a parent of a record is a file or an interval
-abbrev pub file_or_interval : Option Shape → Bool
-file_or_interval o = is_file_shape o || is_interval_shape o
 
 pub movable_live : (g : Graph) (n : NodeId) → is_movable_shape (shape_of g n) ≡ true → is_live g n ≡ true
 movable_live g n h = cases_of (node_at g n) (λ e. absurd (no (sym (ap (λ o. is_movable_shape (shape_in o)) e) ∙ h))) (λ x e. there_is (node_at g n) x e)
@@ -165,55 +160,13 @@ module _ (g : Graph) (n : NodeId) where
   pub alone_is : ((q : NodeId) → is_child g n q ≡ false) → without_branch g n ≡ without_node g n
   alone_is none =
       let same : left.at ≡ (without_node g n).at = fun_ext (λ b. ap (λ x. if (b == n.birth) || x then None else g.at b) (by b (g.at b) refl)
-      ∙ ap (λ x. if x then None else g.at b) (or_nothing (b == n.birth))) in
+      ∙ ap (λ x. if x then None else g.at b) (or-false (b == n.birth))) in
       λ i. record { at = same i; births = g.births; most = g.most; most_bounds = g.most_bounds }
     where
-      or_nothing : (b : Bool) → (b || false) ≡ b
-      or_nothing true = refl
-      or_nothing false = refl
-
       by : (b : ℕ) (o : Option Node) → g.at b ≡ o → list_any (same_node n) (parents_in (g.at b)) ≡ false
       by b None e = ap (λ o. list_any (same_node n) (parents_in o)) e
       by b (Some x) e =
           ap (λ o. list_any (same_node n) (parents_in o)) (e ∙ sym (finds x.key (g.at b) x e refl)) ∙ none (record { key = x.key; birth = b })
-
--- the kind of a parent
-module _ (g : Graph) (law : IsLawfulGraph g) where
-  interval_among : (f p : NodeId) (is : List NodeId) (keys : List ℕ) → list_all (λ i. is_index_of_shape f (shape_of g i)) is ≡ true
-      → list_any (same_node p) (intervals_of g is keys) ≡ true → is_interval_shape (shape_of g p) ≡ true
-  interval_among f p [] keys h k = absurd (no k)
-  interval_among f p (i ∷ is) [] h k = absurd (no k)
-  interval_among f p (i ∷ is) (key ∷ keys) h k =
-      let t = and_both _ _ h in
-      or_elim _ _ k (λ here. let it = interval_is g law f i key t.0 in
-      ap (λ q. is_interval_shape (shape_of g q)) (same_node-equal p _ here) ∙ ap (λ o. is_interval_shape (shape_in o)) it)
-      (λ there. interval_among f p is keys t.1 there)
-
-  pub parent_of_record : (f p : NodeId) (keys : List ℕ) → is_file_shape (shape_of g f) ≡ true → list_any (same_node p) (record_parents g f keys) ≡ true
-      → file_or_interval (shape_of g p) ≡ true
-  parent_of_record f p keys h k =
-      or_elim _ _ k (λ here. or_left (is_file_shape (shape_of g p)) _ (ap (λ q. is_file_shape (shape_of g q)) (same_node-equal p f here) ∙ h))
-      (λ there. or_right (is_file_shape (shape_of g p)) _ (interval_among f p (indexes_of g f) keys
-      (all_filter (λ i. is_index_of_shape f (shape_of g i)) (nodes g)) there))
-
-  -- the kind of a node of which this one is a child
-  abbrev pub parent_kind : Shape → Option Shape → Bool
-  parent_kind (Interval place) o = is_index_shape o
-  parent_kind (Rec keys) o = file_or_interval o
-  parent_kind sh o = is_inner_shape o
-
-  parent_by : (sh : Shape) (ps : List NodeId) (q p : NodeId) → HasShape g q sh ps → list_any (same_node p) ps ≡ true → parent_kind sh (shape_of g p) ≡ true
-  parent_by (Index f bs) ps q p h k = all_at (λ x. is_inner_shape (shape_of g x)) ps p k h.0.inner
-  parent_by (Interval place) ps q p h k =
-      or_elim _ _ (sym (ap (list_any (same_node p)) h.1) ∙ k)
-      (λ here. ap (λ x. is_index_shape (shape_of g x)) (same_node-equal p h.0 here) ∙ h.2) (λ none. absurd (no none))
-  parent_by (Rec keys) ps q p h k = parent_of_record h.0 p keys h.1.file_is (sym (ap (list_any (same_node p)) h.1.parents) ∙ k)
-  parent_by _ ps q p h k = all_at (λ x. is_inner_shape (shape_of g x)) ps p k h.inner
-
-  pub parent_is : (q p : NodeId) → is_child g p q ≡ true → (sh : Shape) × (shape_of g q ≡ Some sh) × (parent_kind sh (shape_of g p) ≡ true)
-  parent_is q p h =
-      let c = child_node g q p h in
-      (c.0.shape, ap shape_in c.1, parent_by c.0.shape c.0.parents q p (law.well_formed q c.0 c.1) c.2)
 
 -- the children of an index are its intervals
 module _ (g : Graph) (law : IsLawfulGraph g) (n f : NodeId) (bs : List ℕ) (shape : shape_of g n ≡ Some (Index f bs)) where
@@ -248,16 +201,16 @@ module _ (g : Graph) (law : IsLawfulGraph g) (n : NodeId) (movable : is_movable_
       → (is_index_shape o ≡ true) × (is_interval_shape (shape_of g q) ≡ true)
   child_of (Some Inner) e q c =
       absurd (clash (some_at (is_child g n) (nodes g) q (listed g law q (child_live g q n c)) c) (sym (ap (is_shape_in_use g n) e) ∙ free))
-  child_of (Some (File adopted)) e q c = let p = parent_is g law q n c in absurd (by p.0 p.1 (ap (parent_kind g law p.0) (sym e) ∙ p.2))
+  child_of (Some (File adopted)) e q c = let p = parent_is g law q n c in absurd (by p.0 p.1 (ap (parent_kind p.0) (sym e) ∙ p.2))
     where
-      by : (sh : Shape) → shape_of g q ≡ Some sh → parent_kind g law sh (Some (File adopted)) ≡ true → ⊥
+      by : (sh : Shape) → shape_of g q ≡ Some sh → parent_kind sh (Some (File adopted)) ≡ true → ⊥
       by (Rec keys) s h =
           clash (some_at (is_record_of g n) (nodes g) q (listed g law q (child_live g q n c)) (both _ _ (ap is_record_shape s) c))
           (or_no (has_records g n) _ (sym (ap (is_shape_in_use g n) e) ∙ free)).0
       by _ s h = no h
-  child_of (Some (Index f bs)) e q c = let p = parent_is g law q n c in by p.0 p.1 (ap (parent_kind g law p.0) (sym e) ∙ p.2)
+  child_of (Some (Index f bs)) e q c = let p = parent_is g law q n c in by p.0 p.1 (ap (parent_kind p.0) (sym e) ∙ p.2)
     where
-      by : (sh : Shape) → shape_of g q ≡ Some sh → parent_kind g law sh (Some (Index f bs)) ≡ true
+      by : (sh : Shape) → shape_of g q ≡ Some sh → parent_kind sh (Some (Index f bs)) ≡ true
           → (true ≡ true) × (is_interval_shape (shape_of g q) ≡ true)
       by (Interval place) s h = (refl, ap is_interval_shape s)
       by _ s h = absurd (no h)
@@ -338,14 +291,6 @@ module _ (g : Graph) (law : IsLawfulGraph g) (n : NodeId) (movable : is_movable_
       index_no_interval (Some (Interval place)) h = refl
       index_no_interval _ h = absurd (no h)
 
-      nothing : (b : Bool) → (b && false) ≡ false
-      nothing true = refl
-      nothing false = refl
-
-      whole : (b : Bool) → (b && true) ≡ b
-      whole true = refl
-      whole false = refl
-
       by : (b : ℕ) (o : Option Node) → g.at b ≡ o → picked (λ q o'. is_index_of_shape f (shape_in o')) b ((left g n).at b)
           ≡ picked (λ q o'. is_index_of_shape f (shape_in o') && not (same_node n q)) b (g.at b)
       by b None e =
@@ -359,14 +304,14 @@ module _ (g : Graph) (law : IsLawfulGraph g) (n : NodeId) (movable : is_movable_
           ∙ sym (ap (picked (λ q o'. is_index_of_shape f (shape_in o') && not (same_node n q)) b) e
           ∙ ap (λ z. if z then Some (record { key = x.key; birth = b }) else None)
           (or_elim (same_node n (record { key = x.key; birth = b })) (is_child g n (record { key = x.key; birth = b })) (sym is ∙ t)
-          (λ same. ap (λ z. is_index_of_shape f (Some x.shape) && not z) same ∙ nothing (is_index_of_shape f (Some x.shape)))
+          (λ same. ap (λ z. is_index_of_shape f (Some x.shape) && not z) same ∙ and-false (is_index_of_shape f (Some x.shape)))
           (λ c. ap (λ z. z && not (same_node n (record { key = x.key; birth = b })))
           (index_no_interval (Some x.shape) (sym (ap (λ o. is_interval_shape (shape_in o)) there) ∙ (children_are (record { key = x.key; birth = b }) c).1))))))
           (λ t. ap (picked (λ q o'. is_index_of_shape f (shape_in o')) b) (at_beside g n b t ∙ e)
           ∙ sym (ap (picked (λ q o'. is_index_of_shape f (shape_in o') && not (same_node n q)) b) e
           ∙ ap (λ z. if is_index_of_shape f (Some x.shape) && not z then Some (record { key = x.key; birth = b }) else None)
           (or_no (same_node n (record { key = x.key; birth = b })) (is_child g n (record { key = x.key; birth = b })) (sym is ∙ t)).0
-          ∙ ap (λ z. if z then Some (record { key = x.key; birth = b }) else None) (whole (is_index_of_shape f (Some x.shape)))))
+          ∙ ap (λ z. if z then Some (record { key = x.key; birth = b }) else None) (and-true (is_index_of_shape f (Some x.shape)))))
 
   -- another file keeps its indexes
   pub other_indexes : (f : NodeId) → is_index_of_shape f (shape_of g n) ≡ false → indexes_of (left g n) f ≡ indexes_of g f
@@ -407,26 +352,20 @@ module _ (g : Graph) (law : IsLawfulGraph g) (n : NodeId) (movable : is_movable_
 
   -- no child of it is a parent
   pub apart_from : (q p : NodeId) → is_child g p q ≡ true → is_child g n p ≡ true → ⊥
-  apart_from q p h c = let node = child_node g q p h in by node.0.shape node.0.parents refl refl (law.well_formed q node.0 node.1) node.1 node.2
+  apart_from q p h c =
+      let node = child_node g q p h in
+      by node.0.shape node.0.parents (ap shape_in node.1) (ap parents_in node.1) (law.well_formed q node.0 node.1) node.2
     where
-      inner_only : (o : Option Shape) → is_inner_shape o ≡ true → is_interval_shape o ≡ true → ⊥
-      inner_only o i k = no (sym (no_interval_inner o i) ∙ k)
-
-      by : (sh : Shape) (ps : List NodeId) → (child_node g q p h).0.shape ≡ sh → (child_node g q p h).0.parents ≡ ps → HasShape g q sh ps
-          → node_at g q ≡ Some (child_node g q p h).0 → list_any (same_node p) ps ≡ true → ⊥
-      by Inner ps es ep k e l = inner_only (shape_of g p) (parent_by g law Inner ps q p k l) (children_are p c).1
-      by (File adopted) ps es ep k e l = inner_only (shape_of g p) (parent_by g law (File adopted) ps q p k l) (children_are p c).1
-      by (Index f bs) ps es ep k e l = inner_only (shape_of g p) (parent_by g law (Index f bs) ps q p k l) (children_are p c).1
-      by (Interval place) ps es ep k e l =
+      by : (sh : Shape) (ps : List NodeId) → shape_of g q ≡ Some sh → parents_of g q ≡ ps → HasShape g q sh ps → list_any (same_node p) ps ≡ true → ⊥
+      by (Interval place) ps s above k l =
           no (sym (no_interval_index (shape_of g p) (parent_by g law (Interval place) ps q p k l)) ∙ (children_are p c).1)
-      by (Rec keys) ps es ep k e l =
-          let rec : is_record_shape (shape_of g q) ≡ true = ap (λ o. is_record_shape (shape_in o)) e ∙ ap (λ x. is_record_shape (Some x)) es in
-          let child : is_child g k.0 q ≡ true =
-          ap (λ o. list_any (same_node k.0) (parents_in o)) e ∙ ap (list_any (same_node k.0)) (ep ∙ k.1.parents) ∙ or_left _ _ (same_node-refl k.0) in
+      by (Rec keys) ps s above k l =
+          let child : is_child g k.0 q ≡ true = ap (list_any (same_node k.0)) (above ∙ k.1.parents) ∙ or_left _ _ (same_node-refl k.0) in
           or_elim (same_node p k.0) (list_any (same_node p) (intervals_of g (indexes_of g k.0) keys)) (sym (ap (list_any (same_node p)) k.1.parents) ∙ l)
           (λ here. no (sym (no_interval_file (shape_of g p) (ap (λ m. is_file_shape (shape_of g m)) (same_node-equal p k.0 here) ∙ k.1.file_is))
           ∙ (children_are p c).1)) (λ there. clash (index_above k.0 p (indexes_of g k.0) keys
-          (all_filter (λ i. is_index_of_shape k.0 (shape_of g i)) (nodes g)) there c) (no_index k.0 q rec child))
+          (all_filter (λ i. is_index_of_shape k.0 (shape_of g i)) (nodes g)) there c) (no_index k.0 q (ap is_record_shape s) child))
+      by sh ps s above k l = no (sym (no_interval_inner (shape_of g p) (parent_by g law sh ps q p k l)) ∙ (children_are p c).1)
 
   -- the remaining parents of a list
   pub inner_left : (ps : List NodeId) → are_inner g ps ≡ true → list_any (same_node n) ps ≡ false → are_inner (left g n) ps ≡ true

@@ -20,7 +20,7 @@ use Rattle.gl_graph.specs.Grown.{AreStored, AreRecounted, EachKeeps}
 use Rattle.gl_graph.proofs.Distinct.{one_place}
 use Rattle.gl_graph.proofs.Held.{recounted, recounted_same, live_held}
 use Rattle.gl_graph.proofs.KindRules.{plain_live, inner_plain}
-use Rattle.gl_graph.proofs.Look.{all_at}
+use Rattle.gl_graph.proofs.Look.{all_at, live_node}
 use Rattle.gl_graph.proofs.Slots.{at_birth, at_slot, slot_at, shown}
 
 -- a slot with another number of children
@@ -181,15 +181,11 @@ module _ (fresh : ℕ → ℕ) (old mid : Slab Stored) (ids : List NodeId) (coun
           let was : get old n.key ≡ Some x = ap (λ q. get old q.key) (sym same) ∙ e in
           ap (λ q. get new q.key) same ∙ (write x was).changed) (λ t.
           let other = other_number place count t in
-          let y = some_there (get old n.key) (stored.there count n at) in
+          let y = live_node (get old n.key) (stored.there count n at) in
           (write y.0 y.1).others m.key (λ same. other (stored.apart place count m n there at same))
           ∙ re.counted place m x (omega arith) there e);
       stays = λ key none.
-          let y = some_there (get old n.key) (stored.there count n at) in
+          let y = live_node (get old n.key) (stored.there count n at) in
           (write y.0 y.1).others key (λ e. none count n (omega arith) at (sym e)) ∙ re.stays key (λ place m low there. none place m (omega arith) there);
       len = len ∙ re.len;
     }
-      where
-        some_there : (o : Option Stored) → is_some o ≡ true → (x : Stored) × (o ≡ Some x)
-        some_there None h = absurd (no h)
-        some_there (Some x) h = (x, refl)

@@ -2,6 +2,7 @@
 use Rattle.std.specs.Prelude.{◌≡◌, ℕ, zero, suc, ◌+◌, ◌<◌, Bool, true, false, not, ◌||◌, List, [], ◌∷◌, length, Option, Some, None, if◌then◌else◌}
 use Rattle.std.specs.Prelude.{slice_index_or}
 use Rattle.std.specs.List.{cons_option, filter, filter_map, list_any, range_with_len}
+use Rattle.std.proofs.lemmas.Bool.{not-true}
 use Rattle.std.proofs.Common.{refl, sym, ap, ap₂, ◌∙◌, arith}
 use Rattle.gl_modes.proofs.NodeLemmas.{same_node-equal, same_node-differ, same_node-from_equal}
 use Rattle.gl_modes.proofs.Words.{split, no, none_some, some_is, or_elim, or_left, or_right, both, and_both}
@@ -56,12 +57,8 @@ module _ (p : NodeId → Bool) where
       let t = and_both (not (list_any (same_node x) xs)) (are_distinct xs) h in
       split (p x)
       (λ e. ap (λ b. are_distinct (if b then x ∷ filter p xs else filter p xs)) e
-      ∙ both _ _ (ap not (none_filtered x xs (not_true (list_any (same_node x) xs) t.0))) (filter_distinct xs t.1))
+      ∙ both _ _ (ap not (none_filtered x xs (not-true (list_any (same_node x) xs) t.0))) (filter_distinct xs t.1))
       (λ e. ap (λ b. are_distinct (if b then x ∷ filter p xs else filter p xs)) e ∙ filter_distinct xs t.1)
-    where
-      not_true : (b : Bool) → not b ≡ true → b ≡ false
-      not_true true k = absurd (no k)
-      not_true false k = refl
 
   any_filtered : (q : NodeId) (xs : List NodeId) → list_any (same_node q) xs ≡ true → p q ≡ true → list_any (same_node q) (filter p xs) ≡ true
   any_filtered q [] h k = absurd (no h)

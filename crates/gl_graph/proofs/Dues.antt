@@ -18,10 +18,9 @@ use Rattle.gl_graph.specs.Seen.{beside_in_body, intervals_in_body}
 use Rattle.gl_graph.specs.declared.node.Body.{Body}
 use Rattle.gl_graph.specs.declared.node.Body.TheVariants as body
 use Rattle.gl_graph.proofs.Born.{born_frames, old_same}
-use Rattle.gl_graph.proofs.Branch.{parent_is, parent_kind, parent_of_record, file_or_interval}
 use Rattle.gl_graph.proofs.Counts.{count_none, nodes_live}
 use Rattle.gl_graph.proofs.Held.{recounted, due_after}
-use Rattle.gl_graph.proofs.KindRules.{Frames, index_node, interval_kept, plain_live, inner_plain}
+use Rattle.gl_graph.proofs.KindRules.{Frames, index_node, interval_kept, plain_live, inner_plain, file_or_interval, parent_is, parent_kind, parent_of_record}
 use Rattle.gl_graph.proofs.Look.{all_at, child_live, live_node, found_at, there_is}
 use Rattle.gl_graph.proofs.NewNodes.{one_indexes}
 use Rattle.gl_graph.proofs.Tally.{ones, count_where, count_born, count_changed}
@@ -111,7 +110,7 @@ module _ (g : Graph) (law : IsLawfulGraph g) where
       no_index (Some Inner) h k = no k
       no_index _ h k = no h
 
-      by : (sh : Shape) → is_movable_shape (Some sh) ≡ false → parent_kind g law sh (shape_of g m) ≡ true → ⊥
+      by : (sh : Shape) → is_movable_shape (Some sh) ≡ false → parent_kind sh (shape_of g m) ≡ true → ⊥
       by (Interval place) f k = no_index (shape_of g m) inner k
       by (Rec keys) f k = no_file (shape_of g m) inner k
       by _ f k = no (sym f)

@@ -1,6 +1,8 @@
 -- One node after the other is born.
 use Rattle.std.specs.Prelude.{◌≡◌, ◌≢◌, ℕ, suc, ◌+◌, Bool, true, false, not, ◌==◌, ◌||◌, List, [], ◌∷◌, ◌++◌, length, Option, Some, None, is_some}
 use Rattle.std.specs.List.{list_any}
+use Rattle.std.proofs.Math.Bool.{or-false}
+use Rattle.std.proofs.lemmas.Bool.{not-true}
 use Rattle.std.proofs.lemmas.List.{length-append}
 use Rattle.std.proofs.Common.{refl, sym, ap, ap₂, ◌∙◌, subst, arith, inl, inr}
 use Rattle.gl_modes.proofs.Words.{split, no, none_some, some_is, or_elim, both, and_both, same_number, other_number, number_other}
@@ -25,11 +27,7 @@ keys_more [] n = refl
 keys_more (m ∷ ns) n = ap (λ xs. m.key ∷ xs) (keys_more ns n)
 
 any_more : (k : ℕ) (xs : List ℕ) (x : ℕ) → list_any (λ y. y == k) (xs ++ x ∷ []) ≡ (list_any (λ y. y == k) xs || (x == k))
-any_more k [] x = or_nothing (x == k)
-  where
-    or_nothing : (b : Bool) → (b || false) ≡ b
-    or_nothing true = refl
-    or_nothing false = refl
+any_more k [] x = or-false (x == k)
 any_more k (y ∷ xs) x = ap (λ b. (y == k) || b) (any_more k xs x) ∙ turn (y == k) (list_any (λ z. z == k) xs) (x == k)
   where
     turn : (a b c : Bool) → (a || (b || c)) ≡ ((a || b) || c)
@@ -41,12 +39,8 @@ apart_more [] x h k = refl
 apart_more (y ∷ xs) x h k =
     let t = and_both (not (list_any (λ z. z == y) xs)) (are_apart xs) h in
     let o = or_no (y == x) (list_any (λ z. z == x) xs) k in
-    both _ _ (ap not (any_more y xs x ∙ ap₂ (λ a b. a || b) (not_true (list_any (λ z. z == y) xs) t.0)
+    both _ _ (ap not (any_more y xs x ∙ ap₂ (λ a b. a || b) (not-true (list_any (λ z. z == y) xs) t.0)
     (number_other x y (λ e. other_number y x o.0 (sym e))))) (apart_more xs x t.1 o.1)
-  where
-    not_true : (b : Bool) → not b ≡ true → b ≡ false
-    not_true true e = absurd (no e)
-    not_true false e = refl
 
 pub grown_none : (s : Slab Stored) (births : ℕ) → AreBornApart s → AreBornWithin s births → IsGrown s births s []
 grown_none s births apart within =
@@ -123,9 +117,9 @@ pub ids_more : (birth : ℕ) (keys : List ℕ) (key b : ℕ) → birth + length 
 ids_more birth [] key b e = let same : birth ≡ b = omega arith in λ i. record { key = key; birth = same i } ∷ []
 ids_more birth (k ∷ keys) key b e = ap (λ xs. record { key = k; birth = birth } ∷ xs) (ids_more (birth + 1) keys key b (omega arith))
 
-pub count_interval_nodes : (index : NodeId) (from : ℕ) (keys : List ℕ) → length (interval_nodes index from keys) ≡ length keys
-count_interval_nodes index from [] = refl
-count_interval_nodes index from (k ∷ keys) = ap suc (count_interval_nodes index (from + 1) keys)
+pub count_intervals : (index : NodeId) (from : ℕ) (keys : List ℕ) → length (interval_nodes index from keys) ≡ length keys
+count_intervals index from [] = refl
+count_intervals index from (k ∷ keys) = ap suc (count_intervals index (from + 1) keys)
 
 pub intervals_born : (old now next : Slab Stored) (index : NodeId) (place : ℕ) (ids next_ids : List NodeId)
     (born : AreIntervalsBorn old now index place ids) (key : ℕ) (x : Stored) → get now key ≡ None → Updates now next key (Some x)
@@ -134,7 +128,7 @@ pub intervals_born : (old now next : Slab Stored) (index : NodeId) (place : ℕ)
     ++ record { key = key; birth = index.birth + 1 + place } ∷ [] → AreIntervalsBorn old next index (place + 1) next_ids
 intervals_born old now next index place ids next_ids born key x free u birth len shape parents listed =
     let many = born.many in
-    let nodes = count_interval_nodes index 0 born.keys in
+    let nodes = count_intervals index 0 born.keys in
     let all = intervals_more index 0 born.keys key place (omega arith) in
     let node : node_of key (vertex_of x) ≡ record { key = key; shape = Interval place; parents = index ∷ [] } =
     (λ i. record { key = key; shape = shape i; parents = parents i }) in

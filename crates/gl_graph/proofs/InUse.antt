@@ -29,41 +29,30 @@ module _ (g : Graph) (law : IsLawfulGraph g) (n : NodeId) (x : Stored) (node : S
   pub file_in_use : (above : Vec NodeId Global) (kept : Box FileBody) → x.body ≡ body.File kept above
       → is_in_use g n ≡ (nat_lt 0 kept.value.records || nat_lt 0 (length kept.value.indexes.items))
   file_in_use above kept is =
-      let shape : shape_of g n ≡ Some (File kept.value.adopted) =
-      shape_is _ is in
+      let shape : shape_of g n ≡ Some (File kept.value.adopted) = shape_is _ is in
       let file : is_file_shape (shape_of g n) ≡ true = ap is_file_shape shape in
       ap (is_shape_in_use g n) shape
       ∙ ap₂ (λ a b. a || b) (sym (any_counted (is_record_of g n) (nodes g))
       ∙ ap (nat_lt 0) (sym (records_found g n x.body beside file) ∙ ap records_in_body is))
       (ap (λ (is : List NodeId). nat_lt 0 (length is)) (sym (indexes_found g n x.body beside file) ∙ ap indexes_in_body is))
 
-  index_shape : (above : Vec NodeId Global) (kept : Box IndexBody) → x.body ≡ body.Index kept above
-      → shape_of g n ≡ Some (Index kept.value.file kept.value.bounds.items)
-  index_shape above kept is = shape_is _ is
+  pub index_file : (above : Vec NodeId Global) (kept : Box IndexBody) → x.body ≡ body.Index kept above → is_file_shape (shape_of g kept.value.file) ≡ true
+  index_file above kept is = (index_node g law n kept.value.file kept.value.bounds.items (shape_is _ is)).file
 
-  pub index_file : (above : Vec NodeId Global) (kept : Box IndexBody) → x.body ≡ body.Index kept above
-      → is_file_shape (shape_of g kept.value.file) ≡ true
-  index_file above kept is =
-      (index_node g law n kept.value.file kept.value.bounds.items (index_shape above kept is)).file
-
-  pub index_in_use : (above : Vec NodeId Global) (kept : Box IndexBody) → x.body ≡ body.Index kept above
-      → is_in_use g n ≡ has_records g kept.value.file
-  index_in_use above kept is = ap (is_shape_in_use g n) (index_shape above kept is)
+  pub index_in_use : (above : Vec NodeId Global) (kept : Box IndexBody) → x.body ≡ body.Index kept above → is_in_use g n ≡ has_records g kept.value.file
+  index_in_use above kept is = ap (is_shape_in_use g n) (shape_is _ is)
 
   pub inner_in_use : (children : ℕ) (above : Vec NodeId Global) → x.body ≡ body.Inner children above → is_in_use g n ≡ nat_lt 0 children
   inner_in_use children above is =
       let shape : shape_of g n ≡ Some Inner = shape_is _ is in
-      let count : Counts children ≡ Counts (children_of g n) =
-      sym (ap beside_in_body is) ∙ beside ∙ inner_due g n (ap is_inner_shape shape) in
-      ap (is_shape_in_use g n) shape
-      ∙ sym (ap (λ b. nat_lt 0 (counted_in b)) count ∙ any_counted (is_child g n) (nodes g))
+      let count : Counts children ≡ Counts (children_of g n) = sym (ap beside_in_body is) ∙ beside ∙ inner_due g n (ap is_inner_shape shape) in
+      ap (is_shape_in_use g n) shape ∙ sym (ap (λ b. nat_lt 0 (counted_in b)) count ∙ any_counted (is_child g n) (nodes g))
 
   pub other_in_use : ((children : ℕ) (above : Vec NodeId Global) → x.body ≡ body.Inner children above → ⊥)
       → ((kept : Box FileBody) (above : Vec NodeId Global) → x.body ≡ body.File kept above → ⊥)
       → ((kept : Box IndexBody) (above : Vec NodeId Global) → x.body ≡ body.Index kept above → ⊥)
       → is_in_use g n ≡ false
-  other_in_use no_inner no_file no_index =
-      ap (is_shape_in_use g n) (ap shape_in (sym node)) ∙ by x.body refl
+  other_in_use no_inner no_file no_index = ap (is_shape_in_use g n) (shape_is x.body refl) ∙ by x.body refl
     where
       by : (b : Body) → x.body ≡ b → is_shape_in_use g n (Some (shape_in_body b)) ≡ false
       by (body.Inner children above) is = absurd (no_inner children above is)

@@ -30,11 +30,12 @@ use Rattle.gl_graph.proofs.Born.{old_same, old_or_new, place_in, new_id, new_not
 use Rattle.gl_graph.proofs.Counted.{AreKept, are_kept, counted_in, counts_written}
 use Rattle.gl_graph.proofs.Counts.{count_cons, count_grown}
 use Rattle.gl_graph.proofs.Dues.{child_test, record_test, inner_due, file_due, intervals_same, due_stays, children_fit, one_more}
+use Rattle.gl_graph.proofs.Grow.{count_intervals}
 use Rattle.gl_graph.proofs.Held.{put, put_here, put_other, IsStored, live_held, births_held, within_held, beside_written, node_added, key_free, sound_held}
 use Rattle.gl_graph.proofs.Held.{recounted}
 use Rattle.gl_graph.proofs.KindRules.{parents_kept, plain_live, inner_plain, file_plain}
 use Rattle.gl_graph.proofs.Look.{all_at, live_node}
-use Rattle.gl_graph.proofs.NewIndex.{keys_of_intervals, count_intervals, interval_node, others, index_there, interval_there, file_index, frames, index_lawful}
+use Rattle.gl_graph.proofs.NewIndex.{keys_of_intervals, interval_node, others, index_there, interval_there, file_index, frames, index_lawful}
 use Rattle.gl_graph.proofs.SameParents.{intervals_shown, indexes_shown}
 use Rattle.gl_graph.proofs.Slots.{inserted_apart, inserted_within}
 use Rattle.gl_graph.proofs.Tally.{ones, count_borns}

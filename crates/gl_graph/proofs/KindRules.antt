@@ -1,14 +1,14 @@
 -- What the kinds require is kept if files, indexes, intervals and inner nodes stay as they were: one lemma for each kind.
-use Rattle.std.specs.Prelude.{◌≡◌, ℕ, ◌≤◌, Bool, true, false, nat_le, List, [], ◌∷◌, length, Option, Some, None}
+use Rattle.std.specs.Prelude.{◌≡◌, ℕ, ◌≤◌, Bool, true, false, ◌||◌, is_some, nat_le, List, [], ◌∷◌, length, Option, Some, None}
 use Rattle.std.specs.List.{list_all, list_any}
 use Rattle.std.proofs.lemmas.List.Sums.{count_by-le-length}
 use Rattle.std.proofs.Common.{refl, sym, ap, ap₂, ◌∙◌, subst, arith, rules}
 use Rattle.gl_modes.proofs.NodeLemmas.{node_is, same_node-equal, same_node-refl}
-use Rattle.gl_modes.proofs.Words.{cases_of, or_elim, or_left, and_both, both, no}
+use Rattle.gl_modes.proofs.Words.{cases_of, or_elim, or_left, or_right, and_both, both, no}
 use Rattle.gl_modes.specs.declared.node.NodeId.{NodeId}
 use Rattle.gl_modes.specs.Nodes.{same_node}
 use Rattle.gl_graph.specs.Shapes.{Shape, Inner, File, Index, Interval, Rec, is_inner_shape, is_file_shape, is_record_shape, is_index_shape}
-use Rattle.gl_graph.specs.Shapes.{is_index_of_shape, bounds_in}
+use Rattle.gl_graph.specs.Shapes.{is_index_of_shape, bounds_in, place_in}
 use Rattle.gl_graph.specs.Graph.{Graph, Node, nodes, node_at, is_live, shape_in, shape_of, parents_in, is_child, indexes_of, interval, interval_of}
 use Rattle.gl_graph.specs.Graph.{interval_place, intervals_of, record_parents, key_or_zero}
 use Rattle.gl_graph.specs.Lawful.{are_inner, AreInnerParents, IsIndexNode, HasShape, IsWellFormed, IsLawfulGraph}
@@ -45,6 +45,25 @@ index_of f _ h = absurd (no h)
 pub index_in : (o : Option Shape) → is_index_shape o ≡ true → (file : NodeId) × (o ≡ Some (Index file (bounds_in o)))
 index_in (Some (Index file bounds)) k = (file, refl)
 index_in _ k = absurd (no k)
+
+-- the shape of an interval
+abbrev pub is_interval_shape : Option Shape → Bool
+is_interval_shape o = is_some (place_in o)
+
+-- a parent of a record is a file or an interval
+abbrev pub file_or_interval : Option Shape → Bool
+file_or_interval o = is_file_shape o || is_interval_shape o
+
+-- the kind of a node of which this one is a child
+abbrev pub parent_kind : Shape → Option Shape → Bool
+parent_kind (Interval place) o = is_index_shape o
+parent_kind (Rec keys) o = file_or_interval o
+parent_kind sh o = is_inner_shape o
+
+kind_plain : (sh : Shape) (o : Option Shape) → parent_kind sh o ≡ true → is_plain o ≡ true
+kind_plain (Interval place) o h = index_plain o h
+kind_plain (Rec keys) o h = search rules
+kind_plain _ o h = inner_plain o h
 
 -- the same shape, or files of which one may have a mark that the other does not have
 pub record AreAlike (o' o : Option Shape) : Type 0 where
@@ -83,34 +102,44 @@ module _ (g : Graph) (law : IsLawfulGraph g) where
       let few : length (bounds_in (shape_of g i)) ≡ length index.1 = ap (λ o. length (bounds_in o)) index.2 in
       node.intervals (interval_place (bounds_in (shape_of g i)) k) (omega arith)
 
-  -- no record is a parent
-  among_intervals : (f p : NodeId) (is : List NodeId) (keys : List ℕ) → list_all (λ i. is_index_of_shape f (shape_of g i)) is ≡ true
-      → list_any (same_node p) (intervals_of g is keys) ≡ true → is_plain (shape_of g p) ≡ true
-  among_intervals f p [] keys h k = absurd (no k)
-  among_intervals f p (i ∷ is) [] h k = absurd (no k)
-  among_intervals f p (i ∷ is) (key ∷ keys) h k =
+  -- the kind of a parent
+  interval_among : (f p : NodeId) (is : List NodeId) (keys : List ℕ) → list_all (λ i. is_index_of_shape f (shape_of g i)) is ≡ true
+      → list_any (same_node p) (intervals_of g is keys) ≡ true → is_interval_shape (shape_of g p) ≡ true
+  interval_among f p [] keys h k = absurd (no k)
+  interval_among f p (i ∷ is) [] h k = absurd (no k)
+  interval_among f p (i ∷ is) (key ∷ keys) h k =
       let t = and_both _ _ h in
-      or_elim _ _ k
-      (λ here. let it = interval_is f i key t.0 in ap (λ q. is_plain (shape_of g q)) (same_node-equal p _ here) ∙ ap (λ o. is_plain (shape_in o)) it)
-      (λ there. among_intervals f p is keys t.1 there)
+      or_elim _ _ k (λ here. let it = interval_is f i key t.0 in
+      ap (λ q. is_interval_shape (shape_of g q)) (same_node-equal p _ here) ∙ ap (λ o. is_interval_shape (shape_in o)) it)
+      (λ there. interval_among f p is keys t.1 there)
 
+  pub parent_of_record : (f p : NodeId) (keys : List ℕ) → is_file_shape (shape_of g f) ≡ true → list_any (same_node p) (record_parents g f keys) ≡ true
+      → file_or_interval (shape_of g p) ≡ true
+  parent_of_record f p keys h k =
+      or_elim _ _ k (λ here. or_left (is_file_shape (shape_of g p)) _ (ap (λ q. is_file_shape (shape_of g q)) (same_node-equal p f here) ∙ h))
+      (λ there. or_right (is_file_shape (shape_of g p)) _ (interval_among f p (indexes_of g f) keys
+      (all_filter (λ i. is_index_of_shape f (shape_of g i)) (nodes g)) there))
+
+  pub parent_by : (sh : Shape) (ps : List NodeId) (q p : NodeId) → HasShape g q sh ps → list_any (same_node p) ps ≡ true → parent_kind sh (shape_of g p) ≡ true
+  parent_by (Index f bs) ps q p h k = all_at (λ x. is_inner_shape (shape_of g x)) ps p k h.0.inner
+  parent_by (Interval place) ps q p h k =
+      or_elim _ _ (sym (ap (list_any (same_node p)) h.1) ∙ k)
+      (λ here. ap (λ x. is_index_shape (shape_of g x)) (same_node-equal p h.0 here) ∙ h.2) (λ none. absurd (no none))
+  parent_by (Rec keys) ps q p h k = parent_of_record h.0 p keys h.1.file_is (sym (ap (list_any (same_node p)) h.1.parents) ∙ k)
+  parent_by _ ps q p h k = all_at (λ x. is_inner_shape (shape_of g x)) ps p k h.inner
+
+  pub parent_is : (q p : NodeId) → is_child g p q ≡ true → (sh : Shape) × (shape_of g q ≡ Some sh) × (parent_kind sh (shape_of g p) ≡ true)
+  parent_is q p h =
+      let c = child_node g q p h in
+      (c.0.shape, ap shape_in c.1, parent_by c.0.shape c.0.parents q p (law.well_formed q c.0 c.1) c.2)
+
+  -- no record is a parent
   pub record_parent_plain : (f p : NodeId) (keys : List ℕ) → is_file_shape (shape_of g f) ≡ true
       → list_any (same_node p) (record_parents g f keys) ≡ true → is_plain (shape_of g p) ≡ true
-  record_parent_plain f p keys h k =
-      or_elim _ _ k
-      (λ here. ap (λ q. is_plain (shape_of g q)) (same_node-equal p f here) ∙ file_plain _ h)
-      (λ there. among_intervals f p (indexes_of g f) keys (all_filter (λ i. is_index_of_shape f (shape_of g i)) (nodes g)) there)
-
-  parent_plain_of : (sh : Shape) (ps : List NodeId) (n p : NodeId) → HasShape g n sh ps → list_any (same_node p) ps ≡ true → is_plain (shape_of g p) ≡ true
-  parent_plain_of (Index f bs) ps n p h k = inner_plain _ (all_at (λ q. is_inner_shape (shape_of g q)) ps p k h.0.inner)
-  parent_plain_of (Interval place) ps n p h k =
-      or_elim _ _ (sym (ap (list_any (same_node p)) h.1) ∙ k)
-      (λ here. ap (λ q. is_plain (shape_of g q)) (same_node-equal p h.0 here) ∙ index_plain _ h.2) (λ none. absurd (no none))
-  parent_plain_of (Rec keys) ps n p h k = record_parent_plain h.0 p keys h.1.file_is (sym (ap (list_any (same_node p)) h.1.parents) ∙ k)
-  parent_plain_of _ ps n p h k = inner_plain _ (all_at (λ q. is_inner_shape (shape_of g q)) ps p k h.inner)
+  record_parent_plain f p keys h k = kind_plain (Rec keys) (shape_of g p) (parent_of_record f p keys h k)
 
   pub parent_plain : (n p : NodeId) → is_child g p n ≡ true → is_plain (shape_of g p) ≡ true
-  parent_plain n p h = let c = child_node g n p h in parent_plain_of c.0.shape c.0.parents n p (law.well_formed n c.0 c.1) c.2
+  parent_plain n p h = let k = parent_is n p h in kind_plain k.0 (shape_of g p) k.2
 
 module _ (g g' : Graph) (law : IsLawfulGraph g) (same : Frames g g') where
   inner_kept : (ps : List NodeId) → are_inner g ps ≡ true → are_inner g' ps ≡ true

@@ -18,17 +18,14 @@ use Rattle.gl_graph.proofs.Look.{all_at}
 use Rattle.gl_graph.proofs.KindRules.{Frames, inner_plain, file_plain, plain_live, parents_kept}
 use Rattle.gl_graph.proofs.Moved.{some_at}
 use Rattle.gl_graph.proofs.RouteLengths.{listed}
-use Rattle.gl_graph.proofs.Born.{place_in, place_below, new_at, none_above, new_id, new_node, born_frames}
-use Rattle.gl_graph.proofs.Born.{born_lawful, IsFresh}
+use Rattle.gl_graph.proofs.Born.{place_in, place_below, new_at, none_above, new_id, new_node, born_frames, born_lawful, IsFresh}
+use Rattle.gl_graph.proofs.Grow.{count_intervals}
+use Rattle.gl_graph.proofs.Removed.{rec_live}
 use Rattle.gl_graph.proofs.NewNodes.{place_there, key_listed, places_apart}
 
 pub keys_of_intervals : (id : NodeId) (place : ℕ) (keys : List ℕ) → keys_of (interval_nodes id place keys) ≡ keys
 keys_of_intervals id place [] = refl
 keys_of_intervals id place (k ∷ ks) = ap (λ xs. k ∷ xs) (keys_of_intervals id (place + 1) ks)
-
-pub count_intervals : (id : NodeId) (place : ℕ) (keys : List ℕ) → length (interval_nodes id place keys) ≡ length keys
-count_intervals id place [] = refl
-count_intervals id place (k ∷ ks) = ap suc (count_intervals id (place + 1) ks)
 
 -- the node at a place is the interval of that place
 pub interval_node : (id : NodeId) (place : ℕ) (keys : List ℕ) (k c : ℕ) (node : Node) → place + k ≡ c
@@ -94,15 +91,8 @@ module _ (g : Graph) (law : IsLawfulGraph g) (key : ℕ) (ps : List NodeId) (fil
     unused : (f r : NodeId) → is_record_shape (shape_of g r) ≡ true → is_child g f r ≡ true → indexes_of grown f ≡ indexes_of g f
     unused f r rec child =
         others f (split (same_node f file) (λ e. absurd (no (sym no_records
-        ∙ some_at (λ q. is_record_shape (shape_of g q) && is_child g file q) (nodes g) r (listed g law r (rec_live rec))
+        ∙ some_at (λ q. is_record_shape (shape_of g q) && is_child g file q) (nodes g) r (listed g law r (rec_live g law r rec))
         (both _ _ rec (subst (λ x. is_child g x r ≡ true) (same_node-equal f file e) child))))) (λ e. e))
-      where
-        rec_live : is_record_shape (shape_of g r) ≡ true → is_live g r ≡ true
-        rec_live h = by (node_at g r) h
-          where
-            by : (o : Option Node) → is_record_shape (shape_in o) ≡ true → is_some o ≡ true
-            by None h' = absurd (no h')
-            by (Some x) h' = refl
 
     pub frames : Frames g grown
     frames = born_frames g law ns unused

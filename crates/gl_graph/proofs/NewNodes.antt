@@ -24,18 +24,15 @@ key_listed [] k node e = absurd (none_some e)
 key_listed (n ∷ ns) zero node e = ap (λ b. b || list_any (λ x. x == node.key) (keys_of ns)) (number_same n.key node.key (ap (λ x. x.key) (some_is e)))
 key_listed (n ∷ ns) (suc k) node e = or_right (n.key == node.key) _ (key_listed ns k node e)
 
+first_apart : (n : Node) (ns : List Node) → are_apart (keys_of (n ∷ ns)) ≡ true → (k : ℕ) (b : Node) → place_in ns k ≡ Some b → n.key ≡ b.key → ⊥
+first_apart n ns h k b e same = no (sym (ap not (ap (λ x. list_any (λ y. y == x) (keys_of ns)) same ∙ key_listed ns k b e)) ∙ (and_both _ _ h).0)
+
 pub places_apart : (ns : List Node) → are_apart (keys_of ns) ≡ true → (j k : ℕ) (a b : Node) → place_in ns j ≡ Some a → place_in ns k ≡ Some b
     → a.key ≡ b.key → j ≡ k
 places_apart [] h j k a b e f same = absurd (none_some e)
 places_apart (n ∷ ns) h zero zero a b e f same = refl
-places_apart (n ∷ ns) h zero (suc k) a b e f same = absurd (clash n ns h k b f (ap (λ x. x.key) (some_is e) ∙ same))
-  where
-    clash : (n : Node) (ns : List Node) → are_apart (keys_of (n ∷ ns)) ≡ true → (k : ℕ) (b : Node) → place_in ns k ≡ Some b → n.key ≡ b.key → ⊥
-    clash n' ns' h' k' b' f' same' = no (sym (ap not (ap (λ x. list_any (λ y. y == x) (keys_of ns')) same' ∙ key_listed ns' k' b' f')) ∙ (and_both _ _ h').0)
-places_apart (n ∷ ns) h (suc j) zero a b e f same = absurd (clash n ns h j a e (ap (λ x. x.key) (some_is f) ∙ sym same))
-  where
-    clash : (n : Node) (ns : List Node) → are_apart (keys_of (n ∷ ns)) ≡ true → (k : ℕ) (b : Node) → place_in ns k ≡ Some b → n.key ≡ b.key → ⊥
-    clash n' ns' h' k' b' f' same' = no (sym (ap not (ap (λ x. list_any (λ y. y == x) (keys_of ns')) same' ∙ key_listed ns' k' b' f')) ∙ (and_both _ _ h').0)
+places_apart (n ∷ ns) h zero (suc k) a b e f same = absurd (first_apart n ns h k b f (ap (λ x. x.key) (some_is e) ∙ same))
+places_apart (n ∷ ns) h (suc j) zero a b e f same = absurd (first_apart n ns h j a e (ap (λ x. x.key) (some_is f) ∙ sym same))
 places_apart (n ∷ ns) h (suc j) (suc k) a b e f same = ap suc (places_apart ns (and_both _ _ h).1 j k a b e f same)
 
 -- one new node, no index

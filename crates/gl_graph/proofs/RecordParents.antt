@@ -2,6 +2,7 @@
 use Rattle.std.specs.Prelude.{◌≡◌, ℕ, ◌<◌, Bool, true, false, ◌||◌, List, [], ◌∷◌, length, Option, Some, slice_index_or, zero, suc, ◌&&◌}
 use Rattle.std.specs.List.{list_all, list_any}
 use Rattle.std.proofs.Common.{refl, sym, ap, ap₂, ◌∙◌, subst, arith}
+use Rattle.std.proofs.Math.Bool.{or-false}
 use Rattle.gl_modes.proofs.NodeLemmas.{same_node-equal}
 use Rattle.gl_modes.proofs.Words.{split, no, and_both}
 use Rattle.gl_modes.specs.declared.node.NodeId.{NodeId}
@@ -44,11 +45,7 @@ module _ (g : Graph) (law : IsLawfulGraph g) where
   pub file_among : (f n : NodeId) (keys : List ℕ) → is_file_shape (shape_of g n) ≡ true → list_any (same_node n) (record_parents g f keys) ≡ same_node n f
   file_among f n keys h =
       ap (λ b. same_node n f || b) (no_file_among f n (indexes_of g f) keys (all_filter (λ i. is_index_of_shape f (shape_of g i)) (nodes g)) h)
-      ∙ or_nothing (same_node n f)
-    where
-      or_nothing : (b : Bool) → (b || false) ≡ b
-      or_nothing true = refl
-      or_nothing false = refl
+      ∙ or-false (same_node n f)
 
 -- a record has keys
 pub record_shape : (o : Option Shape) → is_record_shape o ≡ true → (keys : List ℕ) × (o ≡ Some (Rec keys))

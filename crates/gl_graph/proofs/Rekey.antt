@@ -4,7 +4,7 @@ use Rattle.std.specs.Prelude.{None, is_some, if◌then◌else◌, slice_index_or
 use Rattle.std.specs.List.{list_any, position_or_len}
 use Rattle.std.proofs.lemmas.Bool.Decides.{nat_tests}
 use Rattle.gl_modes.proofs.Words.{split, no, none_some, some_is}
-use Rattle.gl_modes.proofs.NodeLemmas.{same_node-sym, same_node-equal, same_node-other, same_node-differ}
+use Rattle.gl_modes.proofs.NodeLemmas.{same_node-sym, same_node-equal, same_node-differ, same_node-refl}
 use Rattle.std.proofs.lemmas.List.Quantifiers.{position-Some}
 use Rattle.std.proofs.Common.{refl, sym, ap, ap₂, ◌∙◌, subst, arith}
 use Rattle.gl_modes.specs.declared.node.NodeId.{NodeId}
@@ -23,6 +23,7 @@ use Rattle.gl_graph.specs.Seen.{Limits, shape_in_body, vertex_of, seen, body_wit
 use Rattle.gl_graph.proofs.Changed.{IsAlike}
 use Rattle.gl_graph.proofs.Distinct.{one_place, indexes_distinct, index_listed}
 use Rattle.gl_graph.proofs.Moved.{rec_alike, rekeyed_is, rekey_lawful}
+use Rattle.gl_graph.proofs.KindRules.{index_of, is_plain, plain_live}
 use Rattle.gl_graph.proofs.Removed.{rec_live}
 use Rattle.gl_graph.proofs.SameParents.{key_parents, parent_set, parent_set_shape}
 use Rattle.gl_graph.proofs.RecordParents.{its_file, its_keys, its_parents, record_of_file, file_among}
@@ -86,11 +87,21 @@ key_beside (body.File kept above) place key n = refl
 key_beside (body.Index kept above) place key n = refl
 key_beside _ place key n = refl
 
+-- a record is stored that has this key, and a parent at the next place
+pub record HasPlace (s : Slab Stored) (r : NodeId) (place : ℕ) : Type 0 where
+  pub there : ContainsKey s r.key
+  pub keys : (x : Stored) → get s r.key ≡ Some x → place < length (keys_in (Some (shape_in_body x.body)))
+  pub parents : (x : Stored) → get s r.key ≡ Some x → place + 1 < length (parents_in_body x.body)
+  pub place_fits : place + 1 < 2 ^ 64
+
 module _ {limits : Limits} {old : Slab Stored} {births : ℕ} {g : Graph} (h : Holds limits old births g (due g)) (law : IsLawfulGraph g)
     (r i : NodeId) (key place : ℕ) (rec : is_record_shape (shape_of g r) ≡ true)
-    (at : position (λ listed. same_node listed i) (indexes_of g (first_parent g r)) ≡ Some place) where
+    (file : NodeId) (its : file ≡ first_parent g r) (found : position (λ listed. same_node listed i) (indexes_of g file) ≡ Some place) where
   abbrev is : List NodeId
   is = indexes_of g (first_parent g r)
+
+  at : position (λ listed. same_node listed i) is ≡ Some place
+  at = subst (λ f. position (λ listed. same_node listed i) (indexes_of g f) ≡ Some place) its found
 
   abbrev keys : List ℕ
   keys = keys_in (shape_of g r)
@@ -100,9 +111,6 @@ module _ {limits : Limits} {old : Slab Stored} {births : ℕ} {g : Graph} (h : H
 
   slot : IsStored old g (due g) r
   slot = live_held h r live
-
-  pub contained : ContainsKey old r.key
-  contained = ap is_some slot.there
 
   -- whatever is stored under the record's key is the record
   node_is : (x : Stored) → get old r.key ≡ Some x → node_at g r ≡ Some (node_of r.key (vertex_of x))
@@ -120,27 +128,28 @@ module _ {limits : Limits} {old : Slab Stored} {births : ℕ} {g : Graph} (h : H
   each : length keys ≡ length is
   each = its_keys g law r rec
 
-  pub key_there : (x : Stored) → get old r.key ≡ Some x → place < length (keys_in (Some (shape_in_body x.body)))
-  key_there x e = let same = ap (λ o. length (keys_in (shape_in o))) (node_is x e) in let l = low in let n = each in omega arith
-
-  pub parent_there : (x : Stored) → get old r.key ≡ Some x → place + 1 < length (parents_in_body x.body)
-  parent_there x e =
-      let same : parents_in_body x.body ≡ record_parents g (first_parent g r) keys = sym (ap parents_in (node_is x e)) ∙ its_parents g law r rec in
-      let count : length (parents_in_body x.body) ≡ suc (length is) = ap length same ∙ ap suc (count_intervals_of g is keys each) in
-      let l = low in
-      omega arith
-
-  pub place_fits : place + 1 < 2 ^ 64
-  place_fits = let l = low in let few = law.seven_indexes (first_parent g r) in omega arith
+  -- the key and its interval have their places in what is stored
+  pub rekeys : HasPlace old r place
+  rekeys = record {
+    there = ap is_some slot.there;
+    keys = λ x e. (let same = ap (λ o. length (keys_in (shape_in o))) (node_is x e) in let l = low in let n = each in omega arith);
+    parents = λ x e.
+        (let same : parents_in_body x.body ≡ record_parents g (first_parent g r) keys = sym (ap parents_in (node_is x e)) ∙ its_parents g law r rec in
+        let count : length (parents_in_body x.body) ≡ suc (length is) = ap length same ∙ ap suc (count_intervals_of g is keys each) in
+        let l = low in
+        omega arith);
+    place_fits = (let l = low in let few = law.seven_indexes (first_parent g r) in omega arith);
+  }
 
   keys_are : keys_with is keys i key ≡ slice_set keys place key
-  keys_are = keys_set is keys i key place each low (λ d. ap (λ q. same_node q i) (here d) ∙ same_self i) other
-    where
-      same_self : (q : NodeId) → same_node q q ≡ true
-      same_self q = split (same_node q q) (λ e. e) (λ e. absurd (same_node-other q q e refl))
+  keys_are = keys_set is keys i key place each low (λ d. ap (λ q. same_node q i) (here d) ∙ same_node-refl i) other
 
-  module _ {new : Slab Stored} (write : (x : Stored) → get old r.key ≡ Some x
-      → Updates old new r.key (Some (record x { body = body_rekeyed x.body place key (interval_of g i key) }))) (len : slab_len new ≡ slab_len old) where
+  module _ {new : Slab Stored} (interval : NodeId) (its_interval : interval ≡ interval_of g i key) (written : (x : Stored) → get old r.key ≡ Some x
+      → Updates old new r.key (Some (record x { body = body_rekeyed x.body place key interval }))) (len : slab_len new ≡ slab_len old) where
+    write : (x : Stored) → get old r.key ≡ Some x → Updates old new r.key (Some (record x { body = body_rekeyed x.body place key (interval_of g i key) }))
+    write = subst (λ (n : NodeId). (x : Stored) → get old r.key ≡ Some x
+        → Updates old new r.key (Some (record x { body = body_rekeyed x.body place key n }))) its_interval written
+
     abbrev was : Stored
     was = slot.stored
 
@@ -226,12 +235,8 @@ not_missed p xs h e =
 pub index_among : (g : Graph) (law : IsLawfulGraph g) (f i : NodeId) → is_index_of_shape f (shape_of g i) ≡ true
     → list_any (λ listed. same_node listed i) (indexes_of g f) ≡ true
 index_among g law f i h =
-    turned (indexes_of g f) ∙ index_listed g law f i (by (node_at g i) h) h
+    turned (indexes_of g f) ∙ index_listed g law f i (plain_live g i (ap is_plain (index_of f (shape_of g i) h).2)) h
   where
-    by : (o : Option Node) → is_index_of_shape f (shape_in o) ≡ true → is_some o ≡ true
-    by None k = absurd (no k)
-    by (Some x) k = refl
-
     turned : (xs : List NodeId) → list_any (λ listed. same_node listed i) xs ≡ list_any (same_node i) xs
     turned [] = refl
     turned (x ∷ xs) = ap₂ (λ a b. a || b) (same_node-sym x i) (turned xs)

@@ -1,4 +1,5 @@
 -- Bounds that increase one after the other increase.
+use Rattle.std.proofs.Math.Bool.{and-false}
 use Rattle.std.specs.Prelude.{◌≡◌, ℕ, ◌<◌, ◌≤◌, Bool, true, false, ◌&&◌, nat_lt, List, [], ◌∷◌, drop, length, slice_index_or, ◌+◌}
 use Rattle.std.specs.List.{list_all}
 use Rattle.std.proofs.Common.{refl, sym, ap, ap₂, ◌∙◌, arith}
@@ -16,15 +17,11 @@ rising_skip : (a b : ℕ) (bs : List ℕ) → a < b → is_rising (a ∷ b ∷ b
 rising_skip a b bs low =
     split (list_all (λ c. nat_lt b c) bs)
     (λ e. ap₂ (λ s t. (s && t) && (list_all (λ c. nat_lt b c) bs && is_rising bs)) less (all_above a b bs low e))
-    (λ e. ap (λ t. (nat_lt a b && list_all (λ c. nat_lt a c) bs) && (t && is_rising bs)) e ∙ nothing (nat_lt a b && list_all (λ c. nat_lt a c) bs)
+    (λ e. ap (λ t. (nat_lt a b && list_all (λ c. nat_lt a c) bs) && (t && is_rising bs)) e ∙ and-false (nat_lt a b && list_all (λ c. nat_lt a c) bs)
     ∙ sym (ap (λ t. t && is_rising bs) e))
   where
     less : nat_lt a b ≡ true
     less = grind (arith, nat_tests)
-
-    nothing : (x : Bool) → (x && false) ≡ false
-    nothing true = refl
-    nothing false = refl
 
 rising_stop : (a b : ℕ) (bs : List ℕ) → b ≤ a → is_rising (a ∷ b ∷ bs) ≡ false
 rising_stop a b bs high = ap (λ s. (s && list_all (λ c. nat_lt a c) bs) && is_rising (b ∷ bs)) less

@@ -11,6 +11,7 @@ use Rattle.gl_modes.specs.declared.node.NodeId.{NodeId}
 use Rattle.indexmap.specs.IndexMap.{swap_remove_by}
 use Rattle.std.proofs.Common.{ap, ap₂, arith, lt-ltb, refl, subst, sym, ◌∙◌}
 use Rattle.std.proofs.Math.Bool.{and-false}
+use Rattle.std.proofs.lemmas.Bool.{not-true}
 use Rattle.std.proofs.lemmas.Bool.Decides.{nat_tests}
 use Rattle.std.proofs.lemmas.List.{get_or-set_other, get_or-set_same, get_or-take, length-take-le, take-set, take-take}
 use Rattle.std.proofs.lemmas.Map.Keys.{IsDistinct-head, IsDistinct-tail}
@@ -141,11 +142,7 @@ module _ (covered : NodeId → Bool) (child n q : NodeId) (m : Mode) (same : n �
 
 -- a held node is not marked
 pub held_not : (m : Mode) → not (same_mode m NL) ≡ true → same_mode m NL ≡ false
-held_not m h = by (same_mode m NL) h
-  where
-    by : (b : Bool) → not b ≡ true → b ≡ false
-    by true e = sym e
-    by false e = refl
+held_not m h = not-true (same_mode m NL) h
 
 -- if a test fails at a place and after it, it fails from that place on
 pub first_or_later : {A : Type 0} (es : List (NodeId × A)) (at : ℕ) (p : NodeId × A) → Some p ≡ slice_get es at → (test : NodeId → Bool) → test p.0 ≡ false
