@@ -76,7 +76,8 @@ lists_stored _ is k e = cc
 pub indexes_found : (g : Graph) (f : NodeId) (b : Body) → beside_in_body b ≡ due g f → is_file_shape (shape_of g f) ≡ true → indexes_in_body b ≡ indexes_of g f
 indexes_found g f b e h = (lists_stored b _ _ (e ∙ file_due g f h)).0
 
-pub records_found : (g : Graph) (f : NodeId) (b : Body) → beside_in_body b ≡ due g f → is_file_shape (shape_of g f) ≡ true → records_in_body b ≡ record_count g f
+pub records_found : (g : Graph) (f : NodeId) (b : Body) → beside_in_body b ≡ due g f → is_file_shape (shape_of g f) ≡ true
+    → records_in_body b ≡ record_count g f
 records_found g f b e h = (lists_stored b _ _ (e ∙ file_due g f h)).1
 
 -- a node that is no index has no intervals

@@ -3,21 +3,18 @@ use Rattle.std.specs.Prelude.{◌≡◌, ◌≢◌, ◌⊎◌, ℕ, zero, suc, �
 use Rattle.std.specs.Prelude.{is_some, if◌then◌else◌}
 use Rattle.std.specs.List.{list_any, filter_map, range_with_len}
 use Rattle.std.proofs.lemmas.List.Elements.{filter_map-append}
-use Rattle.std.proofs.lemmas.List.FromFn.{length-range_with_len}
-use Rattle.std.proofs.lemmas.List.{length-append}
 use Rattle.std.proofs.Common.{refl, sym, ap, ◌∙◌, subst, arith, rules, inl, inr, ⊎_elim}
 use Rattle.gl_modes.proofs.NodeLemmas.{node_is}
 use Rattle.gl_modes.proofs.Words.{split, cases_of, no, none_some, number_same, number_other}
 use Rattle.gl_modes.specs.declared.node.NodeId.{NodeId}
 use Rattle.gl_modes.specs.Nodes.{same_node}
 use Rattle.gl_graph.specs.Shapes.{is_record_shape, is_index_of_shape}
-use Rattle.gl_graph.specs.Graph.{Graph, Node, id_of, nodes, node_count, with_key, node_at, is_live, parents_in, shape_in, shape_of, is_child}
-use Rattle.gl_graph.specs.Graph.{indexes_of, IsFreeKey}
+use Rattle.gl_graph.specs.Graph.{Graph, Node, id_of, node_count, with_key, node_at, is_live, parents_in, shape_in, shape_of, is_child, indexes_of, IsFreeKey}
 use Rattle.gl_graph.specs.Lawful.{IsWellFormed, IsLawfulGraph}
 use Rattle.gl_graph.specs.Changes.{born_node, born_nodes}
 use Rattle.gl_graph.proofs.Look.{found_at, finds, live_node, there_is, child_node}
 use Rattle.gl_graph.proofs.KindRules.{Frames, well_formed_kept, plain_live, one_shape}
-use Rattle.gl_graph.proofs.Listings.{kept, index_born, indexes_are, range_append, map_same, map_short}
+use Rattle.gl_graph.proofs.Listings.{kept, index_born, indexes_are, range_append, map_same}
 use Rattle.gl_graph.proofs.Routes.{acyclic_beside}
 
 -- the node at this place of those that are born
@@ -121,17 +118,6 @@ module _ (g : Graph) (law : IsLawfulGraph g) (ns : List Node) where
       ∙ ap (λ xs. xs ++ new_indexes f) (map_same (index_born g f) (index_born grown f) 1 g.births (λ b low high. old_index f b (omega arith))
       ∙ sym (indexes_are g f))
 
-  count_grown : node_count grown ≤ node_count g + length ns
-  count_grown =
-      let h : ℕ → Option NodeId = λ b. id_of b (grown.at b) in
-      let all : length (nodes grown) ≡ length (filter_map h (range_with_len 1 g.births)) + length (filter_map h (range_with_len (g.births + 1) (length ns)))
-      = ap length (parts h) ∙ length-append (filter_map h (range_with_len 1 g.births)) (filter_map h (range_with_len (g.births + 1) (length ns))) in
-      let old : length (filter_map h (range_with_len 1 g.births)) ≡ node_count g =
-      ap length (map_same (λ b. id_of b (g.at b)) h 1 g.births (λ b low high. ap (id_of b) (old_at g ns b (omega arith)))) in
-      let new = map_short h (range_with_len (g.births + 1) (length ns)) in
-      let many = length-range_with_len (g.births + 1) (length ns) in
-      omega arith
-
   abbrev pub IsFresh : NodeId → Type 0
   IsFresh p = (is_live g p ≡ true) ⊎ ((is_live grown p ≡ true) × ((q : NodeId) → is_child grown q p ≡ true → is_live g q ≡ true))
 
@@ -148,7 +134,7 @@ module _ (g : Graph) (law : IsLawfulGraph g) (ns : List Node) where
         (up : (k : ℕ) (node : Node) (p : NodeId) → place_in ns k ≡ Some node → list_any (same_node p) node.parents ≡ true → IsFresh p)
         (free : (k : ℕ) (node : Node) → place_in ns k ≡ Some node → IsFreeKey g node.key)
         (differ : (j k : ℕ) (a b : Node) → place_in ns j ≡ Some a → place_in ns k ≡ Some b → a.key ≡ b.key → j ≡ k)
-        (seven : (f : NodeId) → length (indexes_of grown f) ≤ 7) (room : node_count g + length ns ≤ g.most) where
+        (seven : (f : NodeId) → length (indexes_of grown f) ≤ 7) (room : node_count grown ≤ g.most) where
       old_child : (p n : NodeId) → is_live g n ≡ true → is_child grown p n ≡ true → is_child g p n ≡ true
       old_child p n h k = sym (ap (λ o. list_any (same_node p) (parents_in o)) (old_same n h)) ∙ k
 
@@ -190,5 +176,5 @@ module _ (g : Graph) (law : IsLawfulGraph g) (ns : List Node) where
             (λ k at same. let low = place_below ns k x.0 at in let birth : b ≡ g.births + 1 + k = ap (λ q. q.birth) same in (omega arith, omega arith));
         seven_indexes = seven;
         limit = subst (λ m. m ≤ 2 ^ 31) (sym (most_is g ns)) law.limit;
-        room = let few = count_grown in let same : grown.most ≡ g.most = most_is g ns in omega arith;
+        room = let same : grown.most ≡ g.most = most_is g ns in omega arith;
       }

@@ -6,20 +6,20 @@ use Rattle.std.proofs.Math.Bool.{and-false, and-true, or-false}
 use Rattle.std.proofs.Math.Path.{fun_ext}
 use Rattle.std.proofs.lemmas.Bool.Decides.{nat_tests}
 use Rattle.std.proofs.lemmas.List.Sums.{count_by-le-length}
-use Rattle.std.proofs.Common.{refl, sym, ap, ap₂, ◌∙◌, subst, arith, inl, inr}
+use Rattle.std.proofs.Common.{refl, sym, ap, ap₂, ◌∙◌, subst, arith, inl, inr, rules}
 use Rattle.gl_modes.proofs.NodeLemmas.{node_is, same_node-equal, same_node-refl, same_node-from_equal}
 use Rattle.gl_modes.proofs.Words.{split, cases_of, or_elim, or_left, or_right, and_both, both, clash, no, none_some, some_is, not_true}
 use Rattle.gl_modes.proofs.Words.{number_same, number_other, same_number, other_number}
 use Rattle.gl_modes.specs.declared.node.NodeId.{NodeId}
 use Rattle.gl_modes.specs.Nodes.{same_node}
 use Rattle.gl_graph.specs.Shapes.{Shape, Inner, File, Index, Interval, Rec, is_inner_shape, is_file_shape, is_index_shape, is_record_shape, is_index_of_shape}
-use Rattle.gl_graph.specs.Shapes.{is_movable_shape, bounds_in, place_in}
+use Rattle.gl_graph.specs.Shapes.{is_movable_shape, bounds_in}
 use Rattle.gl_graph.specs.Graph.{Graph, Node, id_of, nodes, node_count, with_key, node_at, is_live, parents_in, shape_in, shape_of, is_child, parents_of}
-use Rattle.gl_graph.specs.Graph.{indexes_of, interval, interval_at, interval_of, interval_place, intervals_of, record_parents, key_or_zero, is_record_of}
+use Rattle.gl_graph.specs.Graph.{indexes_of, interval, interval_at, interval_of, interval_place, intervals_of, key_or_zero, is_record_of}
 use Rattle.gl_graph.specs.Lawful.{AreInnerParents, HasShape, IsLawfulGraph, are_inner}
 use Rattle.gl_graph.specs.Changes.{without_node, without_branch}
 use Rattle.gl_graph.specs.Refusals.{has_records, is_in_use, is_shape_in_use}
-use Rattle.gl_graph.proofs.Look.{all_at, all_filter, finds, found_at, live_node, child_live, child_node, there_is, one_birth}
+use Rattle.gl_graph.proofs.Look.{all_filter, finds, found_at, live_node, child_live, child_node, there_is, one_birth}
 pub use Rattle.gl_graph.proofs.KindRules.{is_interval_shape}
 use Rattle.gl_graph.proofs.KindRules.{index_in, is_plain, inner_plain, file_plain, index_plain, plain_live, index_of, index_node, interval_is}
 use Rattle.gl_graph.proofs.KindRules.{parent_is, parent_by, parent_kind}
@@ -38,24 +38,19 @@ interval_count (Some (Index file bounds)) = length bounds + 1
 interval_count o = 0
 
 no_interval_inner : (o : Option Shape) → is_inner_shape o ≡ true → is_interval_shape o ≡ false
-no_interval_inner (Some (Interval place)) h = absurd (no h)
-no_interval_inner _ h = refl
+no_interval_inner o h = search rules
 
 pub no_interval_file : (o : Option Shape) → is_file_shape o ≡ true → is_interval_shape o ≡ false
-no_interval_file (Some (Interval place)) h = absurd (no h)
-no_interval_file _ h = refl
+no_interval_file o h = search rules
 
 no_interval_index : (o : Option Shape) → is_index_shape o ≡ true → is_interval_shape o ≡ false
-no_interval_index (Some (Interval place)) h = absurd (no h)
-no_interval_index _ h = refl
+no_interval_index o h = search rules
 
 pub movable_no_interval : (o : Option Shape) → is_movable_shape o ≡ true → is_interval_shape o ≡ false
-movable_no_interval (Some (Interval place)) h = absurd (no h)
-movable_no_interval _ h = refl
+movable_no_interval o h = search rules
 
 pub movable_no_record : (o : Option Shape) → is_movable_shape o ≡ true → is_record_shape o ≡ false
-movable_no_record (Some (Rec keys)) h = absurd (no h)
-movable_no_record _ h = refl
+movable_no_record o h = search rules
 
 pub movable_live : (g : Graph) (n : NodeId) → is_movable_shape (shape_of g n) ≡ true → is_live g n ≡ true
 movable_live g n h = cases_of (node_at g n) (λ e. absurd (no (sym (ap (λ o. is_movable_shape (shape_in o)) e) ∙ h))) (λ x e. there_is (node_at g n) x e)
@@ -288,8 +283,7 @@ module _ (g : Graph) (law : IsLawfulGraph g) (n : NodeId) (movable : is_movable_
       ∙ sym (sifted (λ q. is_index_of_shape f (shape_of g q)) (λ q. not (same_node n q)) (nodes g))
     where
       index_no_interval : (o : Option Shape) → is_interval_shape o ≡ true → is_index_of_shape f o ≡ false
-      index_no_interval (Some (Interval place)) h = refl
-      index_no_interval _ h = absurd (no h)
+      index_no_interval o h = search rules
 
       by : (b : ℕ) (o : Option Node) → g.at b ≡ o → picked (λ q o'. is_index_of_shape f (shape_in o')) b ((left g n).at b)
           ≡ picked (λ q o'. is_index_of_shape f (shape_in o') && not (same_node n q)) b (g.at b)
@@ -557,8 +551,7 @@ module _ (g : Graph) (law : IsLawfulGraph g) (n : NodeId) (movable : is_movable_
       (λ t. ap (λ o. is_record_shape (shape_in o) && list_any (same_node f) (parents_in o)) (at_beside g n b t)))
     where
       no_interval : (o : Option Shape) → is_interval_shape o ≡ true → is_record_shape o ≡ false
-      no_interval (Some (Interval place)) h = refl
-      no_interval _ h = absurd (no h)
+      no_interval o h = search rules
 
       by : (b : ℕ) → gone g n b ≡ true → (o : Option Node) → g.at b ≡ o →
           (is_record_shape (shape_in (g.at b)) && list_any (same_node f) (parents_in (g.at b))) ≡ false

@@ -2,7 +2,7 @@
 use Rattle.std.specs.Prelude.{◌≡◌, ◌≢◌, ℕ, zero, suc, ◌+◌, ◌-◌, ◌<◌, ◌≤◌, ◌^◌, Bool, true, false, ◌&&◌, List, [], ◌∷◌, length, Option, Some, None, cond}
 use Rattle.std.specs.Prelude.{if◌then◌else◌, slice_get}
 use Rattle.std.specs.List.{list_any}
-use Rattle.std.proofs.Common.{refl, sym, ap, ◌∙◌, arith}
+use Rattle.std.proofs.Common.{refl, sym, ap, ◌∙◌, arith, rules}
 use Rattle.std.proofs.lemmas.List.Sums.{count_by-le-length}
 use Rattle.gl_modes.proofs.Words.{no, not_true, number_same, number_other}
 use Rattle.gl_modes.specs.declared.node.NodeId.{NodeId}
@@ -43,26 +43,22 @@ pub inner_due : (g : Graph) (n : NodeId) → is_inner_shape (shape_of g n) ≡ t
 inner_due g n h = by (shape_of g n) h
   where
     by : (o : Option Shape) → is_inner_shape o ≡ true → due_as g n o ≡ Counts (children_of g n)
-    by (Some Inner) k = refl
-    by _ k = absurd (no k)
+    by o k = search rules
 
 pub file_due : (g : Graph) (n : NodeId) → is_file_shape (shape_of g n) ≡ true → due g n ≡ Lists (indexes_of g n) (record_count g n)
 file_due g n h = by (shape_of g n) h
   where
     by : (o : Option Shape) → is_file_shape o ≡ true → due_as g n o ≡ Lists (indexes_of g n) (record_count g n)
-    by (Some (File adopted)) k = refl
-    by _ k = absurd (no k)
+    by o k = search rules
 
 pub record_due : (g : Graph) (n : NodeId) → is_record_shape (shape_of g n) ≡ true → due g n ≡ Nothing
 record_due g n h = by (shape_of g n) h
   where
     by : (o : Option Shape) → is_record_shape o ≡ true → due_as g n o ≡ Nothing
-    by (Some (Rec keys)) k = refl
-    by _ k = absurd (no k)
+    by o k = search rules
 
 pub record_fixed : (o : Option Shape) → is_record_shape o ≡ true → is_movable_shape o ≡ false
-record_fixed (Some (Rec keys)) k = refl
-record_fixed _ k = absurd (no k)
+record_fixed o k = search rules
 
 pub not_among : (g : Graph) (ps : List NodeId) (n : NodeId) → are_inner g ps ≡ true → is_live g n ≡ false → list_any (same_node n) ps ≡ false
 not_among g ps n inner dead =
@@ -97,8 +93,7 @@ due_stays g g' n f same inner file index =
     due_after g g' n f (shape_of g n) (λ e. inner (ap is_inner_shape e)) file index ∙ sym (ap (λ o. due_as g' n (shape_in o)) same)
 
 no_file : (o : Option Shape) → is_inner_shape o ≡ true → file_or_interval o ≡ true → ⊥
-no_file (Some Inner) h k = no k
-no_file _ h k = no h
+no_file o h k = search rules
 
 module _ (g : Graph) (law : IsLawfulGraph g) where
   -- no inner node is a parent of an interval or a record
@@ -107,8 +102,7 @@ module _ (g : Graph) (law : IsLawfulGraph g) where
       not_true (is_child g m q) (λ c. let p = parent_is g law q m c in by p.0 (sym (ap is_movable_shape p.1) ∙ fixed) p.2)
     where
       no_index : (o : Option Shape) → is_inner_shape o ≡ true → is_index_shape o ≡ true → ⊥
-      no_index (Some Inner) h k = no k
-      no_index _ h k = no h
+      no_index o h k = search rules
 
       by : (sh : Shape) → is_movable_shape (Some sh) ≡ false → parent_kind sh (shape_of g m) ≡ true → ⊥
       by (Interval place) f k = no_index (shape_of g m) inner k

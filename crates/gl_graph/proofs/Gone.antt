@@ -1,7 +1,7 @@
 -- Nodes are removed from a slab, one after the other.
 use Rattle.std.specs.Prelude.{◌≡◌, ℕ, ◌+◌, true, ◌==◌, List, Some, None, is_some, slice_get}
-use Rattle.std.proofs.Common.{refl, sym, ap, ◌∙◌, arith}
-use Rattle.gl_modes.proofs.Words.{split, some_is, no, number_same, same_number, other_number}
+use Rattle.std.proofs.Common.{sym, ap, ◌∙◌, arith}
+use Rattle.gl_modes.proofs.Words.{split, some_is, same_number, other_number}
 use Rattle.gl_modes.specs.declared.node.NodeId.{NodeId}
 use Rattle.slab.specs.Slab.{Slab, get, slab_len, Updates}
 use Rattle.gl_graph.specs.declared.node.Node.{Node as Stored}
@@ -22,17 +22,10 @@ module _ (old mid : Slab Stored) (ids : List NodeId) (count : ℕ) (n : NodeId) 
       gone = λ place m low there. split (m.key == n.key)
           (λ t. ap (get new) (same_number m.key n.key t) ∙ u.changed)
           (λ t. u.others m.key (other_number m.key n.key t)
-          ∙ split (place == count) (λ e. absurd (no (sym t ∙ by place m there (same_number place count e))))
+          ∙ split (place == count) (λ e. let same : m ≡ n = some_is (sym there ∙ ap (slice_get ids) (same_number place count e) ∙ at) in
+          absurd (other_number m.key n.key t (ap (λ (q : NodeId). q.key) same)))
           (λ e. let other = other_number place count e in gone.gone place m (omega arith) there));
       stays = λ key none. u.others key (λ e. none count n (omega arith) at (sym e))
           ∙ gone.stays key (λ place m low there. none place m (omega arith) there);
       len = (let was = gone.len in omega arith);
     }
-      where
-        by : (place : ℕ) (m : NodeId) → slice_get ids place ≡ Some m → place ≡ count → (m.key == n.key) ≡ true
-        by place m there e =
-            let same : m ≡ n = some_is (sym there ∙ ap (slice_get ids) e ∙ at) in
-            ap (λ (q : NodeId). q.key == n.key) same ∙ refl_key n.key
-          where
-            refl_key : (k : ℕ) → (k == k) ≡ true
-            refl_key k = number_same k k refl

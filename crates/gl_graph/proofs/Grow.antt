@@ -1,8 +1,9 @@
 -- One node after the other is born.
-use Rattle.std.specs.Prelude.{◌≡◌, ◌≢◌, ℕ, suc, ◌+◌, Bool, true, false, not, ◌==◌, ◌||◌, List, [], ◌∷◌, ◌++◌, length, Option, Some, None, is_some}
+use Rattle.std.specs.Prelude.{◌≡◌, ◌≢◌, ℕ, suc, ◌+◌, true, false, not, ◌==◌, ◌||◌, List, [], ◌∷◌, ◌++◌, length, Option, Some, None, is_some}
 use Rattle.std.specs.List.{list_any}
 use Rattle.std.proofs.Math.Bool.{or-false}
 use Rattle.std.proofs.lemmas.Bool.{not-true}
+use Rattle.std.proofs.lemmas.List.Folds.{list_any-append}
 use Rattle.std.proofs.lemmas.List.{length-append}
 use Rattle.std.proofs.Common.{refl, sym, ap, ap₂, ◌∙◌, subst, arith, inl, inr}
 use Rattle.gl_modes.proofs.Words.{split, no, none_some, some_is, or_elim, both, and_both, same_number, other_number, number_other}
@@ -27,12 +28,7 @@ keys_more [] n = refl
 keys_more (m ∷ ns) n = ap (λ xs. m.key ∷ xs) (keys_more ns n)
 
 any_more : (k : ℕ) (xs : List ℕ) (x : ℕ) → list_any (λ y. y == k) (xs ++ x ∷ []) ≡ (list_any (λ y. y == k) xs || (x == k))
-any_more k [] x = or-false (x == k)
-any_more k (y ∷ xs) x = ap (λ b. (y == k) || b) (any_more k xs x) ∙ turn (y == k) (list_any (λ z. z == k) xs) (x == k)
-  where
-    turn : (a b c : Bool) → (a || (b || c)) ≡ ((a || b) || c)
-    turn true b c = refl
-    turn false b c = refl
+any_more k xs x = list_any-append (λ y. y == k) xs (x ∷ []) ∙ ap (λ b. list_any (λ y. y == k) xs || b) (or-false (x == k))
 
 apart_more : (xs : List ℕ) (x : ℕ) → are_apart xs ≡ true → list_any (λ y. y == x) xs ≡ false → are_apart (xs ++ x ∷ []) ≡ true
 apart_more [] x h k = refl

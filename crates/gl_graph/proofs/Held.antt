@@ -16,8 +16,7 @@ use Rattle.gl_graph.specs.Seen.{Limits, vertex_of, AreBornWithin, beside_in_body
 use Rattle.gl_graph.proofs.Changed.{nodes_same}
 use Rattle.gl_graph.proofs.Counts.{count_grown}
 use Rattle.gl_graph.proofs.Left.{fewer_nodes}
-use Rattle.gl_graph.proofs.Slots.{at_slot, stored_of, node_there, inserted, inserted_apart, written, written_apart, unseen}
-use Rattle.gl_graph.proofs.Slots.{removed, removed_apart}
+use Rattle.gl_graph.proofs.Slots.{at_slot, stored_of, node_there, inserted, inserted_apart, written, written_apart, unseen, removed, removed_apart}
 
 -- with another number of children
 abbrev pub recounted : (ℕ → ℕ) → Beside → Beside

@@ -1,16 +1,15 @@
 -- What is in use, read from what is stored beside the graph.
-use Rattle.std.specs.Prelude.{◌≡◌, ℕ, true, false, ◌||◌, nat_lt, List, length, Some}
+use Rattle.std.specs.Prelude.{◌≡◌, ℕ, true, false, ◌||◌, nat_lt, List, length, Some, Vec}
 use Rattle.std.proofs.Common.{refl, sym, ap, ap₂, ◌∙◌}
 use Rattle.gl_modes.specs.declared.node.NodeId.{NodeId}
 use Rattle.std.specs.Global.{Box}
-use Rattle.std.specs.Prelude.{Vec}
 use Rattle.std.specs.declared.alloc.Global.{Global}
 use Rattle.gl_graph.specs.declared.node.Body.{Body}
 use Rattle.gl_graph.specs.declared.node.Body.TheVariants as body
 use Rattle.gl_graph.specs.declared.node.FileBody.{FileBody}
 use Rattle.gl_graph.specs.declared.node.IndexBody.{IndexBody}
 use Rattle.gl_graph.specs.declared.node.Node.{Node as Stored}
-use Rattle.gl_graph.specs.Shapes.{Inner, File, Index, is_inner_shape, is_file_shape}
+use Rattle.gl_graph.specs.Shapes.{Inner, File, is_inner_shape, is_file_shape}
 use Rattle.gl_graph.specs.Graph.{Graph, node_at, shape_in, shape_of, nodes, is_child, is_record_of}
 use Rattle.gl_graph.specs.Lawful.{IsLawfulGraph}
 use Rattle.gl_graph.specs.Refusals.{has_records, is_in_use, is_shape_in_use}

@@ -3,7 +3,7 @@ use Rattle.std.specs.Prelude.{◌≡◌, ◌≢◌, ℕ, zero, suc, ◌+◌, ◌
 use Rattle.std.specs.Prelude.{is_some, cond, if◌then◌else◌, count_by, Vec}
 use Rattle.std.specs.List.{list_any}
 use Rattle.std.specs.declared.alloc.Global.{Global}
-use Rattle.std.proofs.Common.{refl, sym, ap, ap₂, ◌∙◌, subst, arith, ⊎_elim}
+use Rattle.std.proofs.Common.{refl, sym, ap, ap₂, ◌∙◌, subst, arith, ⊎_elim, rules}
 use Rattle.smallvec.specs.SmallVec.{SmallVec}
 use Rattle.gl_modes.proofs.NodeLemmas.{node_is, same_node-refl, same_node-equal, same_node-differ}
 use Rattle.gl_modes.proofs.Words.{split, cases_of, no, none_some, some_is, not_true, both, same_number, or_elim}
@@ -13,15 +13,14 @@ use Rattle.slab.specs.Slab.{Slab, get, slab_len, ContainsKey, Updates}
 use Rattle.gl_graph.specs.declared.node.Body.{Body}
 use Rattle.gl_graph.specs.declared.node.Body.TheVariants as body
 use Rattle.gl_graph.specs.declared.node.Node.{Node as Stored}
-use Rattle.gl_graph.specs.Shapes.{Shape, File, Index, Interval, is_inner_shape, is_file_shape}
+use Rattle.gl_graph.specs.Shapes.{Shape, Index, Interval, is_inner_shape, is_file_shape}
 use Rattle.gl_graph.specs.Graph.{Graph, Node, node_at, is_live, shape_in, shape_of, indexes_of, interval, node_count, IsFreeKey}
 use Rattle.gl_graph.specs.Lawful.{IsLawfulGraph, AreInnerParents}
 use Rattle.gl_graph.specs.Changes.{born_node, born_nodes, born_index, interval_nodes, are_apart, IsIndexBorn}
 use Rattle.gl_graph.specs.Refusals.{reindex_refusal}
 use Rattle.gl_graph.specs.View.{View, graph_of, node_of, record_count, children_of, intervals_from, Beside, Lists, Spans, Nothing, due_as, due}
 use Rattle.gl_graph.specs.Seen.{Limits, vertex_of, seen, shape_in_body, parents_in_body, body_with_intervals, body_with_indexes, beside_in_body, Holds}
-use Rattle.gl_graph.specs.Seen.{AreSound}
-use Rattle.gl_graph.specs.Seen.{AreBornApart, AreBornWithin}
+use Rattle.gl_graph.specs.Seen.{AreSound, AreBornApart, AreBornWithin}
 use Rattle.gl_graph.specs.Grown.{ids_of, AreIntervalsBorn, AreRecounted}
 use Rattle.gl_graph.specs.Sound.{limits_of, view_of, IsSound}
 use Rattle.gl_graph.specs.declared.graph.Graph.TheInside.{Inside}
@@ -276,8 +275,7 @@ module _ {limits : Limits} {old mid : Slab Stored} {births : ℕ} {g : Graph} (h
             (sym (no_inner (shape_of g file) may.file) ∙ ap (λ q. is_inner_shape (shape_of g q)) (sym (same_node-equal m file t)) ∙ i))
           where
             no_inner : (o : Option Shape) → is_file_shape o ≡ true → is_inner_shape o ≡ false
-            no_inner (Some (File adopted)) k = refl
-            no_inner _ k = absurd (no k)
+            no_inner o k = search rules
 
         pub index_parents : AreKept (λ children. children + 1 < 2 ^ 64) fourth ps
         index_parents =

@@ -1,7 +1,6 @@
 -- The interval of a key is the one that contains it.
-use Rattle.std.specs.Prelude.{◌≡◌, ℕ, zero, suc, ◌+◌, ◌<◌, ◌≤◌, ◌⊎◌, true, nat_le, List, [], ◌∷◌, ◌&&◌, length, Some, None, slice_index_or}
-use Rattle.std.specs.Prelude.{if◌then◌else◌}
-use Rattle.std.proofs.Common.{sym, ap, subst, arith, rules, add-one, ⊎_elim, ◌∙◌}
+use Rattle.std.specs.Prelude.{◌≡◌, ℕ, zero, suc, ◌+◌, ◌<◌, ◌≤◌, true, nat_le, List, [], ◌∷◌, ◌&&◌, length, Some, None, slice_index_or, if◌then◌else◌}
+use Rattle.std.proofs.Common.{sym, ap, subst, arith, add-one, ◌∙◌}
 use Rattle.std.proofs.lemmas.Bool.Decides.{nat_tests}
 use Rattle.gl_modes.proofs.Words.{and_both, both, none_some, some_is, split}
 use Rattle.gl_modes.specs.declared.node.NodeId.{NodeId}
@@ -10,7 +9,7 @@ use Rattle.gl_graph.specs.Intervals.{HoldsKey, beginning}
 use Rattle.gl_graph.specs.Laws.{IntervalsHoldKeys, KeysHaveIntervals}
 use Rattle.gl_graph.specs.Lawful.{IsLawfulGraph, IsRising}
 use Rattle.gl_graph.specs.Shapes.{bounds_in, is_index_shape}
-use Rattle.gl_graph.proofs.KeyPlace.{place_counted, rising_at}
+use Rattle.gl_graph.proofs.KeyPlace.{not_below, place_counted, rising_at}
 use Rattle.gl_graph.proofs.KindRules.{index_in, index_node}
 
 -- the bounds before the place of the key are not above it, and the others are
@@ -67,14 +66,6 @@ place_holds bs key k p = record {
   begun = begins_by bs key k p;
   next = λ h. subst (λ i. key < slice_index_or (0 ∷ bs) i 0) (sym (add-one k)) (p.after k (omega arith) h);
 }
-
-same_or_less : (i j : ℕ) → i ≤ j → (i < j) ⊎ (i ≡ j)
-same_or_less i j h = search rules
-
--- increasing numbers, one not before another
-not_below : (xs : List ℕ) (i j : ℕ) → IsRising xs → i ≤ j → j < length xs → slice_index_or xs i 0 ≤ slice_index_or xs j 0
-not_below xs i j rising le low = ⊎_elim (λ h. let r = rising_at xs i j rising h low in omega arith)
-    (λ e. let same = ap (λ k. slice_index_or xs k 0) e in omega arith) (same_or_less i j le)
 
 -- and no other interval does
 held_there : (bs : List ℕ) (key k : ℕ) → IsRising (0 ∷ bs) → k ≤ length bs → HoldsKey bs k key → IsPlace bs key k

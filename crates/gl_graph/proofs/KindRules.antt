@@ -33,8 +33,7 @@ pub plain_live : (g : Graph) (q : NodeId) → is_plain (shape_of g q) ≡ true �
 plain_live g q h = cases_of (node_at g q) (λ e. absurd (no (sym (ap (λ o. is_plain (shape_in o)) e) ∙ h))) (λ x e. there_is (node_at g q) x e)
 
 pub rec_not_plain : (o : Option Shape) → is_record_shape o ≡ true → is_plain o ≡ true → ⊥
-rec_not_plain (Some (Rec keys)) h k = no k
-rec_not_plain _ h k = no h
+rec_not_plain o h k = search rules
 
 -- an index of a file
 pub index_of : (f : NodeId) (o : Option Shape) → is_index_of_shape f o ≡ true → (file : NodeId) × (bounds : List ℕ) × (o ≡ Some (Index file bounds))

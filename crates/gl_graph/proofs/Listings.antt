@@ -34,14 +34,6 @@ pub map_same : (h h' : ℕ → Option NodeId) (a n : ℕ) → ((b : ℕ) → a �
 map_same h h' a zero same = refl
 map_same h h' a (suc n) same = ap₂ cons_option (same a (omega arith) (omega arith)) (map_same h h' (a + 1) n (λ b low high. same b (omega arith) (omega arith)))
 
-cons_short : (o : Option NodeId) (xs : List NodeId) → length (cons_option o xs) ≤ suc (length xs)
-cons_short None xs = omega arith
-cons_short (Some x) xs = omega arith
-
-pub map_short : (h : ℕ → Option NodeId) (bs : List ℕ) → length (filter_map h bs) ≤ length bs
-map_short h [] = omega arith
-map_short h (b ∷ bs) = let one = cons_short (h b) (filter_map h bs) in let rest = map_short h bs in omega arith
-
 cons_fewer : (o o' : Option NodeId) (xs xs' : List NodeId) → (o' ≡ o) ⊎ (o' ≡ None) → length xs' ≤ length xs
     → length (cons_option o' xs') ≤ length (cons_option o xs)
 cons_fewer o o' xs xs' e le = ⊎_elim (λ same. subst (λ (x : Option NodeId). length (cons_option x xs') ≤ length (cons_option o xs)) (sym same)

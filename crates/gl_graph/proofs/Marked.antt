@@ -7,13 +7,10 @@ use Rattle.gl_modes.proofs.NodeLemmas.{node_is}
 use Rattle.gl_modes.proofs.Words.{no, none_some, some_is, number_same}
 use Rattle.gl_modes.specs.declared.node.NodeId.{NodeId}
 use Rattle.gl_modes.specs.Nodes.{same_node}
-use Rattle.gl_graph.specs.Shapes.{Shape, File, is_inner_shape, is_file_shape, is_adopted, is_record_shape}
-use Rattle.gl_graph.specs.Shapes.{is_index_shape, is_index_of_shape}
-use Rattle.gl_graph.specs.Shapes.{bounds_in, keys_in}
-use Rattle.gl_graph.specs.Graph.{Graph, Node, with_key, node_at, is_live, parents_in, parents_of, shape_in, shape_of, id_of, nodes, node_count}
-use Rattle.gl_graph.specs.Graph.{is_child, indexes_of}
-use Rattle.gl_graph.specs.Graph.{interval_place, key_or_zero, interval, interval_of}
-use Rattle.gl_graph.specs.Graph.{first_in, first_parent}
+use Rattle.gl_graph.specs.Shapes.{Shape, File, is_inner_shape, is_file_shape, is_adopted, is_record_shape, is_index_shape, is_index_of_shape, bounds_in}
+use Rattle.gl_graph.specs.Shapes.{keys_in}
+use Rattle.gl_graph.specs.Graph.{Graph, Node, with_key, node_at, is_live, parents_in, parents_of, shape_in, shape_of, id_of, nodes, node_count, is_child}
+use Rattle.gl_graph.specs.Graph.{indexes_of, interval_place, key_or_zero, interval, interval_of, first_in, first_parent}
 use Rattle.gl_graph.specs.Routes.{IsRoute}
 use Rattle.gl_graph.specs.Lawful.{HasShape, IsWellFormed, IsLawfulGraph}
 use Rattle.gl_graph.specs.Changes.{marked_shape, marked_node, marked, with_node}

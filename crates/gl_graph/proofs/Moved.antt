@@ -7,13 +7,12 @@ use Rattle.gl_modes.proofs.NodeLemmas.{same_node-equal, same_node-from_equal, sa
 use Rattle.gl_modes.proofs.Words.{split, or_elim, or_left, or_right, no, same_number, number_same}
 use Rattle.gl_modes.specs.declared.node.NodeId.{NodeId}
 use Rattle.gl_modes.specs.Nodes.{same_node}
-use Rattle.gl_graph.specs.Shapes.{Shape, Inner, File, Index, Rec, is_file_shape, is_record_shape, is_index_of_shape, is_movable_shape, keys_in}
+use Rattle.gl_graph.specs.Shapes.{Shape, Inner, File, Index, Rec, is_file_shape, is_record_shape, is_index_of_shape, is_movable_shape, keys_in, least_parents}
 use Rattle.gl_graph.specs.Graph.{Graph, Node, node_count, node_at, is_live, parents_in, parents_of, shape_in, shape_of, is_child, indexes_of}
 use Rattle.gl_graph.specs.Graph.{record_parents, first_in, first_parent}
 use Rattle.gl_graph.specs.Routes.{IsRoute, is_at_or_below}
 use Rattle.gl_graph.specs.Lawful.{AreInnerParents, HasShape, IsLawfulGraph}
 use Rattle.gl_graph.specs.Changes.{with_node, reparented, with_parents, keys_with, rekeyed_keys, rekeyed_parents, rekeyed_node, rekeyed}
-use Rattle.gl_graph.specs.Shapes.{least_parents}
 use Rattle.gl_graph.proofs.Look.{all_at, found_at}
 use Rattle.gl_graph.proofs.KindRules.{Frames, is_plain, file_plain, plain_live, rec_not_plain, parent_plain, record_parent_plain, parents_kept}
 use Rattle.gl_graph.proofs.KindRules.{index_kept, record_parents_kept, one_shape}
@@ -66,11 +65,8 @@ pub with_parents_is : (g : Graph) (n : NodeId) (ps : List NodeId) (was : Node) �
     → with_node g n.birth (record was { parents = ps }) ≡ with_parents g n ps
 with_parents_is g n ps was e =
     graph_at g (with_parents g n ps).at n (record was { parents = ps })
-    (λ b same. ap (λ x. if x then reparented ps (g.at b) else g.at b) (same_birth b same) ∙ ap (reparented ps) (ap g.at same ∙ (found_at g n was e).0))
+    (λ b same. ap (λ x. if x then reparented ps (g.at b) else g.at b) (number_same b n.birth same) ∙ ap (reparented ps) (ap g.at same ∙ (found_at g n was e).0))
     (λ b h. ap (λ x. if x then reparented ps (g.at b) else g.at b) h)
-  where
-    same_birth : (b : ℕ) → b ≡ n.birth → (b == n.birth) ≡ true
-    same_birth b same = number_same b n.birth same
 
 pub rekeyed_is : (g : Graph) (r index : NodeId) (key : ℕ) (was : Node) → node_at g r ≡ Some was
     → with_node g r.birth (record { key = was.key; shape = Rec (rekeyed_keys g r index key); parents = rekeyed_parents g r index key }) ≡ rekeyed g r index key

@@ -1,6 +1,5 @@
 -- A new index with its intervals: the law of the graph is kept.
-use Rattle.std.specs.Prelude.{◌≡◌, ℕ, zero, suc, ◌+◌, ◌≤◌, true, false, ◌&&◌, ◌==◌, List, [], ◌∷◌, ◌++◌, length, Option, Some, None}
-use Rattle.std.specs.Prelude.{is_some, if◌then◌else◌}
+use Rattle.std.specs.Prelude.{◌≡◌, ℕ, zero, suc, ◌+◌, ◌≤◌, true, false, ◌&&◌, ◌==◌, List, [], ◌∷◌, ◌++◌, length, Option, Some, None, is_some, if◌then◌else◌}
 use Rattle.std.specs.List.{cons_option, list_any}
 use Rattle.std.proofs.lemmas.List.{length-append}
 use Rattle.std.proofs.Common.{refl, sym, ap, ◌∙◌, subst, arith, inl, inr}
@@ -19,6 +18,7 @@ use Rattle.gl_graph.proofs.KindRules.{Frames, inner_plain, file_plain, plain_liv
 use Rattle.gl_graph.proofs.Moved.{some_at}
 use Rattle.gl_graph.proofs.RouteLengths.{listed}
 use Rattle.gl_graph.proofs.Born.{place_in, place_below, new_at, none_above, new_id, new_node, born_frames, born_lawful, IsFresh}
+use Rattle.gl_graph.proofs.Counts.{count_grown}
 use Rattle.gl_graph.proofs.Grow.{count_intervals}
 use Rattle.gl_graph.proofs.Removed.{rec_live}
 use Rattle.gl_graph.proofs.NewNodes.{place_there, key_listed, places_apart}
@@ -157,4 +157,5 @@ module _ (g : Graph) (law : IsLawfulGraph g) (key : ℕ) (ps : List NodeId) (fil
         (places_apart ns (ap are_apart keys_are ∙ apart))
         (λ f. split (same_node f file) (λ e. let more : length (indexes_of grown f) ≡ length (indexes_of g file) + 1 =
         ap (λ x. length (indexes_of grown x)) (same_node-equal f file e) ∙ ap length file_index ∙ length-append (indexes_of g file) (id ∷ []) in omega arith)
-        (λ e. subst (λ (is : List NodeId). length is ≤ 7) (sym (others f e)) (law.seven_indexes f))) (let many = count_intervals id 0 keys in omega arith)
+        (λ e. subst (λ (is : List NodeId). length is ≤ 7) (sym (others f e)) (law.seven_indexes f))) (let all = count_grown g law ns in
+        let many = count_intervals id 0 keys in omega arith)

@@ -12,6 +12,7 @@ use Rattle.gl_graph.specs.Changes.{keys_of, are_apart, born_node}
 use Rattle.gl_graph.proofs.Tally.{list_borns}
 use Rattle.gl_graph.proofs.Look.{all_at}
 use Rattle.gl_graph.proofs.KindRules.{inner_plain, file_plain, plain_live, record_parent_plain, parents_kept, record_parents_kept}
+use Rattle.gl_graph.proofs.Counts.{count_grown}
 use Rattle.gl_graph.proofs.Born.{place_in, new_id, born_frames, born_lawful}
 
 pub place_there : (ns : List Node) (k : ℕ) → k < length ns → (node : Node) × (place_in ns k ≡ Some node)
@@ -57,7 +58,7 @@ module _ (g : Graph) (law : IsLawfulGraph g) (node : Node) (no_index : (f : Node
       (subst (λ b. IsWellFormed (born_node g node) (record { key = node.key; birth = b }) node) birth well))
       (λ k x p e h. inl (up p (ap (λ y. list_any (same_node p) y.parents) (only k x e).1 ∙ h))) (λ k x e. subst (λ y. IsFreeKey g y.key) (only k x e).1 free)
       (λ j k a b e f same. (only j a e).0 ∙ sym (only k b f).0) (λ f. subst (λ (is : List NodeId). length is ≤ 7) (sym (one_indexes f)) (law.seven_indexes f))
-      (omega arith)
+      (let all = count_grown g law one in omega arith)
 
 pub inner_lawful : (g : Graph) (law : IsLawfulGraph g) (key : ℕ) (ps : List NodeId) → AreInnerParents g 0 ps → IsFreeKey g key
     → node_count g + 1 ≤ g.most → IsLawfulGraph (born_node g (record { key = key; shape = Inner; parents = ps }))

@@ -1,13 +1,13 @@
 -- The parents of a record: one file, and one interval for each of its indexes.
 use Rattle.std.specs.Prelude.{◌≡◌, ℕ, ◌<◌, Bool, true, false, ◌||◌, List, [], ◌∷◌, length, Option, Some, slice_index_or, zero, suc, ◌&&◌}
 use Rattle.std.specs.List.{list_all, list_any}
-use Rattle.std.proofs.Common.{refl, sym, ap, ap₂, ◌∙◌, subst, arith}
+use Rattle.std.proofs.Common.{refl, sym, ap, ap₂, ◌∙◌, subst, arith, rules}
 use Rattle.std.proofs.Math.Bool.{or-false}
 use Rattle.gl_modes.proofs.NodeLemmas.{same_node-equal}
 use Rattle.gl_modes.proofs.Words.{split, no, and_both}
 use Rattle.gl_modes.specs.declared.node.NodeId.{NodeId}
 use Rattle.gl_modes.specs.Nodes.{same_node}
-use Rattle.gl_graph.specs.Shapes.{Shape, Index, Rec, is_file_shape, is_index_shape, is_record_shape, is_index_of_shape, keys_in}
+use Rattle.gl_graph.specs.Shapes.{Shape, Rec, is_file_shape, is_index_shape, is_record_shape, is_index_of_shape, keys_in}
 use Rattle.gl_graph.specs.Graph.{Graph, shape_of, shape_in, parents_in, parents_of, first_parent, is_record_of, nodes, indexes_of, interval_of}
 use Rattle.gl_graph.specs.Graph.{intervals_of, record_parents}
 use Rattle.gl_graph.specs.Lawful.{IsLawfulGraph}
@@ -21,8 +21,7 @@ all_at_place p (x ∷ xs) zero d all low = (and_both (p x) _ all).0
 all_at_place p (x ∷ xs) (suc k) d all low = all_at_place p xs k d (and_both (p x) _ all).1 (omega arith)
 
 pub index_of_index : (f : NodeId) (o : Option Shape) → is_index_of_shape f o ≡ true → is_index_shape o ≡ true
-index_of_index f (Some (Index file bounds)) h = refl
-index_of_index f _ h = h
+index_of_index f o h = search rules
 
 -- each index of a file is an index
 pub listed_index : (g : Graph) (f : NodeId) (k : ℕ) (d : NodeId) → k < length (indexes_of g f)

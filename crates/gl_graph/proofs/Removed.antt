@@ -1,11 +1,11 @@
 -- A record is removed: the law of the graph is kept.
 use Rattle.std.specs.Prelude.{◌≡◌, ◌≢◌, ℕ, ◌≤◌, true, false, ◌==◌, List, length, Option, Some, None, is_some, if◌then◌else◌}
 use Rattle.std.specs.List.{list_any, range_with_len}
-use Rattle.std.proofs.Common.{refl, sym, ap, ◌∙◌, subst, arith, inl, inr}
+use Rattle.std.proofs.Common.{refl, sym, ap, ◌∙◌, subst, arith, inl, inr, rules}
 use Rattle.gl_modes.proofs.Words.{split, cases_of, no, none_some, number_same, number_other, same_number, other_number}
 use Rattle.gl_modes.specs.declared.node.NodeId.{NodeId}
 use Rattle.gl_modes.specs.Nodes.{same_node}
-use Rattle.gl_graph.specs.Shapes.{Shape, Index, is_record_shape, is_index_of_shape}
+use Rattle.gl_graph.specs.Shapes.{Shape, is_record_shape, is_index_of_shape}
 use Rattle.gl_graph.specs.Graph.{Graph, Node, id_of, with_key, node_at, is_live, parents_in, shape_in, shape_of, is_child, indexes_of}
 use Rattle.gl_graph.specs.Lawful.{IsLawfulGraph}
 use Rattle.gl_graph.specs.Changes.{without_node}
@@ -61,8 +61,7 @@ module _ (g : Graph) (law : IsLawfulGraph g) (r : NodeId) (rec : is_record_shape
       (λ e. ap (picked (λ n o. is_index_of_shape f (shape_in o)) b) (at_beside b (other_number b r.birth e))))
     where
       none_rec : (o : Option Shape) → is_record_shape o ≡ true → is_index_of_shape f o ≡ false
-      none_rec (Some (Index file bounds)) h = absurd (no h)
-      none_rec _ h = refl
+      none_rec o h = search rules
 
   pub removed_frames : Frames g (without_node g r)
   removed_frames = record {

@@ -1,50 +1,37 @@
 -- A route has fewer steps than the graph has nodes, since it meets no node twice.
-use Rattle.std.specs.Prelude.{◌≡◌, ℕ, zero, suc, ◌+◌, ◌<◌, ◌≤◌, Bool, true, false, ◌||◌, ◌==◌, List, [], ◌∷◌, ◌++◌, length, Option, Some, None}
-use Rattle.std.specs.Prelude.{is_some, if◌then◌else◌}
+use Rattle.std.specs.Prelude.{◌≡◌, ℕ, zero, suc, ◌+◌, ◌<◌, ◌≤◌, Bool, true, false, List, [], ◌∷◌, ◌++◌, length, Option, Some, None, is_some}
 use Rattle.std.specs.List.{cons_option, list_any, range_with_len, filter_map, AllByRecursion, IsDistinct}
 use Rattle.std.specs.Cmp.{IsEquivalence}
 use Rattle.std.proofs.lemmas.Map.Made.{length-le_from_is_member}
 use Rattle.std.proofs.Common.{refl, sym, ap, ◌∙◌, subst, arith, ⊎_elim}
 use Rattle.std.proofs.lemmas.Bool.{cases_eq}
 use Rattle.std.proofs.lemmas.Bool.Decides.{nat_tests}
-use mathlib.Core.Bool.{true≢false}
-use Rattle.gl_modes.proofs.NodeLemmas.{same_node-equal, same_node-refl}
-use Rattle.gl_modes.proofs.Words.{or_elim}
+use Rattle.gl_modes.proofs.NodeLemmas.{node_is, same_node-equal, same_node-from_equal, same_node-refl}
+use Rattle.gl_modes.proofs.Words.{no, or_elim, or_left, or_right, some_is}
 use Rattle.gl_modes.specs.declared.node.NodeId.{NodeId}
 use Rattle.gl_modes.specs.Nodes.{same_node}
 use Rattle.gl_graph.specs.Graph.{Graph, Node, id_of, with_key, nodes, node_count, parents_of, is_live}
 use Rattle.gl_graph.specs.Routes.{IsRoute}
 use Rattle.gl_graph.specs.Lawful.{IsLawfulGraph}
+use Rattle.gl_graph.proofs.Look.{found, live_node}
 
 pub node_equivalence : IsEquivalence same_node
 node_equivalence = record { refl = same_node-refl; symm = λ a b. grind (arith, nat_tests); congr = λ a b c h. ap (λ x. same_node x c) (same_node-equal a b h) }
 
-same_ids : (q : NodeId) (key k : ℕ) → (key == q.key) ≡ true → q.birth ≡ k → same_node q (record { key = key; birth = k }) ≡ true
-same_ids q key k h e = grind (arith, nat_tests)
-
 there_id : (p : NodeId → Bool) (o : Option NodeId) (xs : List NodeId) → list_any p xs ≡ true → list_any p (cons_option o xs) ≡ true
 there_id p None xs h = h
-there_id p (Some x) xs h = ap (λ b. p x || b) h ∙ or_true (p x)
-  where
-    or_true : (b : Bool) → (b || true) ≡ true
-    or_true true = refl
-    or_true false = refl
-
-key_of_found : (key : ℕ) (n : Node) → is_some (with_key key (Some n)) ≡ true → (n.key == key) ≡ true
-key_of_found key n h = by (n.key == key) refl h
-  where
-    by : (b : Bool) → (n.key == key) ≡ b → is_some (if b then Some n else None) ≡ true → (n.key == key) ≡ true
-    by true e h' = e
-    by false e h' = absurd (true≢false (sym h'))
+there_id p (Some x) xs h = or_right (p x) _ h
 
 here_id : (q : NodeId) (k : ℕ) (o : Option Node) (xs : List NodeId) → is_some (with_key q.key o) ≡ true → q.birth ≡ k
     → list_any (same_node q) (cons_option (id_of k o) xs) ≡ true
-here_id q k None xs h e = absurd (true≢false (sym h))
-here_id q k (Some n) xs h e = ap (λ b. b || list_any (same_node q) xs) (same_ids q n.key k (key_of_found q.key n h) e)
+here_id q k None xs h e = absurd (no h)
+here_id q k (Some n) xs h e =
+    let x = live_node (with_key q.key (Some n)) h in
+    let f = found q.key (Some n) x.0 x.1 in
+    or_left _ _ (same_node-from_equal q (record { key = n.key; birth = k }) (node_is q _ (sym f.1 ∙ ap (λ y. y.key) (sym (some_is f.0))) e))
 
 found_is : (key : ℕ) (o : Option Node) → is_some (with_key key o) ≡ true → is_some o ≡ true
-found_is key None h = absurd (true≢false (sym h))
-found_is key (Some n) h = refl
+found_is key o h = let x = live_node (with_key key o) h in ap is_some (found key o x.0 x.1).0
 
 module _ (g : Graph) (law : IsLawfulGraph g) where
   -- a route with one step more
@@ -72,7 +59,7 @@ module _ (g : Graph) (law : IsLawfulGraph g) where
 
   pub live_path : (n r q : NodeId) (path : List NodeId) → is_live g n ≡ true → IsRoute g n path r → list_any (same_node q) (n ∷ path) ≡ true
       → is_live g q ≡ true
-  live_path n r q [] live route h = or_elim _ _ h (λ here. ap (is_live g) (same_node-equal q n here) ∙ live) (λ no. absurd (true≢false (sym no)))
+  live_path n r q [] live route h = or_elim _ _ h (λ here. ap (is_live g) (same_node-equal q n here) ∙ live) (λ none. absurd (no none))
   live_path n r q (p ∷ path) live route h =
       or_elim _ _ h (λ here. ap (is_live g) (same_node-equal q n here) ∙ live) (λ there. live_path p r q path (law.parents_live n p route.0) route.1 there)
 
@@ -91,12 +78,6 @@ module _ (g : Graph) (law : IsLawfulGraph g) where
   -- a route has fewer steps than the graph has nodes
   pub route_short : (n r : NodeId) (path : List NodeId) → is_live g n ≡ true → IsRoute g n path r → length path < node_count g
   route_short n r path live route =
-      let few = length-le_from_is_member node_equivalence (n ∷ path) (nodes g) (distinct n r path route)
-      (λ q h. listed q (live_path n r q path live route h)) in
-      omega arith
-
-  too_long : (n r : NodeId) (path : List NodeId) → is_live g n ≡ true → IsRoute g n path r → length path ≡ node_count g → ⊥
-  too_long n r path live route e =
       let few = length-le_from_is_member node_equivalence (n ∷ path) (nodes g) (distinct n r path route)
       (λ q h. listed q (live_path n r q path live route h)) in
       omega arith

@@ -1,8 +1,7 @@
 -- What a write of a body leaves of its shape and its parents.
-use Rattle.std.specs.Prelude.{◌≡◌, ℕ, true, Some}
+use Rattle.std.specs.Prelude.{◌≡◌, ℕ, true, Some, Vec, slice_set}
 use Rattle.std.proofs.Common.{refl}
 use Rattle.gl_modes.proofs.Words.{no}
-use Rattle.std.specs.Prelude.{Vec, slice_set}
 use Rattle.std.specs.declared.alloc.Global.{Global}
 use Rattle.smallvec.specs.SmallVec.{SmallVec}
 use Rattle.gl_modes.specs.declared.node.NodeId.{NodeId}

@@ -6,7 +6,7 @@ use Rattle.std.specs.List.{filter, list_any}
 use Rattle.std.specs.declared.alloc.Global.{Global}
 use Rattle.std.proofs.Math.Path.{fun_ext}
 use Rattle.std.proofs.lemmas.Option.{slice_get_within}
-use Rattle.std.proofs.Common.{refl, sym, ap, ap₂, ◌∙◌, subst, arith, inl, inr, ⊎_elim}
+use Rattle.std.proofs.Common.{refl, sym, ap, ap₂, ◌∙◌, subst, arith, inl, inr, ⊎_elim, rules}
 use Rattle.gl_modes.proofs.NodeLemmas.{node_is, same_node-refl, same_node-equal, same_node-differ, same_node-sym}
 use Rattle.gl_modes.proofs.Words.{split, no, none_some, some_is, not_true, or_left, number_same, number_other, same_number, other_number}
 use Rattle.gl_modes.specs.declared.node.NodeId.{NodeId}
@@ -32,8 +32,7 @@ use Rattle.gl_graph.proofs.Branch.{movable_no_interval, no_interval_file, no_bra
 use Rattle.gl_graph.proofs.Branch.{interval_stays, children_are, child_interval, interval_child, inner_left}
 use Rattle.gl_graph.proofs.Counted.{AreKept, are_kept, counted_in, counts_written}
 use Rattle.gl_graph.proofs.Dues.{child_test, record_test, inner_due, file_due, record_fixed, no_inner_parent, intervals_same, due_stays, count_without}
-use Rattle.gl_graph.proofs.Dues.{span_get}
-use Rattle.gl_graph.proofs.Dues.{span_count, intervals_stored, some_child, own_parents, not_its_own, one_less}
+use Rattle.gl_graph.proofs.Dues.{span_get, span_count, intervals_stored, some_child, own_parents, not_its_own, one_less}
 use Rattle.gl_graph.proofs.Held.{put, put_here, put_other, IsStored, live_held, node_held, beside_written, node_removed, sound_held}
 use Rattle.gl_graph.proofs.Held.{recounted, recounted_same}
 use Rattle.gl_graph.proofs.KindRules.{index_node, plain_live, inner_plain, file_plain}
@@ -115,7 +114,8 @@ module _ {limits : Limits} {old : Slab Stored} {births : ℕ} {g : Graph} (h : H
       due_file : is_live rest file ≡ true → beside_in_body (body_with_records slot.stored.body records) ≡ due rest file
       due_file alive =
           records_written slot.stored.body (indexes_of g file) (record_count g file) records (slot.kept ∙ file_due g file file_is)
-          ∙ ap₂ Lists (sym (Rattle.gl_graph.proofs.Removed.indexes_left g law r rec file)) (let c = counted_there in let was = count ∙ ap (record_count g) is_its in omega arith)
+          ∙ ap₂ Lists (sym (Rattle.gl_graph.proofs.Removed.indexes_left g law r rec file))
+          (let c = counted_there in let was = count ∙ ap (record_count g) is_its in omega arith)
           ∙ sym (file_due rest file (ap (λ o. is_file_shape (shape_in o)) (stays file alive) ∙ file_is))
 
       pub removed_sound : AreSound limits new births
@@ -136,8 +136,7 @@ module _ {limits : Limits} {old : Slab Stored} {births : ℕ} {g : Graph} (h : H
           )) (λ i bs e place low. intervals_same g rest law (removed_frames g law r rec) m i bs e place low)))
 
 interval_fixed : (o : Option Shape) → is_interval_shape o ≡ true → is_movable_shape o ≡ false
-interval_fixed (Some (Rattle.gl_graph.specs.Shapes.Interval place)) k = refl
-interval_fixed _ k = absurd (no k)
+interval_fixed o k = search rules
 
 -- a movable node that is not in use, with its children
 module _ {limits : Limits} {old : Slab Stored} {births : ℕ} {g : Graph} (h : Holds limits old births g (due g)) (law : IsLawfulGraph g) (n : NodeId)
@@ -266,8 +265,7 @@ unlisted_beside (body.File kept above) n is k e = ap (without n) e
 unlisted_beside _ n is k e = cc
 
 index_movable : (o : Option Shape) → is_index_shape o ≡ true → is_movable_shape o ≡ true
-index_movable (Some (Index f bs)) k = refl
-index_movable _ k = absurd (no k)
+index_movable o k = search rules
 
 -- a slot after the removal
 abbrev left_in : Graph → NodeId → Option Stored → Option Stored
@@ -449,8 +447,7 @@ module _ {limits : Limits} {old : Slab Stored} {births : ℕ} {g : Graph} (h : H
       file_not_n = not_true _ (λ t. no (sym (no_file (shape_of g n) index) ∙ ap (λ q. is_file_shape (shape_of g q)) (same_node-equal n f t) ∙ is_file))
         where
           no_file : (o : Option Shape) → is_index_shape o ≡ true → is_file_shape o ≡ false
-          no_file (Some (Index f' bs')) k = refl
-          no_file _ k = absurd (no k)
+          no_file o k = search rules
 
       no_child : is_child g n f ≡ false
       no_child = not_true _ (λ t. no (sym (no_interval_file (shape_of g f) is_file) ∙ (children_are g law n movable free f t).1))
@@ -493,8 +490,7 @@ module _ {limits : Limits} {old : Slab Stored} {births : ℕ} {g : Graph} (h : H
             (not_true _ (λ t. no (sym (no_inner (shape_of g f) is_file) ∙ ap (λ q. is_inner_shape (shape_of g q)) (sym (same_node-equal m f t)) ∙ i)))
           where
             no_inner : (o : Option Shape) → is_file_shape o ≡ true → is_inner_shape o ≡ false
-            no_inner (Some (Rattle.gl_graph.specs.Shapes.File adopted)) k = refl
-            no_inner _ k = absurd (no k)
+            no_inner o k = search rules
 
         module _ (ps : List NodeId) (ps_are : ps ≡ parents_in_body x.body) where
           pub index_parents_kept : AreKept (λ children. 1 ≤ children) fourth ps
