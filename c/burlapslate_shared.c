@@ -4,14 +4,15 @@
  *
  * WHAT IS PROVED, AND WHAT IS NOT. The library is proved: what each command does and whom it tells, what became of a
  * wait (bs_verdict), whose sleepers must be woken (bs_ended), that a look gives a whole board and never an older one.
- * So are begins that wait for a slot: their order, and that each call hands on those that can begin by it. Written in C
- * here, and tested: the mutex and the condition variables. They are in table_enter and table_release, around each call;
- * table_wake, after each command; table_hand_on, after what may have ended a transaction; table_sleep, when a lock
- * waits; table_sleep_in_begin_queue, when a begin does; bs_table_end; and table_watch_over, the thread that watches. So is what several calls of the manager, each of them proved, do together:
- * table_register, for a wait, which may be for an instant and is then released when it is granted. And so are asks,
- * whose end comes by a callback: table_go_on, at the end of each critical section that may have ended one, and
- * table_tell, after it. All else here makes calls of the library between these. burlapslate_running.c times the waits:
- * table_register, table_note_ended and table_time_out tell it of them.
+ * So are begins that wait for a slot: their order, and that each call hands on those that can begin by it. Written in
+ * C here, and tested: the mutex and the condition variables. They are in table_enter and table_release, around each
+ * call; table_wake, after each command; table_hand_on, after what may have ended a transaction; table_sleep, when a
+ * lock waits; table_sleep_in_begin_queue, when a begin does; bs_table_end; and table_watch_over, the thread that
+ * watches. So is what several calls of the manager, each of them proved, do together: table_register, for a wait,
+ * which may be for an instant and is then released when it is granted. And so are asks, whose end comes by a
+ * callback: table_go_on, at the end of each critical section that may have ended one, and table_tell, after it. All
+ * else here makes calls of the library between these. burlapslate_running.c times the waits: table_register,
+ * table_note_ended and table_time_out tell it of them.
  */
 #include "burlapslate_dump.h"
 #include "burlapslate_inside.h"

@@ -7,3 +7,4 @@ pub mod Showing
 pub mod Tries
 pub mod Backs
 pub mod Turns
+pub mod Waiters

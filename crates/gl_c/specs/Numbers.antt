@@ -53,6 +53,14 @@ keep_at n = if n == 0 then Some keep.Nothing else if n == 1 then Some keep.Path 
 abbrev pub slot_at : ℕ → Option ℕ
 slot_at n = if nat_lt n most_slots then Some n else None
 
+-- the greatest number of 64 bits
+abbrev pub greatest : ℕ
+greatest = 18446744073709551615
+
+-- a number that C gives; the greatest says that there is none
+abbrev pub given_at : ℕ → Option ℕ
+given_at n = if n == greatest then None else Some n
+
 -- the call was done; refusals have their own numbers, 1 to 23
 abbrev pub done : ℕ
 done = 0
@@ -73,7 +81,11 @@ moved = 34
 abbrev pub gone : ℕ
 gone = 35
 
--- the path is locked as far as a node above, and others were notified; 36 is a status of the header's functions
+-- the time of the wait is over
+abbrev pub timed_out : ℕ
+timed_out = 36
+
+-- the path is locked as far as a node above, and others were notified
 abbrev pub on_the_way : ℕ
 on_the_way = 37
 

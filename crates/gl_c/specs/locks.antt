@@ -1,7 +1,8 @@
--- Calls of transactions: paths, rows, savepoints, and the outcome of a wait.
+-- Calls of transactions: paths, rows, savepoints, tries, begins in turn, and what becomes of a wait.
 pub mod Paths
 pub mod Rows
 pub mod Savepoints
 pub mod Tries
-pub mod Verdicts
 pub mod Turns
+pub mod Verdicts
+pub mod Waiters

@@ -4,4 +4,5 @@ mod rows;
 mod tries;
 mod turns;
 mod txns;
+mod waiters;
 mod waiting;

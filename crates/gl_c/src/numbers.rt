@@ -1,8 +1,7 @@
 //! The numbers that C uses for modes, ways of detection and statuses.
 
 ghost use Rattle.std.specs.Prelude.{◌≡◌};
-ghost use Rattle.gl_c.specs.locks.Turns.{since_at};
-ghost use Rattle.gl_c.specs.Numbers.{detect_at, effect_number, keep_at, mode_at, mode_number, slot_at, victims_at};
+ghost use Rattle.gl_c.specs.Numbers.{detect_at, effect_number, given_at, keep_at, mode_at, mode_number, slot_at, victims_at};
 
 use gl_modes::Mode;
 use gl_slots::{SLOTS, Slot};
@@ -24,6 +23,9 @@ pub(crate) const MOVED: u32 = 34;
 
 /// The node is gone, and the wait is over.
 pub(crate) const GONE: u32 = 35;
+
+/// The time of the wait is over.
+pub(crate) const TIMED_OUT: u32 = 36;
 
 /// The path is locked as far as a node above, and others were notified.
 pub(crate) const ON_THE_WAY: u32 = 37;
@@ -139,9 +141,9 @@ pub(crate) fn slot_at(number: u32) -> Option<Slot>
     }
 }
 
-/// Since when the work of a begin was tried; the greatest number says that it is new.
-pub(crate) fn since_at(number: u64) -> Option<u64>
-    ensures { result ≡ since_at number }
+/// A number that C gives; the greatest says that there is none.
+pub(crate) fn given_at(number: u64) -> Option<u64>
+    ensures { result ≡ given_at number }
 {
     if number == u64::MAX {
         None

@@ -46,8 +46,9 @@ use Rattle.gl_wakes.specs.Boxes.{Slot, box_at, by_notice, named, stopped, verdic
 use Rattle.gl_wakes.specs.Wakes.{HasEnded}
 use Rattle.gl_wakes.proofs.Waking.{ended_none}
 use Rattle.gl_waiting.specs.Delivering.{Carries, DeliveryView, registry_in}
-use Rattle.gl_waiting.specs.Going.{Calls, IsRun}
-use Rattle.gl_waiting.proofs.Runs.{calls_one}
+use Rattle.gl_waiting.specs.Going.{CallThat, CallsOf, IsRun}
+use Rattle.gl_waiting.specs.Paths.{LocksPart}
+use Rattle.gl_waiting.proofs.Runs.{call_made, of_one}
 use Rattle.gl_waiting.specs.Waiters.{AnswersIn, Await, AwaitBut, TakesEnd, came_as, came_of, waits_as, waits_for_node, IsWaitingPlace, is_granted}
 use Rattle.gl_waiting.specs.Waiters.{place_at, stops_above, waiter_in}
 use Rattle.gl_registry.specs.declared.answer.RowLocked.{RowLocked}
@@ -69,7 +70,7 @@ use Rattle.gl_waiting.specs.declared.waiter.Waiter.{Waiter}
 use Rattle.gl_waiting.proofs.Paths.{way_granted, way_runs}
 
 -- this set has the slots of both
-abbrev Joins : Slots → Slots → Slots → Type 0
+abbrev pub Joins : Slots → Slots → Slots → Type 0
 Joins both one other = (u : ℕ) → has_slot both u ≡ (has_slot one u || has_slot other u)
 
 -- whose wait ended along one call or the next
@@ -113,8 +114,9 @@ module _ (t : TxnId) (node : NodeId) (mode : Mode) (d d' : DeliveryView) (told :
 
   -- so it is one call
   pub locks_calls : (c : Command) (ended : Slots) (result : Result Reached Refusal) → Carries d c told ended d'
-      → PathLeavesRows t (node, mode) (registry_in d) result told (registry_in d') → Calls d d'
-  locks_calls c ended result carries way = calls_one d d' c told ended carries (locks_run result way)
+      → PathLeavesRows t (node, mode) (registry_in d) result told (registry_in d') → CallsOf (CallThat (LocksPart t (node, mode))) d d'
+  locks_calls c ended result carries way =
+      of_one (CallThat (LocksPart t (node, mode))) d d' (call_made d d' c told ended carries (locks_run result way), (result, way))
 
   -- one that stops above its node is counted
   pub stops_counted : (result : Result Reached Refusal) → stops_above node result ≡ true

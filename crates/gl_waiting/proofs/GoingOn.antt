@@ -12,9 +12,10 @@ use Rattle.gl_wakes.specs.declared.grant.Grant.{Grant}
 use Rattle.gl_wakes.specs.declared.grant.Stop.{Stop}
 use Rattle.gl_waiting.specs.Begins.{is_over}
 use Rattle.gl_waiting.specs.Delivering.{DeliveryView}
-use Rattle.gl_waiting.specs.Ends.{Cancels, EndsAt, EndsBetween, EndsByRow, EndsInTime, GivesBack, GoesOn, IsGrantedIn, PlaceGoes, PlaceGoesOn, UnlocksIf}
+use Rattle.gl_waiting.specs.Ends.{CallAmong, CallBy, Cancels, EndsAt, EndsBetween, EndsByRow, EndsInTime, GivesBack, GoesOn, IsGrantedIn, PlaceGoes}
+use Rattle.gl_waiting.specs.Ends.{PlaceGoesOn, UnlocksIf}
 use Rattle.gl_waiting.specs.Ends.{is_given_back}
-use Rattle.gl_waiting.specs.Going.{Calls}
+use Rattle.gl_waiting.specs.Going.{Calls, CallsOf}
 use Rattle.gl_waiting.specs.Paths.{LocksThrough}
 use Rattle.gl_model.specs.State.{State}
 use Rattle.gl_slots.specs.Limit.{most_slots}
@@ -32,8 +33,9 @@ use Rattle.gl_waiting.specs.declared.waiter.Request.{Request}
 use Rattle.gl_waiting.specs.declared.waiter.Request.TheVariants as request
 use Rattle.gl_waiting.specs.declared.waiter.Waiter.{Waiter}
 use Rattle.gl_waiting.proofs.Awaiting.{apart_slot, same_slot, set_apart, set_there}
+use Rattle.gl_waiting.proofs.OwnCalls.{among_calls, among_earlier, among_these, waited_before}
 use Rattle.gl_waiting.proofs.RowLocking.{row_kept}
-use Rattle.gl_waiting.proofs.Runs.{calls_none, calls_then}
+use Rattle.gl_waiting.proofs.Runs.{calls_none, calls_then, of_none, of_then}
 
 pub still_itself : (w : Waiter) → StillRequests w w
 still_itself w = record { txn = refl; request = refl; instant = refl; until = refl }
@@ -139,13 +141,15 @@ module _ (d mid d' : DeliveryView) (one : Calls d mid) (other : Calls mid d') wh
 
 -- nothing goes on
 pub goes_on_same : (d : DeliveryView) (places : List Place) → GoesOn d places d places
-goes_on_same d places = record { calls = calls_none d; each = λ u. goes_same (EndsBetween d d) (place_at places u) }
+goes_on_same d places = record { calls = of_none (CallAmong places) d; each = λ u. goes_same (EndsBetween d d) (place_at places u) }
 
 -- waiters go on, and again
 pub goes_on_then : (d mid d' : DeliveryView) (ps qs rs : List Place) → GoesOn d ps mid qs → GoesOn mid qs d' rs → GoesOn d ps d' rs
 goes_on_then d mid d' ps qs rs one other = record {
-  calls = calls_then d mid d' one.calls other.calls;
-  each = λ u. goes_then d mid d' one.calls other.calls (place_at ps u) (place_at qs u) (place_at rs u) (one.each u) (other.each u);
+  calls = of_then (CallAmong ps) d mid d' one.calls (among_earlier ps qs (λ u w is. waited_before (EndsBetween d mid) (place_at ps u) (place_at qs u) w
+      (one.each u) is) mid d' other.calls);
+  each = λ u. goes_then d mid d' (among_calls d mid ps one.calls) (among_calls mid d' qs other.calls) (place_at ps u) (place_at qs u) (place_at rs u)
+      (one.each u) (other.each u);
 }
 
 -- what ends at a delivery, and is unlocked if it was for an instant, ends between it and the next
@@ -170,10 +174,10 @@ each_put Ends places slot w p within was goes u = by (u == slot) refl
         subst (λ (x : Place). PlaceGoes Ends (place_at places u) x) (sym (set_apart places slot u p (apart_slot u slot e))) (goes_same Ends (place_at places u))
 
 -- one place changed along calls
-pub goes_on_put : (d d' : DeliveryView) → Calls d d' → (places : List Place) (slot : ℕ) (w : Waiter) (p : Place) → slot < length places
+pub goes_on_put : (d d' : DeliveryView) (places : List Place) (slot : ℕ) (w : Waiter) (p : Place) → CallsOf (CallBy w) d d' → slot < length places
     → place_at places slot ≡ place.Waits w → PlaceGoesOn d d' (place.Waits w) p → GoesOn d places d' (slice_set places slot p)
-goes_on_put d d' calls places slot w p within was goes = record {
-  calls = calls;
+goes_on_put d d' places slot w p calls within was goes = record {
+  calls = among_these d d' places slot w was calls;
   each = each_put (EndsBetween d d') places slot w p within was goes;
 }
 

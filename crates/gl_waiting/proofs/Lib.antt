@@ -6,6 +6,8 @@ pub mod Beginning
 pub mod Counting
 pub mod Delivered
 pub mod GoingOn
+pub mod Idle
+pub mod OwnCalls
 pub mod Paths
 pub mod RowCalls
 pub mod RowHolding

@@ -12,7 +12,7 @@ use Rattle.gl_steps.specs.declared.command.Command.{Command}
 use Rattle.gl_steps.specs.Step.{Run, Step}
 use Rattle.gl_registry.specs.Locking.{Line, Runs}
 use Rattle.gl_waiting.specs.Delivering.{Carries, DeliveryView}
-use Rattle.gl_waiting.specs.Going.{Calls, CallsTo, IsRun, WentOn}
+use Rattle.gl_waiting.specs.Going.{Call, Calls, CallsOf, CallsTo, IsRun, WentOn}
 
 -- no command
 pub run_none : (s : State) → IsRun s s
@@ -45,21 +45,45 @@ run_of s s' (c ∷ cs) (r ∷ rs) run =
 
 -- Calls, one after the other.
 
-calls_on : (d d' d'' : DeliveryView) (first second : List DeliveryView) → CallsTo d first d' → CallsTo d' second d'' → CallsTo d (first ++ second) d''
-calls_on d d' d'' [] second one other = subst (λ (x : DeliveryView). CallsTo x second d'') one other
-calls_on d d' d'' (mid ∷ first) second one other = (one.0, calls_on mid d' d'' first second one.1 other)
+module _ (IsOne : DeliveryView → DeliveryView → Type 0) where
+  of_on : (d d' d'' : DeliveryView) (first second : List DeliveryView) → CallsTo IsOne d first d' → CallsTo IsOne d' second d''
+      → CallsTo IsOne d (first ++ second) d''
+  of_on d d' d'' [] second one other = subst (λ (x : DeliveryView). CallsTo IsOne x second d'') one other
+  of_on d d' d'' (mid ∷ first) second one other = (one.0, of_on mid d' d'' first second one.1 other)
+
+  pub of_then : (d mid d' : DeliveryView) → CallsOf IsOne d mid → CallsOf IsOne mid d' → CallsOf IsOne d d'
+  of_then d mid d' one other = (one.0 ++ other.0, of_on d mid d' one.0 other.0 one.1 other.1)
+
+  pub of_none : (d : DeliveryView) → CallsOf IsOne d d
+  of_none d = ([], refl)
+
+  pub of_one : (d d' : DeliveryView) → IsOne d d' → CallsOf IsOne d d'
+  of_one d d' one = (d' ∷ [], (one, refl))
+
+-- calls of one kind are of another
+module _ (One Other : DeliveryView → DeliveryView → Type 0) (is : (d d' : DeliveryView) → One d d' → Other d d') where
+  of_to : (mids : List DeliveryView) (d d' : DeliveryView) → CallsTo One d mids d' → CallsTo Other d mids d'
+  of_to [] d d' same = same
+  of_to (mid ∷ mids) d d' h = (is d mid h.0, of_to mids mid d' h.1)
+
+  pub of_as : (d d' : DeliveryView) → CallsOf One d d' → CallsOf Other d d'
+  of_as d d' h = (h.0, of_to h.0 d d' h.1)
 
 pub calls_then : (d mid d' : DeliveryView) → Calls d mid → Calls mid d' → Calls d d'
-calls_then d mid d' one other = (one.0 ++ other.0, calls_on d mid d' one.0 other.0 one.1 other.1)
+calls_then = of_then Call
 
 pub calls_none : (d : DeliveryView) → Calls d d
-calls_none d = ([], refl)
+calls_none = of_none Call
+
+pub call_made : (d d' : DeliveryView) (c : Command) (told : Told) (ended : Slots) → Carries d c told ended d' → IsRun (state_of d.manager) (state_of d'.manager)
+    → Call d d'
+call_made d d' c told ended carries run = record { command = c; told = told; ended = ended; carries = carries; run = run }
 
 pub calls_one : (d d' : DeliveryView) (c : Command) (told : Told) (ended : Slots) → Carries d c told ended d' → IsRun (state_of d.manager) (state_of d'.manager)
     → Calls d d'
-calls_one d d' c told ended carries run = (d' ∷ [], (record { command = c; told = told; ended = ended; carries = carries; run = run }, refl))
+calls_one d d' c told ended carries run = of_one Call d d' (call_made d d' c told ended carries run)
 
-calls_are : (mids : List DeliveryView) (d d' : DeliveryView) → CallsTo d mids d' → IsRun (state_of d.manager) (state_of d'.manager)
+calls_are : (mids : List DeliveryView) (d d' : DeliveryView) → CallsTo Call d mids d' → IsRun (state_of d.manager) (state_of d'.manager)
 calls_are [] d d' same = run_same (state_of d.manager) (state_of d'.manager) (ap (λ (x : DeliveryView). state_of x.manager) same)
 calls_are (mid ∷ mids) d d' h = run_then (state_of d.manager) (state_of mid.manager) (state_of d'.manager) h.0.run (calls_are mids mid d' h.1)
 
@@ -74,7 +98,7 @@ call_low d d' c told ended (inl so) = let more = so.0 in omega (arith, more)
 call_low d d' c told ended (inr idle) =
     let same : d'.manager.accepted ≡ d.manager.accepted = ap (λ (x : DeliveryView). x.manager.accepted) idle.same in omega (arith, same)
 
-calls_low : (mids : List DeliveryView) (d d' : DeliveryView) → CallsTo d mids d' → d.manager.accepted ≤ d'.manager.accepted
+calls_low : (mids : List DeliveryView) (d d' : DeliveryView) → CallsTo Call d mids d' → d.manager.accepted ≤ d'.manager.accepted
 calls_low [] d d' same =
     let e : d'.manager.accepted ≡ d.manager.accepted = ap (λ (x : DeliveryView). x.manager.accepted) same in omega (arith, e)
 calls_low (mid ∷ mids) d d' h =
@@ -90,7 +114,7 @@ still_first d mid d' c told ended (inl so) low none rest = let more = so.0 in ab
 still_first d mid d' c told ended (inr idle) low none rest =
     rest (subst (λ (x : DeliveryView). d'.manager.accepted ≤ x.manager.accepted) (sym idle.same) none) ∙ idle.same
 
-calls_still : (mids : List DeliveryView) (d d' : DeliveryView) → CallsTo d mids d' → d'.manager.accepted ≤ d.manager.accepted → d' ≡ d
+calls_still : (mids : List DeliveryView) (d d' : DeliveryView) → CallsTo Call d mids d' → d'.manager.accepted ≤ d.manager.accepted → d' ≡ d
 calls_still [] d d' same none = same
 calls_still (mid ∷ mids) d d' h none =
     still_first d mid d' h.0.command h.0.told h.0.ended h.0.carries (calls_low mids mid d' h.1) none (λ few. calls_still mids mid d' h.1 few)

@@ -1,5 +1,5 @@
 -- Calls after which begins were handed on, as runs; and one after which nobody went on.
-use Rattle.std.specs.Prelude.{◌≡◌, ◌==◌, ◌||◌, ℕ, zero, suc, not, Bool, true, false, Option, Result, Ok, Err}
+use Rattle.std.specs.Prelude.{◌≡◌, ◌==◌, ◌||◌, ℕ, zero, suc, not, Bool, true, false, Option, None, Some, Result, Ok, Err}
 use Rattle.std.proofs.Common.{sym, ap, subst, ◌∙◌}
 use Rattle.std.proofs.Math.Bool.{or-false}
 use mathlib.Core.Bool.{true≢false}
@@ -15,7 +15,8 @@ use Rattle.gl_catalog.specs.declared.manager.paths.Reached.{Reached}
 use Rattle.gl_registry.specs.Locking.{Wish}
 use Rattle.gl_registry.specs.declared.answer.RowAnswer.{RowAnswer}
 use Rattle.gl_registry.specs.declared.call.RowCall.{RowCall}
-use Rattle.gl_waiting.specs.Asking.{Begins, HandsFirst, HandsOn, InTurn, LocksPath, RollsBackTo, Serves, ServesRow, TriesRowThere, TriesThere}
+use Rattle.gl_waiting.specs.Asking.{Awaits, AwaitsBy, Begins, Expires, HandsFirst, HandsOn, InTurn, LocksPath, RollsBackTo, Serves, ServesRow, TriesRowThere}
+use Rattle.gl_waiting.specs.Asking.{TriesThere}
 use Rattle.gl_waiting.specs.Delivering.{DeliveryView}
 use Rattle.gl_waiting.specs.Ends.{GoesOn}
 use Rattle.gl_waiting.specs.Going.{IsRun}
@@ -24,6 +25,12 @@ use Rattle.gl_waiting.specs.declared.set_off.SetOff.{SetOff}
 use Rattle.gl_waiting.specs.declared.tries.Keep.{Keep}
 use Rattle.gl_waiting.specs.declared.tries.RowTried.{RowTried}
 use Rattle.gl_waiting.specs.declared.tries.Tried.{Tried}
+use Rattle.gl_waiting.specs.declared.waiter.Came.{Came}
+use Rattle.gl_waiting.specs.declared.waiter.Waiter.{Waiter}
+use Rattle.gl_wakes.specs.Boxes.{verdict_of}
+use Rattle.gl_wakes.specs.declared.grant.Grant.{Grant}
+use Rattle.gl_wakes.specs.declared.grant.Stop.{Stop}
+use Rattle.gl_waiting.proofs.OwnCalls.{among_calls, by_calls, in_time_calls}
 use Rattle.gl_waiting.proofs.Runs.{calls_run, run_same, run_then}
 use Rattle.gl_waiting.proofs.Turns.{went_on_more}
 
@@ -35,7 +42,8 @@ TurnRun v v' = IsRun (state_of v.manager) (state_of v'.manager)
 then_goes : (v v' : WaitingView) (served : DeliveryView) → IsRun (state_of v.manager) (state_of served.manager)
     → GoesOn served v.places (delivery_in v') v'.places → TurnRun v v'
 then_goes v v' served run goes =
-    run_then (state_of v.manager) (state_of served.manager) (state_of v'.manager) run (calls_run served (delivery_in v') goes.calls)
+    run_then (state_of v.manager) (state_of served.manager) (state_of v'.manager) run (calls_run served (delivery_in v') (among_calls served (delivery_in
+    v') v.places goes.calls))
 
 pub serves_run : (v : WaitingView) (c : Command) (a : Option Answer) (told : Told) (off : SetOff) (v' : WaitingView) → Serves v c a told off v' → TurnRun v v'
 serves_run v c a told off v' h = then_goes v v' h.served h.run h.goes
@@ -63,9 +71,25 @@ tried_row_run v w came told off v' h = then_goes v v' h.served h.run h.goes
 same_run : (v v' : WaitingView) → v' ≡ v → TurnRun v v'
 same_run v v' same = run_same (state_of v.manager) (state_of v'.manager) (ap (λ (x : WaitingView). state_of x.manager) same)
 
-begin_run : (v : WaitingView) (since : Option ℕ) (result : Result TxnId Refusal) (off : SetOff) (v' : WaitingView) → Begins v since result off v' → TurnRun v v'
+pub begin_run : (v : WaitingView) (since : Option ℕ) (result : Result TxnId Refusal) (off : SetOff) (v' : WaitingView) → Begins v since result off v'
+    → TurnRun v v'
 begin_run v since (Ok t) off v' (told, h) = then_goes v v' h.served h.run h.goes
 begin_run v since (Err r) off v' h = same_run v v' h.2
+
+-- a wait that is awaited
+pub await_run : (v : WaitingView) (w : Waiter) (c : Option Came) (off : SetOff) (v' : WaitingView) → Awaits v w c off v' → TurnRun v v'
+await_run v w None off v' h = same_run v v' h.2
+await_run v w (Some c) off v' (new, h) = by (verdict_of (state_of v.manager) v.boxes w.txn w.at w.wanted) h
+  where
+    by : (o : Option (Result Grant Stop)) → AwaitsBy o v w c off v' → TurnRun v v'
+    by None so = run_same (state_of v.manager) (state_of v'.manager) (ap (λ (x : WaitingView). state_of x.manager) so.2)
+    by (Some verdict) so =
+        run_then (state_of v.manager) (state_of so.left.manager) (state_of v'.manager)
+        (calls_run (delivery_in v) so.left (by_calls (delivery_in v) so.left w so.calls))
+        (calls_run so.left (delivery_in v') (among_calls so.left (delivery_in v') _ so.others.calls))
+
+pub expire_run : (v : WaitingView) (now : ℕ) (off : SetOff) (v' : WaitingView) → Expires v now off v' → TurnRun v v'
+expire_run v now off v' h = calls_run (delivery_in v) (delivery_in v') (in_time_calls now v.places (delivery_in v) (delivery_in v') h.calls)
 
 first_run : (v v' : WaitingView) → HandsFirst v v' → TurnRun v v'
 first_run v v' h =

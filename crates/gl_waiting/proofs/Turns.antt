@@ -10,16 +10,10 @@ use Rattle.gl_catalog.specs.Manager.{ManagerView, state_of}
 use Rattle.gl_modes.specs.declared.refusal.Refusal.{Refusal}
 use Rattle.gl_modes.specs.declared.refusal.Refusal.TheVariants as no
 use Rattle.gl_steps.specs.declared.command.Answer.TheVariants as answer
-use Rattle.gl_waiting.specs.Asking.{Awaits, AwaitsBy, Begins, HandsFirst, HandsOn, HandsOnAfter, InTurn, IsFull, IsInTurn, is_too_many}
+use Rattle.gl_waiting.specs.Asking.{Begins, HandsFirst, HandsOn, HandsOnAfter, InTurn, IsFull, IsInTurn, is_too_many}
 use Rattle.gl_waiting.specs.Delivering.{registry_in}
 use Rattle.gl_waiting.specs.declared.set_off.SetOff.{SetOff}
 use Rattle.gl_waiting.proofs.Beginning.{begin_made, full_refuses, refused_full}
-use Rattle.gl_modes.specs.declared.mode.Mode.{Mode}
-use Rattle.gl_modes.specs.declared.node.NodeId.{NodeId}
-use Rattle.gl_wakes.specs.Boxes.{verdict_of}
-use Rattle.gl_wakes.specs.declared.grant.Grant.{Grant}
-use Rattle.gl_wakes.specs.declared.grant.Stop.{Stop}
-use Rattle.gl_waiting.specs.declared.waiter.Came.{Came}
 use Rattle.gl_waiting.specs.Waiting.{WaitingView, delivery_in}
 use Rattle.gl_waiting.specs.declared.begins.QueuedBegin.{QueuedBegin}
 
@@ -54,16 +48,6 @@ same_turns : (v v' : WaitingView) → v'.queue ≡ v.queue → v'.manager ≡ v.
 same_turns v v' queue manager (inl none) = inl (queue ∙ none)
 same_turns v v' queue manager (inr full) = inr (subst (λ (m : ManagerView). IsFull (state_of m)) (sym manager) full)
 
--- a waiter that is made changes no turn
-pub await_in_turn : (v : WaitingView) (t : TxnId) (node : NodeId) (mode : Mode) (until : Option ℕ) (c : Option Came) (v' : WaitingView)
-    → Awaits v t node mode until c v' → IsInTurn v → IsInTurn v'
-await_in_turn v t node mode until None v' h turn = subst IsInTurn (sym h.1) turn
-await_in_turn v t node mode until (Some c) v' h turn = by (verdict_of (state_of v.manager) v.boxes t node mode) h.1
-  where
-    by : (o : Option (Result Grant Stop)) → AwaitsBy o v t node mode until c v' → IsInTurn v'
-    by (Some verdict) so = subst IsInTurn (sym so.1) turn
-    by None so = same_turns v v' (ap (λ (x : WaitingView). x.queue) so.1) (ap (λ (x : WaitingView). x.manager) so.1) turn
-
 -- a begin that is refused since every slot is taken
 pub full_by : (v : WaitingView) (since : Option ℕ) (result : Result TxnId Refusal) (off : SetOff) (v' : WaitingView) → is_too_many result ≡ true
     → Begins v since result off v' → IsFull (state_of v.manager)
@@ -92,18 +76,24 @@ none_in_turn : (v v' : WaitingView) → IsInTurn v → HandsFirst v v' → ⊥
 none_in_turn v v' (inl none) h = cc (ap (λ (q : List QueuedBegin). slice_get q 0) none, h.is_first)
 none_in_turn v v' (inr full) h = none_full v v' full h
 
--- after a call that changes nothing none is handed on
-pub idle_turn : (v mid : WaitingView) (own off : SetOff) (v' : WaitingView) → IsInTurn v → HandsOnAfter own mid off v' → mid ≡ v → (v' ≡ v) × (off ≡ own)
-idle_turn v mid own off v' turn after same = by after.count after.hands after.sets
+-- after a call that changes neither the state nor the queue none is handed on
+pub idle_turn : (v mid : WaitingView) (own off : SetOff) (v' : WaitingView) → IsInTurn v → HandsOnAfter own mid off v' → mid.manager ≡ v.manager
+    → mid.queue ≡ v.queue → (v' ≡ mid) × (off ≡ own)
+idle_turn v mid own off v' turn after manager queue = by after.count after.hands after.sets
   where
-    by : (k : ℕ) → HandsOn k mid v' → off ≡ record own { went_on = own.went_on || not (k == 0) } → (v' ≡ v) × (off ≡ own)
+    by : (k : ℕ) → HandsOn k mid v' → off ≡ record own { went_on = own.went_on || not (k == 0) } → (v' ≡ mid) × (off ≡ own)
     by zero hands sets =
         let none : (own.went_on || not (zero == 0)) ≡ own.went_on = or-false own.went_on in
-        (hands ∙ same, sets ∙ ap (λ (b : Bool). record own { went_on = b }) none)
-    by (suc k) hands sets = absurd (none_in_turn mid hands.0 (subst IsInTurn (sym same) turn) hands.1)
+        (hands, sets ∙ ap (λ (b : Bool). record own { went_on = b }) none)
+    by (suc k) hands sets = absurd (none_in_turn mid hands.0 (same_turns v mid queue manager turn) hands.1)
 
 -- a call after which begins were handed on
 pub in_turn : (v : WaitingView) (IsCalled : SetOff → WaitingView → Type 0) (own : SetOff) (mid : WaitingView) (off : SetOff) (v' : WaitingView) → IsInTurn v
     → IsCalled own mid → HandsOnAfter own mid off v' → InTurn v IsCalled off v'
-in_turn v IsCalled own mid off v' turn called hands =
-    record { own = own; mid = mid; called = called; hands = hands; nothing = λ same. idle_turn v mid own off v' turn hands same }
+in_turn v IsCalled own mid off v' turn called hands = record {
+  own = own;
+  mid = mid;
+  called = called;
+  hands = hands;
+  nothing = λ manager queue. idle_turn v mid own off v' turn hands manager queue;
+}

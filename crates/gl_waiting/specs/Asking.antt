@@ -13,8 +13,9 @@ use Rattle.gl_catalog.specs.Paths.{Ask, lock_of}
 use Rattle.gl_catalog.specs.declared.manager.paths.Reached.{Reached}
 use Rattle.gl_registry.specs.Serving.{Applies, PathLeavesRows, ServesBy, touches_rows}
 use Rattle.gl_waiting.specs.Delivering.{Carries, ComesToNothing, Delivered, DeliveryView, lock_said, registry_in, unlocking}
-use Rattle.gl_waiting.specs.Ends.{EndsBetween, EndsInTime, EndsLate, GivesBack, GoesOn, PlaceGoes, PlaceGoesOn}
-use Rattle.gl_waiting.specs.Going.{Calls, IsRun, WentOn}
+use Rattle.gl_waiting.specs.Ends.{AsksCancel, CallAmong, CallInTime, EndsBetween, EndsInTime, EndsLate, GivesBack, GoesOn, NoneAwaits, PlaceGoes, PlaceGoesOn}
+use Rattle.gl_waiting.specs.Ends.{CallBy, StaysSo}
+use Rattle.gl_waiting.specs.Going.{Calls, CallsOf, IsRun, WentOn}
 use Rattle.gl_waiting.specs.declared.set_off.SetOff.{SetOff}
 use Rattle.gl_slots.specs.Slots.{HasNoSlot}
 use Rattle.gl_wakes.specs.Wakes.{HasEnded}
@@ -23,7 +24,7 @@ use Rattle.gl_registry.specs.Locking.{Wish}
 use Rattle.gl_waiting.specs.RowLocks.{RequestsRow}
 use Rattle.gl_waiting.specs.RowTries.{BeginsNoWait, HoldsTried, KeepsQueues, TriesRow}
 use Rattle.gl_waiting.specs.declared.tries.RowTried.{RowTried}
-use Rattle.gl_waiting.specs.Waiters.{AnswersIn, HasWaiter, outcome_of, IsInTime, came_of, place_at, waiter_in}
+use Rattle.gl_waiting.specs.Waiters.{AnswersIn, HasWaiter, IsInTime, came_of, place_at, place_of, waiter_in}
 use Rattle.gl_waiting.specs.Waiting.{WaitingView, delivery_in}
 use Rattle.std.specs.Prelude.{◌⊎◌, ◌==◌, ◌++◌, ◌∷◌, None, drop, is_some, slice_get}
 use Rattle.gl_model.specs.State.{State, lives}
@@ -92,6 +93,7 @@ pub record Serves (v : WaitingView) (c : Command) (a : Option Answer) (told : To
   pub delivers : Carries (delivery_in v) c told off.ended served
   pub run : IsRun (state_of v.manager) (state_of served.manager)
   pub goes : GoesOn served v.places (delivery_in v') v'.places
+  pub idle : NoneAwaits off.ended v.places → StaysSo served v.places (delivery_in v') v'.places
   pub went_on : WentOn off.went_on served (delivery_in v')
   pub turns : KeepsTurns v v'
   pub nothing : v'.manager.accepted ≡ v.manager.accepted → v' ≡ v
@@ -104,6 +106,7 @@ pub record ServesRow (v : WaitingView) (c : RowCall) (a : RowAnswer) (told : Tol
   pub delivers : Carries (delivery_in v) (own_command (naming c v.rows served.rows) c) told off.ended served
   pub run : IsRun (state_of v.manager) (state_of served.manager)
   pub goes : GoesOn served v.places (delivery_in v') v'.places
+  pub idle : NoneAwaits off.ended v.places → StaysSo served v.places (delivery_in v') v'.places
   pub went_on : WentOn off.went_on served (delivery_in v')
   pub turns : KeepsTurns v v'
   pub nothing : v'.manager.accepted ≡ v.manager.accepted → v' ≡ v
@@ -116,6 +119,7 @@ pub record LocksPath (v : WaitingView) (t : TxnId) (ask : Ask) (result : Result 
   pub delivers : Carries (delivery_in v) (lock_of t ask) told off.ended served
   pub run : IsRun (state_of v.manager) (state_of served.manager)
   pub goes : GoesOn served v.places (delivery_in v') v'.places
+  pub idle : NoneAwaits off.ended v.places → StaysSo served v.places (delivery_in v') v'.places
   pub went_on : WentOn off.went_on served (delivery_in v')
   pub turns : KeepsTurns v v'
   pub nothing : v'.manager.accepted ≡ v.manager.accepted → v' ≡ v
@@ -128,6 +132,7 @@ pub record RollsBackTo (v : WaitingView) (t : TxnId) (mark : ℕ) (result : Resu
   pub refused : OnErr result (ComesToNothing (delivery_in v) told off.ended served)
   pub run : IsRun (state_of v.manager) (state_of served.manager)
   pub goes : GoesOn served v.places (delivery_in v') v'.places
+  pub idle : NoneAwaits off.ended v.places → StaysSo served v.places (delivery_in v') v'.places
   pub went_on : WentOn off.went_on served (delivery_in v')
   pub turns : KeepsTurns v v'
   pub nothing : OnErr result (v' ≡ v)
@@ -141,6 +146,7 @@ pub record TriesThere (v : WaitingView) (t : TxnId) (ask : Ask) (keep : Keep) (r
   pub tests : (r : Refusal) → first_refusal (path_tests (state_of v.manager) t ask.0 ask.1) ≡ Some r → (result ≡ tried.Refused r) × (served ≡ delivery_in v)
   pub run : IsRun (state_of v.manager) (state_of served.manager)
   pub goes : GoesOn served v.places (delivery_in v') v'.places
+  pub idle : NoneAwaits off.ended v.places → StaysSo served v.places (delivery_in v') v'.places
   pub went_on : WentOn off.went_on served (delivery_in v')
   pub turns : KeepsTurns v v'
   pub nothing : v'.manager.accepted ≡ v.manager.accepted → v' ≡ v
@@ -154,6 +160,7 @@ pub record TriesRowThere (v : WaitingView) (w : Wish) (result : RowTried) (told 
   pub queues : KeepsQueues result (state_of v.manager) (state_of served.manager)
   pub run : IsRun (state_of v.manager) (state_of served.manager)
   pub goes : GoesOn served v.places (delivery_in v') v'.places
+  pub idle : NoneAwaits off.ended v.places → StaysSo served v.places (delivery_in v') v'.places
   pub went_on : WentOn off.went_on served (delivery_in v')
   pub turns : KeepsTurns v v'
   pub nothing : v'.manager.accepted ≡ v.manager.accepted → v' ≡ v
@@ -210,45 +217,59 @@ pub record Asks (v : WaitingView) (t : TxnId) (asked : Request) (instant : Bool)
   pub replies : Replies t first after c v'.places
   pub turns : KeepsTurns v v'
 
--- a table without the waiter of a slot whose request came to this, if it waits
-abbrev pub unregistered : ℕ → Came → WaitingView → WaitingView
-unregistered slot (came.Ended outcome) v = v
-unregistered slot (came.Waits at wanted) v = record v { places = slice_set v.places slot place.Empty }
-
--- a request is carried out as an ask, and leaves no waiter
-abbrev pub AsksOnce : WaitingView → TxnId → Request → Bool → Came → Told → SetOff → WaitingView → Type 0
-AsksOnce v t asked instant c told off v' = (mid : WaitingView) × Asks v t asked instant None c told off mid × (v' ≡ unregistered t.slot c mid)
-
 -- the transaction has a waiter, whichever
 abbrev pub IsAwaitedAlready : List Place → TxnId → Type 0
 IsAwaitedAlready places t = (w : Waiter) × HasWaiter places t w
 
--- what a wait for a node came to, by what became of it: it is over, or its transaction is a waiter from now on, and nothing else changes
-abbrev pub AwaitsBy : Option (Result Grant Stop) → WaitingView → TxnId → NodeId → Mode → Option ℕ → Came → WaitingView → Type 0
-AwaitsBy (Some verdict) v t node mode until c v' = (c ≡ came.Ended (outcome_of node verdict)) × (v' ≡ v)
-AwaitsBy None v t node mode until c v' =
-    (c ≡ came.Waits node mode)
-    × (v' ≡ record v { places = slice_set v.places t.slot (place.Waits (waiter_for t (request.Node node mode) false until node mode)) })
+-- the table with this waiter in its slot
+abbrev pub with_waiter : WaitingView → Waiter → WaitingView
+with_waiter v w = record v { places = slice_set v.places w.txn.slot (place.Waits w) }
+
+-- a waiter whose wait is over goes on, and then others; if its request waits again it is registered
+pub record GoesOnAtOnce (v : WaitingView) (w : Waiter) (c : Came) (off : SetOff) (v' : WaitingView) : Type 0 where
+  pub first : Came
+  pub left : DeliveryView
+  pub calls : CallsOf (CallBy w) (delivery_in v) left
+  pub goes : PlaceGoesOn (delivery_in v) left (place.Waits w) (place_of w first)
+  pub after : List Place
+  pub others : GoesOn left (registered w.txn w.request w.instant w.until first v.places) (delivery_in v') after
+  pub went_on : WentOn off.went_on (delivery_in v) (delivery_in v')
+  pub ended : HasNoSlot off.ended
+  pub replies : Replies w.txn first after c v'.places
+  pub turns : KeepsTurns v v'
+
+-- what a wait came to, by what became of it: its waiter is registered and nothing else changes, or the wait is over, and the waiter goes on
+abbrev pub AwaitsBy : Option (Result Grant Stop) → WaitingView → Waiter → Came → SetOff → WaitingView → Type 0
+AwaitsBy (Some verdict) v w c off v' = GoesOnAtOnce v w c off v'
+AwaitsBy None v w c off v' = (c ≡ came.Waits w.at w.wanted) × IsNothing off × (v' ≡ with_waiter v w)
 
 -- a wait is awaited, unless its transaction has a waiter already
-abbrev pub Awaits : WaitingView → TxnId → NodeId → Mode → Option ℕ → Option Came → WaitingView → Type 0
-Awaits v t node mode until None v' = IsAwaitedAlready v.places t × (v' ≡ v)
-Awaits v t node mode until (Some c) v' =
-    (IsAwaitedAlready v.places t → ⊥) × AwaitsBy (verdict_of (state_of v.manager) v.boxes t node mode) v t node mode until c v'
+abbrev pub Awaits : WaitingView → Waiter → Option Came → SetOff → WaitingView → Type 0
+Awaits v w None off v' = IsAwaitedAlready v.places w.txn × IsNothing off × (v' ≡ v)
+Awaits v w (Some c) off v' =
+    (IsAwaitedAlready v.places w.txn → ⊥) × AwaitsBy (verdict_of (state_of v.manager) v.boxes w.txn w.at w.wanted) v w c off v'
 
--- the time of a transaction's wait is over: its waiter ends so, if a command can still be counted, and others go on
-pub record TimesOut (v : WaitingView) (t : TxnId) (off : SetOff) (v' : WaitingView) : Type 0 where
-  pub cancelled : DeliveryView
+-- the time of a waiter is over: its wait is cancelled, it ends so if a command can still be counted, and others go on
+pub record EndsWait (v : WaitingView) (t : TxnId) (w : Waiter) (off : SetOff) (v' : WaitingView) : Type 0 where
+  pub answer : Option Answer
   pub told : Told
+  pub cancelled : DeliveryView
+  pub asks : AsksCancel t answer told (delivery_in v) cancelled
   pub cancels : Carries (delivery_in v) (command.Cancel t) told off.ended cancelled
+  pub run : IsRun (state_of v.manager) (state_of cancelled.manager)
+  pub calls : CallsOf (CallAmong v.places) cancelled (delivery_in v')
   pub went_on : WentOn off.went_on cancelled (delivery_in v')
-  pub calls : Calls (delivery_in v) (delivery_in v')
   pub low : v.manager.accepted ≤ v'.manager.accepted
-  pub ends : (w : Waiter) → HasWaiter v.places t w → v'.manager.accepted < max_count → place_at v'.places t.slot ≡ place.Ended t (end.TimedOut w.at)
+  pub ends : v'.manager.accepted < max_count → place_at v'.places t.slot ≡ place.Ended t (end.TimedOut w.at)
   pub others : (u : ℕ) → u ≢ t.slot → PlaceGoesOn (delivery_in v) (delivery_in v') (place_at v.places u) (place_at v'.places u)
   pub own : PlaceGoes (λ w outcome. EndsBetween (delivery_in v) (delivery_in v') w outcome
       ⊎ ((outcome ≡ end.TimedOut w.at) × EndsLate (delivery_in v) (delivery_in v') w outcome)) (place_at v.places t.slot) (place_at v'.places t.slot)
   pub turns : KeepsTurns v v'
+
+-- the time of a transaction's wait is over: nothing changes if it has no waiter
+pub record TimesOut (v : WaitingView) (t : TxnId) (off : SetOff) (v' : WaitingView) : Type 0 where
+  pub run : IsRun (state_of v.manager) (state_of v'.manager)
+  pub waiter : (w : Waiter) → HasWaiter v.places t w → EndsWait v t w off v'
   pub without : ((w : Waiter) → HasWaiter v.places t w → ⊥) → IsNothing off × (v' ≡ v)
 
 -- a command was done
@@ -260,7 +281,7 @@ is_done o = false
 pub record Expires (v : WaitingView) (now : ℕ) (off : SetOff) (v' : WaitingView) : Type 0 where
   pub ended : HasNoSlot off.ended
   pub went_on : WentOn off.went_on (delivery_in v) (delivery_in v')
-  pub calls : Calls (delivery_in v) (delivery_in v')
+  pub calls : CallsOf (CallInTime now v.places) (delivery_in v) (delivery_in v')
   pub places : (u : ℕ) → PlaceGoes (EndsInTime now (delivery_in v) (delivery_in v')) (place_at v.places u) (place_at v'.places u)
   pub turns : KeepsTurns v v'
   pub in_time : (u : ℕ) → v'.manager.accepted < max_count → IsInTime now (place_at v'.places u)
@@ -334,10 +355,10 @@ pub record HandsOnAfter (own : SetOff) (v : WaitingView) (off : SetOff) (v' : Wa
   pub hands : HandsOn count v v'
   pub sets : off ≡ record own { went_on = own.went_on || not (count == 0) }
 
--- a call is carried out, and then begins are handed on, none after a call that changes nothing
+-- a call is carried out, and then begins are handed on, none after a call that changes neither the state nor the queue
 pub record InTurn (v : WaitingView) (IsCalled : SetOff → WaitingView → Type 0) (off : SetOff) (v' : WaitingView) : Type 0 where
   pub own : SetOff
   pub mid : WaitingView
   pub called : IsCalled own mid
   pub hands : HandsOnAfter own mid off v'
-  pub nothing : mid ≡ v → (v' ≡ v) × (off ≡ own)
+  pub nothing : mid.manager ≡ v.manager → mid.queue ≡ v.queue → (v' ≡ mid) × (off ≡ own)

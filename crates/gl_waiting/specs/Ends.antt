@@ -1,8 +1,10 @@
 -- How waits end, and what belongs to each slot after waiters went on.
-use Rattle.std.specs.Prelude.{◌≡◌, ◌⊎◌, ◌&&◌, ℕ, Bool, true, false, List, Some, Result, Ok}
+use Rattle.std.specs.Prelude.{◌≡◌, ◌⊎◌, ◌&&◌, ℕ, Bool, true, false, List, Option, None, Some, Result, Ok}
 use Rattle.gl_modes.specs.declared.mode.Mode.{Mode}
 use Rattle.gl_modes.specs.declared.node.NodeId.{NodeId}
 use Rattle.gl_modes.specs.declared.refusal.Refusal.{Refusal}
+use Rattle.gl_slots.specs.Slots.{has_slot}
+use Rattle.gl_slots.specs.declared.slots.Slots.{Slots}
 use Rattle.gl_catalog.specs.Manager.{state_of}
 use Rattle.gl_catalog.specs.declared.manager.paths.Reached.{Reached}
 use Rattle.gl_wakes.specs.Boxes.{verdict_of}
@@ -10,9 +12,9 @@ use Rattle.gl_wakes.specs.declared.grant.Grant.{Grant}
 use Rattle.gl_wakes.specs.declared.grant.Stop.{Stop}
 use Rattle.gl_waiting.specs.Begins.{is_over}
 use Rattle.gl_waiting.specs.Delivering.{DeliveryView, registry_in}
-use Rattle.gl_waiting.specs.Going.{Calls}
-use Rattle.gl_waiting.specs.Paths.{LocksThrough}
-use Rattle.gl_waiting.specs.Waiters.{StillRequests, came_of, is_granted_so, next_of, node_in, place_at}
+use Rattle.gl_waiting.specs.Going.{CallThat, Calls, CallsOf}
+use Rattle.gl_waiting.specs.Paths.{LocksPart, LocksThrough}
+use Rattle.gl_waiting.specs.Waiters.{StillRequests, came_of, is_granted_so, next_of, node_in, place_at, waiter_in}
 use Rattle.gl_waiting.specs.declared.waiter.Came.TheVariants as came
 use Rattle.gl_waiting.specs.declared.waiter.Next.TheVariants as next
 use Rattle.gl_waiting.specs.declared.waiter.Outcome.{Outcome}
@@ -118,15 +120,52 @@ PlaceGoes Ends (place.Waits w) p =
 abbrev pub PlaceGoesOn : DeliveryView → DeliveryView → Place → Place → Type 0
 PlaceGoesOn d d' p p' = PlaceGoes (EndsBetween d d') p p'
 
--- waiters go on along calls: what belongs to each slot goes on or ends
+-- what a waiter does that goes on: it locks the next part of its path, or its row again
+abbrev pub LocksOn : TxnId → Request → Told → DeliveryView → DeliveryView → Type 0
+LocksOn t (request.Node node mode) told d d' = ⊥
+LocksOn t (request.Path node mode) told d d' = LocksPart t (node, mode) told d d'
+LocksOn t (request.Row row keys mode) told d d' = (result : Result RowLocked RowRefusal) × LocksRowWith d t row keys mode result told d'
+
+-- what was requested for an instant is unlocked
+abbrev pub UnlocksInstant : Bool → TxnId → Request → Told → DeliveryView → DeliveryView → Type 0
+UnlocksInstant instant t asked told d d' = (instant ≡ true) × (h : Unlocks t (node_in asked) d d') × (h.told ≡ told)
+
+-- a call of this waiter: of its own request, and of its own transaction
+abbrev pub CallBy : Waiter → DeliveryView → DeliveryView → Type 0
+CallBy w d d' = CallThat (λ told d d'. LocksOn w.txn w.request told d d' ⊎ UnlocksInstant w.instant w.txn w.request told d d') d d'
+
+-- a call of one of these waiters
+abbrev pub CallAmong : List Place → DeliveryView → DeliveryView → Type 0
+CallAmong places d d' = (u : ℕ) × (w : Waiter) × (place_at places u ≡ place.Waits w) × CallBy w d d'
+
+-- waiters go on along their own calls: what belongs to each slot goes on or ends
 pub record GoesOn (d : DeliveryView) (places : List Place) (d' : DeliveryView) (places' : List Place) : Type 0 where
-  pub calls : Calls d d'
+  pub calls : CallsOf (CallAmong places) d d'
   pub each : (u : ℕ) → PlaceGoesOn d d' (place_at places u) (place_at places' u)
 
--- a transaction's wait is cancelled, as a command of the registry
+-- none of these slots has a waiter
+abbrev pub NoneAwaits : Slots → List Place → Type 0
+NoneAwaits set places = (u : ℕ) → has_slot set u ≡ true → waiter_in (place_at places u) ≡ None
+
+-- nobody went on
+abbrev pub StaysSo : DeliveryView → List Place → DeliveryView → List Place → Type 0
+StaysSo d places d' places' = (d' ≡ d) × (places' ≡ places)
+
+-- a transaction's wait is to be cancelled, as a command of the registry
+abbrev pub AsksCancel : TxnId → Option Answer → Told → DeliveryView → DeliveryView → Type 0
+AsksCancel t a told d d' = ServesBy (touches_rows (registry_in d) (command.Cancel t)) (registry_in d) (command.Cancel t) a told (registry_in d')
+
+-- it is cancelled
 pub record Cancels (t : TxnId) (d d' : DeliveryView) : Type 0 where
   pub told : Told
-  pub serves : ServesBy (touches_rows (registry_in d) (command.Cancel t)) (registry_in d) (command.Cancel t) (Some answer.Done) told (registry_in d')
+  pub serves : AsksCancel t (Some answer.Done) told d d'
+
+-- a call of one of these waiters, or one that cancels its wait, since its time is over
+abbrev pub CallInTime : ℕ → List Place → DeliveryView → DeliveryView → Type 0
+CallInTime now places d d' =
+    CallAmong places d d'
+    ⊎ ((u : ℕ) × (w : Waiter) × (place_at places u ≡ place.Waits w) × (is_over now w.until ≡ true)
+    × CallThat (λ told d d'. (a : Option Answer) × AsksCancel w.txn a told d d') d d')
 
 -- along calls from one delivery to another the time of a wait was over, and it was cancelled
 pub record EndsLate (d d' : DeliveryView) (w : Waiter) (outcome : Outcome) : Type 0 where

@@ -20,14 +20,22 @@ pub record Call (d d' : DeliveryView) : Type 0 where
   pub carries : Carries d command told ended d'
   pub run : IsRun (state_of d.manager) (state_of d'.manager)
 
--- calls, one after the other, by the deliveries that they leave
-abbrev pub CallsTo : DeliveryView → List DeliveryView → DeliveryView → Type 0
-CallsTo d [] d' = d' ≡ d
-CallsTo d (mid ∷ mids) d' = Call d mid × CallsTo mid mids d'
+-- one call that does this, with its notices
+abbrev pub CallThat : (Told → DeliveryView → DeliveryView → Type 0) → DeliveryView → DeliveryView → Type 0
+CallThat Does d d' = (call : Call d d') × Does call.told d d'
 
--- some calls lead from one delivery to the other
+-- calls of a kind, one after the other, by the deliveries that they leave
+abbrev pub CallsTo : (DeliveryView → DeliveryView → Type 0) → DeliveryView → List DeliveryView → DeliveryView → Type 0
+CallsTo IsOne d [] d' = d' ≡ d
+CallsTo IsOne d (mid ∷ mids) d' = IsOne d mid × CallsTo IsOne mid mids d'
+
+-- some calls of a kind lead from one delivery to the other
+abbrev pub CallsOf : (DeliveryView → DeliveryView → Type 0) → DeliveryView → DeliveryView → Type 0
+CallsOf IsOne d d' = (mids : List DeliveryView) × CallsTo IsOne d mids d'
+
+-- some calls do
 abbrev pub Calls : DeliveryView → DeliveryView → Type 0
-Calls d d' = (mids : List DeliveryView) × CallsTo d mids d'
+Calls d d' = CallsOf Call d d'
 
 -- whether any command was carried out from one delivery to the other: if not, it is the same
 abbrev pub WentOn : Bool → DeliveryView → DeliveryView → Type 0

@@ -10,6 +10,10 @@ use Rattle.gl_registry.specs.Serving.{PathLeavesRows}
 use Rattle.gl_waiting.specs.Delivering.{DeliveryView, registry_in}
 use Rattle.gl_waiting.specs.Waiters.{IsThrough, stops_above}
 
+-- the next part of a path is locked
+abbrev pub LocksPart : TxnId → Ask → Told → DeliveryView → DeliveryView → Type 0
+LocksPart t ask told d d' = (result : Result Reached Refusal) × PathLeavesRows t ask (registry_in d) result told (registry_in d')
+
 -- a path is locked in so many parts and one more: each but the last was granted a node above, and told others
 abbrev pub LocksParts : ℕ → TxnId → Ask → RegistryView → Result Reached Refusal → RegistryView → Type 0
 LocksParts zero t ask v result v' = (told : Told) × PathLeavesRows t ask v result told v'

@@ -3,9 +3,11 @@
 ghost use Rattle.std.specs.Prelude.{◌≡◌, ◌==◌, ◌∷◌, ◌++◌, [], IfErr, OnErr, OnOk, Some, drop, length, slice_get};
 ghost use Rattle.std.specs.List.{find, list_any, position};
 ghost use Rattle.gl_modes.specs.declared.refusal.Refusal.{Refusal as ARefusal};
+ghost use Rattle.gl_waiting.specs.Asking.{IsBeginAnswer, begin_of, begin_said, is_too_many};
 ghost use Rattle.gl_waiting.specs.Begins.{earliest_of, has_word, is_late, is_over, without_first};
 ghost use Rattle.gl_waiting.specs.declared.begins.QueuedBegin.{QueuedBegin as ABegin};
 
+use gl_catalog::{Answer, Command};
 use gl_modes::Refusal;
 use gl_table::TxnId;
 use std::alloc::Global;
@@ -181,4 +183,33 @@ impl BeginQueue {
     {
         self.waiting.iter().position(|begin| begin.is_late(now))
     }
+}
+
+/// The command of a begin, for new work or for work since an earlier begin.
+pub fn begin_command(since: Option<u64>) -> Command<'static>
+    ensures { result ≡ begin_of since }
+{
+    match since {
+        Some(since) => Command::BeginAgain { since },
+        None => Command::Begin,
+    }
+}
+
+/// What a begin came to that was answered so.
+pub(crate) fn begun_in(answer: Answer) -> Result<TxnId, Refusal>
+    requires { IsBeginAnswer answer }
+    ensures { begin_said result ≡ answer }
+{
+    match answer {
+        Answer::Begun(txn) => Ok(txn),
+        Answer::Refused(refusal) => Err(refusal),
+        _ => unreachable!(),
+    }
+}
+
+/// Whether a begin was refused since every slot is taken.
+pub(crate) fn is_too_many(came: Result<TxnId, Refusal>) -> bool
+    ensures { result ≡ is_too_many came }
+{
+    matches!(came, Err(Refusal::TooManyTxns))
 }

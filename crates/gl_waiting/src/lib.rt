@@ -18,10 +18,10 @@ mod waiter_table;
 mod waiters;
 mod waiting;
 
-pub use begins::{QueuedBegin, Turn};
+pub use begins::{QueuedBegin, Turn, begin_command};
 pub use delivery::Delivery;
 pub use keys::RowKeys;
 pub use set_off::SetOff;
 pub use tries::{Keep, RowTried, Tried};
-pub use waiter::{Came, Outcome, Request};
+pub use waiter::{Came, Outcome, Request, Waiter};
 pub use waiting::Waiting;

@@ -112,17 +112,6 @@ impl Places {
         }
     }
 
-    /// Empties a slot.
-    pub(crate) fn clear(&mut self, slot: Slot)
-        ensures { self.new ≡ slice_set self.old slot empty }
-    {
-        if self.places.get(slot as usize).is_none() {
-            return;
-        }
-        self.places[slot as usize] = Place::Empty;
-        self.ends.remove(slot);
-    }
-
     /// The earliest time at which a wait ends at the latest; `None` if no waiter has one.
     pub(crate) fn earliest(&self) -> Option<u64>
         ensures { result ≡ earliest_until self.now }

@@ -1,7 +1,7 @@
 //! Requests for rows, in a small table with ample memory.
 
 use crate::tests::{begin, commit, ends, made, same, serve, table};
-use crate::{Came, Outcome, Request, RowKeys, RowTried, Waiting};
+use crate::{Came, Outcome, Request, RowKeys, RowTried, Waiter, Waiting};
 use gl_catalog::{Answer, Command};
 use gl_modes::Mode::{IX, X};
 use gl_modes::{NodeId, Refusal};
@@ -156,21 +156,43 @@ fn a_row_is_tried(rt: HostRuntime) {
 }
 
 #[test]
-fn a_command_of_a_list_leaves_no_waiter(rt: HostRuntime) {
+fn a_row_that_a_call_left_waiting_is_awaited(rt: HostRuntime) {
     let mut scene = set_up(&rt, rt.alloc());
     let (old, young) = (scene.old, scene.young);
     let _ = ask(&mut scene, old, &[]);
     let node = node(&rt, &scene);
     let mut told = Told::new();
-    let asked = row(scene.file, &[]);
-    let (came, _off) = scene.waiting.request(young, asked, false, &mut told);
+    let call = RowCall::Lock {
+        txn: young,
+        row: Row {
+            file: scene.file,
+            number: 7,
+        },
+        keys: &[],
+        mode: X,
+    };
+    let _ = scene.waiting.serve_row(call, &mut told);
+    let waiter = Waiter {
+        txn: young,
+        request: row(scene.file, &[]),
+        instant: false,
+        at: node,
+        wanted: X,
+        until: None,
+    };
     let waits = Came::Waits {
         at: node,
         wanted: X,
     };
-    same(&rt, came, waits);
-    let awaited = scene.waiting.await_lock(young, node, X, None);
-    same(&rt, awaited, Some(waits));
+    let (came, _off) = scene.waiting.await_request(waiter);
+    same(&rt, came, Some(waits));
+    let (again, _off) = scene.waiting.await_request(waiter);
+    same(&rt, again, None);
     commit(&rt, &mut scene.waiting, old);
-    ends(&rt, &mut scene.waiting, young, Outcome::Granted(X));
+    ends(
+        &rt,
+        &mut scene.waiting,
+        young,
+        Outcome::RowGranted { node, mode: X },
+    );
 }

@@ -4,8 +4,8 @@ ghost use Rattle.std.specs.Prelude.{◌≡◌, ◌<◌, ◌≤◌, ◌⊎◌, []
 ghost use Rattle.gl_slots.specs.Slots.{HasNoSlot};
 ghost use Rattle.gl_catalog.specs.Manager.{state_of};
 ghost use Rattle.gl_wakes.specs.Wakes.{HasEnded};
-ghost use Rattle.gl_waiting.specs.Ends.{EndsByRow, IsGrantedIn};
-ghost use Rattle.gl_waiting.specs.Going.{Calls};
+ghost use Rattle.gl_waiting.specs.Ends.{CallBy, EndsByRow, IsGrantedIn};
+ghost use Rattle.gl_waiting.specs.Going.{Calls, CallsOf};
 ghost use Rattle.gl_waiting.specs.RowLocks.{RequestsRow, again_as, row_came_of, row_held};
 ghost use Rattle.gl_waiting.specs.declared.waiter.Request.TheVariants.{Row as RowRequest};
 
@@ -82,7 +82,7 @@ pub(crate) fn lock_again(
     requires asked { waiter.request ≡ RowRequest row keys mode }
     requires became { IsGrantedIn delivery.old waiter granted }
     ensures ends { EndsByRow delivery.old delivery.new waiter result.0 }
-    ensures calls { Calls delivery.old delivery.new }
+    ensures calls { CallsOf (CallBy waiter) delivery.old delivery.new }
     ensures ended { HasEnded (state_of delivery.old.manager) (state_of delivery.new.manager) result.1 }
     ensures counted { HasNoSlot result.1 ⊎ (delivery.old.manager.accepted < delivery.new.manager.accepted) }
     ensures low { delivery.old.manager.accepted ≤ delivery.new.manager.accepted }

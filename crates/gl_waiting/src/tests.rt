@@ -3,7 +3,7 @@
 ghost use Rattle.gl_slots.specs.Limit.{most_slots};
 ghost use Rattle.std.specs.Prelude.{◌≤◌};
 
-use crate::{Came, Delivery, Outcome, QueuedBegin, Request, SetOff, Turn, Waiting};
+use crate::{Came, Delivery, Outcome, QueuedBegin, Request, SetOff, Turn, Waiter, Waiting};
 use gl_catalog::{Answer, Command, Manager};
 use gl_modes::Mode::{IX, X};
 use gl_modes::{NodeId, Refusal};
@@ -147,6 +147,27 @@ fn a_path_goes_on_by_itself(rt: HostRuntime) {
     ends(&rt, &mut scene.waiting, scene.young, Outcome::Granted(X));
     let held = scene.waiting.manager().mode_on(scene.young, scene.one);
     same(&rt, held, Some(X));
+}
+
+#[test]
+fn a_path_that_is_awaited_late_goes_on_at_once(rt: HostRuntime) {
+    let mut scene = set_up(&rt, rt.alloc());
+    holds(&rt, &mut scene.waiting, scene.old, scene.root);
+    let mut told = Told::new();
+    let (txn, node) = (scene.young, scene.one);
+    let _ = scene.waiting.lock_path(txn, node, X, &mut told);
+    commit(&rt, &mut scene.waiting, scene.old);
+    let (came, off) = scene.waiting.await_request(Waiter {
+        txn,
+        request: Request::Path { node, mode: X },
+        instant: false,
+        at: scene.root,
+        wanted: IX,
+        until: None,
+    });
+    same(&rt, came, Some(Came::Ended(Outcome::Granted(X))));
+    same(&rt, off.went_on, true);
+    same(&rt, scene.waiting.take_end(), None);
 }
 
 #[test]

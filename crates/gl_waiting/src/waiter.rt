@@ -164,7 +164,7 @@ fn has_more(node: NodeId, at: NodeId, verdict: Result<Grant, Stop>) -> bool
 }
 
 /// The end of a wait for this node, by what became of it.
-pub(crate) fn outcome_of(at: NodeId, verdict: Result<Grant, Stop>) -> Outcome
+fn outcome_of(at: NodeId, verdict: Result<Grant, Stop>) -> Outcome
     ensures { result ≡ outcome_of at verdict }
 {
     match verdict {

@@ -1,16 +1,17 @@
 //! The table of waiters, with each call carried out alone: begins are handed on by `Waiting`.
 
 ghost use Rattle.gl_slots.specs.Limit.{most_slots};
-ghost use Rattle.std.specs.Prelude.{◌≡◌, ◌<◌, ◌≤◌, ℕ, [], drop, replicate, slice_get};
+ghost use Rattle.std.specs.Prelude.{◌≡◌, ◌<◌, ◌≤◌, ◌==◌, ℕ, Some, [], drop, not, replicate, slice_get};
+ghost use Rattle.gl_slots.specs.Slots.{HasNoSlot};
 ghost use Rattle.gl_catalog.specs.Manager.{IsLawfulManager, state_of};
 ghost use Rattle.gl_registry.specs.Rows.{name_of};
 ghost use Rattle.gl_graph.specs.Refusals.{max_count};
-ghost use Rattle.gl_waiting.specs.Ends.{EndsInTime, PlaceGoes};
-ghost use Rattle.gl_waiting.specs.Going.{Calls};
-ghost use Rattle.gl_waiting.specs.Asking.{Asks, AsksOnce, Awaits, Begins, BeginsInTurn, BeginsNext};
-ghost use Rattle.gl_waiting.specs.Asking.{Expires, HandsOnAfter, HandsOnIf, IsBeginAnswer, IsInTurn, LocksPath};
+ghost use Rattle.gl_waiting.specs.Ends.{CallInTime, EndsInTime, PlaceGoes};
+ghost use Rattle.gl_waiting.specs.Going.{CallsOf};
+ghost use Rattle.gl_waiting.specs.Asking.{Asks, Awaits, Begins, BeginsInTurn, BeginsNext};
+ghost use Rattle.gl_waiting.specs.Asking.{Expires, GoesOnAtOnce, HandsOnAfter, HandsOnIf, IsInTurn, LocksPath};
 ghost use Rattle.gl_waiting.specs.Asking.{KeepsTurns, RollsBackTo, Serves, ServesRow};
-ghost use Rattle.gl_waiting.specs.Asking.{TimesOut, TriesRowThere, TriesThere, begin_of, begin_said, is_done, is_for_instant, is_too_many};
+ghost use Rattle.gl_waiting.specs.Asking.{TimesOut, TriesRowThere, TriesThere, is_done, is_for_instant};
 ghost use Rattle.gl_waiting.specs.Begins.{earliest_of, has_word, is_late, without_first};
 ghost use Rattle.std.specs.List.{find, list_any};
 ghost use Rattle.gl_waiting.specs.Waiters.{Await, IsInTime, TakesEnd, earliest_until, place_at};
@@ -18,13 +19,15 @@ ghost use Rattle.gl_wakes.specs.Boxes.{verdict_of};
 ghost use Rattle.gl_waiting.specs.Waiting.{delivery_in};
 ghost use Rattle.gl_waiting.specs.declared.waiter.Place.TheVariants.{Empty as empty};
 
-use crate::begins::{BeginQueue, Begun, QueuedBegin, Turn, is_over};
+use crate::begins::{
+    BeginQueue, Begun, QueuedBegin, Turn, begin_command, begun_in, is_over, is_too_many,
+};
 use crate::delivery::Delivery;
 use crate::places::Places;
 use crate::set_off::SetOff;
 use crate::tries::{Keep, RowTried, Tried};
-use crate::waiter::{Came, Outcome, Place, Request, Waiter, outcome_of};
-use crate::waiters::{give_back, request_now, settle};
+use crate::waiter::{Came, Outcome, Place, Request, Waiter};
+use crate::waiters::{continue_by, give_back, request_now, settle};
 use gl_catalog::{Answer, Command, Manager, Reached};
 use gl_modes::{Mode, NodeId, Refusal};
 use gl_registry::{Row, RowAnswer, RowCall};
@@ -249,69 +252,54 @@ impl WaiterTable {
         }
     }
 
-    /// Carries out a request as `ask`, but leaves no waiter: if the request still waits after all waiters have gone on, the
-    /// answer says for which node and in which mode, and `await_lock` makes a waiter of its transaction. An instant that
-    /// still waits is awaited as a lock that stays.
-    pub(crate) fn request(
-        &mut self,
-        txn: TxnId,
-        request: Request,
-        instant: bool,
-        told: &mut Told,
-    ) -> (Came, SetOff)
-        requires empty { told.old.items ≡ [] }
-        ensures { AsksOnce self.old txn request instant result.0 told.new.items result.1 self.new }
-    {
-        let (came, off) = self.ask(txn, request, instant, None, told);
-        match came {
-            Came::Ended(_) => (came, off),
-            Came::Waits { .. } => {
-                self.places.clear(txn.slot);
-                (came, off)
-            }
-        }
-    }
-
     /// Takes the end of a wait, that of the lowest slot; `None` if there is none.
     pub(crate) fn take_end(&mut self) -> Option<(TxnId, Outcome)>
         ensures ends { TakesEnd self.old.places result self.new.places }
-        ensures kept { delivery_in self.new ≡ delivery_in self.old }
-        ensures turns { KeepsTurns self.old self.new }
+        ensures rest { self.new ≡ record self.old { places = self.new.places } }
     {
         self.places.take_end()
     }
 
-    /// Makes a waiter of a transaction that a command left waiting for a node, in this mode, with at most this time to
-    /// wait. Answers what became of the wait if it is over; `None` if the transaction has a waiter already.
-    pub(crate) fn await_lock(
-        &mut self,
-        txn: TxnId,
-        node: NodeId,
-        mode: Mode,
-        until: Option<u64>,
-    ) -> Option<Came>
-        ensures { Awaits self.old txn node mode until result self.new }
+    /// Registers the waiter of a request that a command left waiting. If its wait is over by then it goes on at once, and
+    /// others by that. Answers what the request came to; `None` if its transaction has a waiter already.
+    pub(crate) fn await_request(&mut self, waiter: Waiter) -> (Option<Came>, SetOff)
+        ensures { Awaits self.old waiter result.0 result.1 self.new }
     {
         self.delivery.law();
-        if self.places.waiter_of(txn).is_some() {
-            return None;
+        if self.places.waiter_of(waiter.txn).is_some() {
+            return (None, SetOff::nothing());
         }
-        if let Some(verdict) = self.delivery.verdict(txn, node, mode) {
-            return Some(Came::Ended(outcome_of(node, verdict)));
-        }
-        let waiter = Waiter {
-            txn,
-            request: Request::Node { node, mode },
-            instant: false,
-            at: node,
-            wanted: mode,
-            until,
+        let Some(verdict) = self.delivery.verdict(waiter.txn, waiter.at, waiter.wanted) else {
+            self.places.put(waiter.txn.slot, Place::Waits(waiter));
+            let Waiter { at, wanted, .. } = waiter;
+            return (Some(Came::Waits { at, wanted }), SetOff::nothing());
         };
-        self.places.put(txn.slot, Place::Waits(waiter));
-        Some(Came::Waits {
-            at: node,
-            wanted: mode,
-        })
+        let (came, off) = self.go_on_at_once(waiter, verdict);
+        (Some(came), off)
+    }
+
+    /// Continues a waiter whose wait is over, and then others.
+    fn go_on_at_once(&mut self, waiter: Waiter, verdict: Result<Grant, Stop>) -> (Came, SetOff)
+        requires became { verdict_of (state_of self.old.manager) self.old.boxes waiter.txn waiter.at waiter.wanted ≡ Some verdict }
+        ensures { GoesOnAtOnce self.old waiter result.0 result.1 self.new }
+    {
+        let before = self.delivery.manager().accepted();
+        self.delivery.law();
+        let (came, ended) = continue_by(&mut self.delivery, waiter, verdict);
+        self.delivery.law();
+        match came {
+            Came::Ended(outcome) => {
+                settle(&mut self.delivery, &mut self.places, ended);
+                (Came::Ended(outcome), went_on_since(&self.delivery, before))
+            }
+            Came::Waits { at, wanted } => {
+                let waits = Came::Waits { at, wanted };
+                self.places.put(waiter.txn.slot, waiter.place(waits));
+                settle(&mut self.delivery, &mut self.places, ended);
+                let came = self.places.answer(waiter.txn.slot, waits);
+                (came, went_on_since(&self.delivery, before))
+            }
+        }
     }
 
     /// Ends the wait of a transaction whose time is over, if it has a waiter: its end is to be taken. Waiters whose wait
@@ -341,11 +329,7 @@ impl WaiterTable {
         'slots: for slot in 0..SLOTS {
             self.expire_at(slot as Slot, now);
         }
-        let after = self.delivery.manager().accepted();
-        SetOff {
-            ended: Slots::empty(),
-            went_on: after != before,
-        }
+        went_on_since(&self.delivery, before)
     }
 
     /// The earliest time at which a wait ends; `None` if none has one.
@@ -357,7 +341,7 @@ impl WaiterTable {
 
     /// Ends the wait of a slot, if its time is over.
     fn expire_at(&mut self, slot: Slot, now: u64)
-        ensures calls { Calls (delivery_in self.old) (delivery_in self.new) }
+        ensures calls { CallsOf (CallInTime now self.old.places) (delivery_in self.old) (delivery_in self.new) }
         ensures low { self.old.manager.accepted ≤ self.new.manager.accepted }
         ensures places { (u : ℕ) → PlaceGoes (EndsInTime now (delivery_in self.old) (delivery_in self.new)) (place_at self.old.places u)
             (place_at self.new.places u) }
@@ -483,6 +467,17 @@ impl WaiterTable {
     }
 }
 
+/// What was set off by no command of the caller's own, since so many commands had been counted.
+fn went_on_since(delivery: &Delivery, before: u64) -> SetOff
+    ensures ended { HasNoSlot result.ended }
+    ensures went_on { result.went_on ≡ not (delivery.now.manager.accepted == before) }
+{
+    SetOff {
+        ended: Slots::empty(),
+        went_on: delivery.manager().accepted() != before,
+    }
+}
+
 /// Whether a request is for an instant: it is said so, and its transaction does not hold the node. No request for a row
 /// is.
 fn is_for_instant(manager: &Manager, txn: TxnId, request: Request, instant: bool) -> bool
@@ -501,33 +496,4 @@ fn is_done(answer: Option<Answer>) -> bool
     ensures { result ≡ is_done answer }
 {
     matches!(answer, Some(Answer::Done))
-}
-
-/// The command of a begin, for new work or for work since an earlier begin.
-fn begin_command(since: Option<u64>) -> Command<'static>
-    ensures { result ≡ begin_of since }
-{
-    match since {
-        Some(since) => Command::BeginAgain { since },
-        None => Command::Begin,
-    }
-}
-
-/// What a begin came to that was answered so.
-fn begun_in(answer: Answer) -> Result<TxnId, Refusal>
-    requires { IsBeginAnswer answer }
-    ensures { begin_said result ≡ answer }
-{
-    match answer {
-        Answer::Begun(txn) => Ok(txn),
-        Answer::Refused(refusal) => Err(refusal),
-        _ => unreachable!(),
-    }
-}
-
-/// Whether a begin was refused since every slot is taken.
-fn is_too_many(came: Result<TxnId, Refusal>) -> bool
-    ensures { result ≡ is_too_many came }
-{
-    matches!(came, Err(Refusal::TooManyTxns))
 }

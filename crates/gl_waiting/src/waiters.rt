@@ -1,17 +1,17 @@
 //! Waiters whose wait is over: how each goes on or ends.
 
 ghost use Rattle.gl_slots.specs.Limit.{most_slots};
-ghost use Rattle.std.specs.Prelude.{◌≡◌, ◌<◌, ◌≤◌, ◌||◌, ◌==◌, ◌⊎◌, ℕ, Bool, Some, true, []};
+ghost use Rattle.std.specs.Prelude.{◌≡◌, ◌<◌, ◌≤◌, ◌||◌, ◌==◌, ◌⊎◌, ℕ, Bool, None, Some, true, []};
 ghost use Rattle.gl_slots.specs.Slots.{HasNoSlot, has_slot};
 ghost use Rattle.gl_catalog.specs.Manager.{state_of};
 ghost use Rattle.gl_steps.specs.Promises.{waits_on};
 ghost use Rattle.gl_wakes.specs.Boxes.{verdict_of};
 ghost use Rattle.gl_wakes.specs.Wakes.{HasEnded};
 ghost use Rattle.gl_waiting.specs.Asking.{LocksAlone, Requests};
-ghost use Rattle.gl_waiting.specs.Ends.{GivesBack, GoesOn, PlaceGoesOn, is_given_back};
-ghost use Rattle.gl_waiting.specs.Going.{Calls, WentOn};
-ghost use Rattle.gl_waiting.specs.Paths.{LocksThrough};
-ghost use Rattle.gl_waiting.specs.Waiters.{Await, AwaitBut, IsWaitingPlace, came_of, stops_above, waits_as};
+ghost use Rattle.gl_waiting.specs.Ends.{CallBy, GivesBack, GoesOn, NoneAwaits, PlaceGoesOn, StaysSo, UnlocksInstant, is_given_back};
+ghost use Rattle.gl_waiting.specs.Going.{CallThat, Calls, CallsOf, WentOn};
+ghost use Rattle.gl_waiting.specs.Paths.{LocksPart, LocksThrough};
+ghost use Rattle.gl_waiting.specs.Waiters.{Await, AwaitBut, IsWaitingPlace, came_of, place_at, place_of, stops_above, waiter_in, waits_as};
 ghost use Rattle.gl_waiting.specs.declared.waiter.Place.TheVariants.{Waits as waits};
 ghost use Rattle.gl_waiting.specs.declared.waiter.Request.TheVariants.{Path as PathRequest};
 
@@ -19,7 +19,7 @@ use crate::delivery::Delivery;
 use crate::places::Places;
 use crate::rows::{lock_again, request_row};
 use crate::set_off::SetOff;
-use crate::waiter::{Came, Next, Outcome, Place, Request, Waiter};
+use crate::waiter::{Came, Next, Outcome, Request, Waiter};
 use gl_catalog::{Command, Manager, Reached};
 use gl_modes::{Mode, NodeId, Refusal};
 use gl_slots::{Slot, Slots};
@@ -36,7 +36,7 @@ pub(crate) fn settle(delivery: &mut Delivery, places: &mut Places, ended: Slots)
     ensures low { delivery.old.manager.accepted ≤ delivery.new.manager.accepted }
     ensures ended { result.ended ≡ ended }
     ensures went_on { WentOn result.went_on delivery.old delivery.new }
-    ensures none { HasNoSlot ended → (delivery.new ≡ delivery.old) × (places.new ≡ places.old) }
+    ensures idle { NoneAwaits ended places.old → StaysSo delivery.old places.old delivery.new places.new }
 {
     if ended.is_empty() {
         return SetOff {
@@ -59,6 +59,7 @@ fn settle_some(delivery: &mut Delivery, places: &mut Places, ended: Slots) -> bo
     ensures goes { GoesOn delivery.old places.old delivery.new places.new }
     ensures low { delivery.old.manager.accepted ≤ delivery.new.manager.accepted }
     ensures went_on { WentOn result delivery.old delivery.new }
+    ensures idle { NoneAwaits ended places.old → StaysSo delivery.old places.old delivery.new places.new }
 {
     let before = delivery.manager().accepted();
     let mut due = ended;
@@ -79,6 +80,7 @@ fn look_at_all(delivery: &mut Delivery, places: &mut Places, due: Slots) -> Slot
     ensures goes { GoesOn delivery.old places.old delivery.new places.new }
     ensures counted { HasNoSlot result ⊎ (delivery.old.manager.accepted < delivery.new.manager.accepted) }
     ensures low { delivery.old.manager.accepted ≤ delivery.new.manager.accepted }
+    ensures idle { NoneAwaits due places.old → StaysSo delivery.old places.old delivery.new places.new × HasNoSlot result }
 {
     let mut left = due;
     let mut next = Slots::empty();
@@ -97,6 +99,7 @@ fn look_at(delivery: &mut Delivery, places: &mut Places, slot: Slot) -> Slots
     ensures goes { GoesOn delivery.old places.old delivery.new places.new }
     ensures counted { HasNoSlot result ⊎ (delivery.old.manager.accepted < delivery.new.manager.accepted) }
     ensures low { delivery.old.manager.accepted ≤ delivery.new.manager.accepted }
+    ensures idle { waiter_in (place_at places.old slot) ≡ None → StaysSo delivery.old places.old delivery.new places.new × HasNoSlot result }
 {
     delivery.law();
     let Some(waiter) = places.waiter(slot) else {
@@ -105,22 +108,22 @@ fn look_at(delivery: &mut Delivery, places: &mut Places, slot: Slot) -> Slots
     let Some(verdict) = delivery.verdict(waiter.txn, waiter.at, waiter.wanted) else {
         return Slots::empty();
     };
-    let (place, ended) = continue_by(delivery, waiter, verdict);
-    places.put(slot, place);
+    let (came, ended) = continue_by(delivery, waiter, verdict);
+    places.put(slot, waiter.place(came));
     ended
 }
 
-/// Continues a waiter whose wait came to this. Answers what belongs to its slot after that, and the slots whose wait that
-/// may have ended.
-fn continue_by(
+/// Continues a waiter whose wait came to this. Answers what its request came to by that, and the slots whose wait that may
+/// have ended.
+pub(crate) fn continue_by(
     delivery: &mut Delivery,
     waiter: Waiter,
     verdict: Result<Grant, Stop>,
-) -> (Place, Slots)
+) -> (Came, Slots)
     requires became { verdict_of (state_of delivery.old.manager) delivery.old.boxes waiter.txn waiter.at waiter.wanted ≡ Some verdict }
-    ensures place { PlaceGoesOn delivery.old delivery.new (waits waiter) result.0 }
-    ensures waits { IsWaitingPlace (state_of delivery.new.manager) waiter.txn result.0 }
-    ensures calls { Calls delivery.old delivery.new }
+    ensures place { PlaceGoesOn delivery.old delivery.new (waits waiter) (place_of waiter result.0) }
+    ensures waits { IsWaitingPlace (state_of delivery.new.manager) waiter.txn (place_of waiter result.0) }
+    ensures calls { CallsOf (CallBy waiter) delivery.old delivery.new }
     ensures ended { HasEnded (state_of delivery.old.manager) (state_of delivery.new.manager) result.1 }
     ensures counted { HasNoSlot result.1 ⊎ (delivery.old.manager.accepted < delivery.new.manager.accepted) }
     ensures low { delivery.old.manager.accepted ≤ delivery.new.manager.accepted }
@@ -134,7 +137,7 @@ fn continue_by(
     match waiter.next(verdict) {
         Next::End(outcome) => {
             let ended = give_back(delivery, instant, txn, request, outcome);
-            (Place::Ended(txn, outcome), ended)
+            (Came::Ended(outcome), ended)
         }
         Next::GoOn { node, mode } => go_on(delivery, waiter, node, mode),
         Next::LockAgain {
@@ -144,18 +147,17 @@ fn continue_by(
             granted,
         } => {
             let (end, ended) = lock_again(delivery, waiter, row, keys, mode, granted);
-            (Place::Ended(txn, end), ended)
+            (Came::Ended(end), ended)
         }
     }
 }
 
-/// Locks the rest of a waiter's path. Answers what belongs to its slot after that, and the slots whose wait it may have
-/// ended.
-fn go_on(delivery: &mut Delivery, waiter: Waiter, node: NodeId, mode: Mode) -> (Place, Slots)
+/// Locks the rest of a waiter's path. Answers what that came to, and the slots whose wait it may have ended.
+fn go_on(delivery: &mut Delivery, waiter: Waiter, node: NodeId, mode: Mode) -> (Came, Slots)
     requires path { waiter.request ≡ PathRequest node mode }
-    ensures place { PlaceGoesOn delivery.old delivery.new (waits waiter) result.0 }
-    ensures waits { IsWaitingPlace (state_of delivery.new.manager) waiter.txn result.0 }
-    ensures calls { Calls delivery.old delivery.new }
+    ensures place { PlaceGoesOn delivery.old delivery.new (waits waiter) (place_of waiter result.0) }
+    ensures waits { IsWaitingPlace (state_of delivery.new.manager) waiter.txn (place_of waiter result.0) }
+    ensures calls { CallsOf (CallBy waiter) delivery.old delivery.new }
     ensures ended { HasEnded (state_of delivery.old.manager) (state_of delivery.new.manager) result.1 }
     ensures counted { HasNoSlot result.1 ⊎ (delivery.old.manager.accepted < delivery.new.manager.accepted) }
     ensures low { delivery.old.manager.accepted ≤ delivery.new.manager.accepted }
@@ -163,7 +165,7 @@ fn go_on(delivery: &mut Delivery, waiter: Waiter, node: NodeId, mode: Mode) -> (
     let (reached, ended) = lock_path_through(delivery, waiter.txn, node, mode);
     let came = came_of(delivery.manager(), waiter.txn, reached);
     let Came::Ended(outcome) = came else {
-        return (waiter.place(came), ended);
+        return (came, ended);
     };
     delivery.law();
     let more = give_back(
@@ -173,7 +175,7 @@ fn go_on(delivery: &mut Delivery, waiter: Waiter, node: NodeId, mode: Mode) -> (
         waiter.request,
         outcome,
     );
-    (Place::Ended(waiter.txn, outcome), ended.union(more))
+    (came, ended.union(more))
 }
 
 /// Releases the lock of a request that was granted for an instant. Answers the slots whose wait that may have ended.
@@ -185,7 +187,7 @@ pub(crate) fn give_back(
     outcome: Outcome,
 ) -> Slots
     ensures gives { GivesBack instant txn request outcome delivery.old delivery.new }
-    ensures calls { Calls delivery.old delivery.new }
+    ensures calls { CallsOf (CallThat (UnlocksInstant instant txn request)) delivery.old delivery.new }
     ensures ended { HasEnded (state_of delivery.old.manager) (state_of delivery.new.manager) result }
     ensures counted { HasNoSlot result ⊎ (delivery.old.manager.accepted < delivery.new.manager.accepted) }
     ensures low { delivery.old.manager.accepted ≤ delivery.new.manager.accepted }
@@ -239,7 +241,7 @@ pub(crate) fn lock_path_through(
     mode: Mode,
 ) -> (Result<Reached, Refusal>, Slots)
     ensures locks { LocksThrough txn (node, mode) delivery.old result.0 delivery.new }
-    ensures calls { Calls delivery.old delivery.new }
+    ensures calls { CallsOf (CallThat (LocksPart txn (node, mode))) delivery.old delivery.new }
     ensures ended { HasEnded (state_of delivery.old.manager) (state_of delivery.new.manager) result.1 }
     ensures counted { HasNoSlot result.1 ⊎ (delivery.old.manager.accepted < delivery.new.manager.accepted) }
     ensures low { delivery.old.manager.accepted ≤ delivery.new.manager.accepted }

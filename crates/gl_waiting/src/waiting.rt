@@ -5,7 +5,7 @@ ghost use Rattle.std.specs.Prelude.{◌≡◌, [], drop, replicate, slice_get};
 ghost use Rattle.std.specs.List.{find, list_any};
 ghost use Rattle.gl_catalog.specs.Manager.{IsLawfulManager, state_of};
 ghost use Rattle.gl_registry.specs.Rows.{name_of};
-ghost use Rattle.gl_waiting.specs.Asking.{Asks, AsksOnce, Awaits, Begins, BeginsInTurn, Expires, InTurn, IsInTurn, KeepsTurns, LocksPath, RollsBackTo, Serves};
+ghost use Rattle.gl_waiting.specs.Asking.{Asks, Awaits, Begins, BeginsInTurn, Expires, InTurn, IsInTurn, KeepsTurns, LocksPath, RollsBackTo, Serves};
 ghost use Rattle.gl_waiting.specs.Asking.{ServesRow, TimesOut, TriesRowThere, TriesThere};
 ghost use Rattle.gl_waiting.specs.Begins.{earliest_of, has_word, is_late, without_first};
 ghost use Rattle.gl_waiting.specs.Waiters.{Await, TakesEnd, earliest_until};
@@ -17,7 +17,7 @@ use crate::begins::{QueuedBegin, Turn};
 use crate::delivery::Delivery;
 use crate::set_off::SetOff;
 use crate::tries::{Keep, RowTried, Tried};
-use crate::waiter::{Came, Outcome, Request};
+use crate::waiter::{Came, Outcome, Request, Waiter};
 use crate::waiter_table::WaiterTable;
 use gl_catalog::{Answer, Command, Manager, Reached};
 use gl_modes::{Mode, NodeId, Refusal};
@@ -205,44 +205,21 @@ impl Waiting {
         (came, self.table.hand_on(own))
     }
 
-    /// Carries out a request as `ask`, but leaves no waiter: if the request still waits after all waiters have gone on, the
-    /// answer says for which node and in which mode, and `await_lock` makes a waiter of its transaction. An instant that
-    /// still waits is awaited as a lock that stays.
-    pub fn request(
-        &mut self,
-        txn: TxnId,
-        request: Request,
-        instant: bool,
-        told: &mut Told,
-    ) -> (Came, SetOff)
-        requires empty { told.old.items ≡ [] }
-        ensures { InTurn self.old (λ off mid. AsksOnce self.old txn request instant result.0 told.new.items off mid) result.1 self.new }
-    {
-        let (came, own) = self.table.request(txn, request, instant, told);
-        (came, self.table.hand_on(own))
-    }
-
     /// Takes the end of a wait, that of the lowest slot; `None` if there is none.
     pub fn take_end(&mut self) -> Option<(TxnId, Outcome)>
         ensures ends { TakesEnd self.old.places result self.new.places }
-        ensures kept { delivery_in self.new ≡ delivery_in self.old }
-        ensures turns { KeepsTurns self.old self.new }
+        ensures rest { self.new ≡ record self.old { places = self.new.places } }
     {
         self.table.take_end()
     }
 
-    /// Makes a waiter of a transaction that a command left waiting for a node, in this mode, with at most this time to
-    /// wait. Answers what became of the wait if it is over; `None` if the transaction has a waiter already.
-    pub fn await_lock(
-        &mut self,
-        txn: TxnId,
-        node: NodeId,
-        mode: Mode,
-        until: Option<u64>,
-    ) -> Option<Came>
-        ensures { Awaits self.old txn node mode until result self.new }
+    /// Registers the waiter of a request that a command left waiting. If its wait is over by then it goes on at once, and
+    /// others by that. Answers what the request came to; `None` if its transaction has a waiter already.
+    pub fn await_request(&mut self, waiter: Waiter) -> (Option<Came>, SetOff)
+        ensures { InTurn self.old (λ off mid. Awaits self.old waiter result.0 off mid) result.1 self.new }
     {
-        self.table.await_lock(txn, node, mode, until)
+        let (came, own) = self.table.await_request(waiter);
+        (came, self.table.hand_on(own))
     }
 
     /// Ends the wait of a transaction whose time is over, if it has a waiter: its end is to be taken. Waiters whose wait

@@ -23,7 +23,7 @@ use Rattle.gl_waiting.specs.declared.begins.Turn.TheVariants as turn
 use Rattle.gl_waiting.specs.declared.set_off.SetOff.{SetOff}
 use Rattle.gl_waiting.proofs.Beginning.{begin_made}
 use Rattle.gl_waiting.proofs.Runs.{run_same}
-use Rattle.gl_waiting.proofs.TurnRuns.{TurnRun, serves_run}
+use Rattle.gl_waiting.proofs.TurnRuns.{TurnRun, begin_run}
 use Rattle.gl_window.specs.Strip.{Strip}
 use Rattle.gl_window.specs.Tellings.{still_known}
 use Rattle.gl_c.specs.locks.Turns.{turn_said}
@@ -34,10 +34,6 @@ use Rattle.gl_c.proofs.serving.Known.{command_known}
 -- nothing changes but the queue
 same_state : (v v' : WaitingView) → state_of v'.manager ≡ state_of v.manager → TurnRun v v'
 same_state v v' same = run_same (state_of v.manager) (state_of v'.manager) same
-
-begin_run : (v : WaitingView) (since : Option ℕ) (result : Result TxnId Refusal) (off : SetOff) (v' : WaitingView) → Begins v since result off v' → TurnRun v v'
-begin_run v since (Ok t) off v' (told, h) = serves_run v (begin_of since) (Some (answer.Begun t)) told off v' h
-begin_run v since (Err r) off v' h = same_state v v' (ap (λ (x : WaitingView). state_of x.manager) h.2)
 
 pub turn_is_run : (v : WaitingView) (b : QueuedBegin) (came : Turn) (off : SetOff) (v' : WaitingView) → BeginsInTurn v b came off v' → TurnRun v v'
 turn_is_run v b (turn.Came result) off v' h = begin_run v b.since result off v' h.2

@@ -1,5 +1,5 @@
 -- Begins in turn.
-use Rattle.std.specs.Prelude.{◌≡◌, ◌==◌, ℕ, Bool, true, false, Option, Some, None, Result, Ok, Err, drop, if◌then◌else◌, slice_get}
+use Rattle.std.specs.Prelude.{◌≡◌, ℕ, Bool, true, false, Option, Some, None, Result, Ok, Err, drop, slice_get}
 use Rattle.std.specs.List.{find, list_any}
 use Rattle.gl_modes.specs.declared.refusal.Refusal.TheVariants as no
 use Rattle.gl_steps.specs.declared.command.Answer.{Answer}
@@ -12,20 +12,12 @@ use Rattle.gl_waiting.specs.declared.begins.Turn.TheVariants as turn
 use Rattle.gl_c.specs.declared.answers.reply.Reply.{Reply}
 use Rattle.gl_c.specs.managers.Carries.{CallOf, Declines, spared_by}
 use Rattle.gl_c.specs.managers.Guarded.{GuardedView}
-use Rattle.gl_c.specs.Numbers.{done, no_manager, no_place, waiting}
+use Rattle.gl_c.specs.Numbers.{done, given_at, no_manager, no_place, waiting}
 use Rattle.gl_c.specs.answers.Replies.{count_reply, refused_reply, reply_of, status_reply}
-
--- the greatest number of 64 bits
-abbrev pub greatest : ℕ
-greatest = 18446744073709551615
-
--- since when the work of a begin was tried; the greatest number says that it is new
-abbrev pub since_at : ℕ → Option ℕ
-since_at n = if n == greatest then None else Some n
 
 -- a begin as C names it
 abbrev pub begin_at : ℕ → ℕ → ℕ → QueuedBegin
-begin_at since word until = record { word = word; since = since_at since; until = Some until }
+begin_at since word until = record { word = word; since = given_at since; until = Some until }
 
 -- what the command of a begin was answered, if it was carried out
 abbrev pub turn_said : Turn → Option Answer

@@ -9,18 +9,19 @@ ghost use Rattle.gl_c.specs.locks.Savepoints.{back_reply};
 ghost use Rattle.gl_c.specs.locks.Tries.{tried_reply, tried_row_reply};
 ghost use Rattle.gl_c.specs.locks.Turns.{begun_reply, found_reply, turn_reply, word_reply};
 ghost use Rattle.gl_c.specs.locks.Verdicts.{verdict_reply};
+ghost use Rattle.gl_c.specs.locks.Waiters.{awaited_reply, end_reply, outcome_reply, time_reply};
 ghost use Rattle.gl_waiting.specs.Asking.{begin_said};
 
 use crate::names::{Node, Txn};
 use crate::numbers::{
-    DONE, GONE, MOVED, NO_PLACE, NOT_ROWS, ON_THE_WAY, OTHER_KEYS, ROWS_BY_NUMBER, VICTIM, WAITING,
-    effect_number, mode_number,
+    DONE, GONE, IN_USE, MOVED, NO_PLACE, NOT_ROWS, ON_THE_WAY, OTHER_KEYS, ROWS_BY_NUMBER,
+    TIMED_OUT, VICTIM, WAITING, effect_number, mode_number,
 };
 use gl_catalog::{Answer, Reached};
 use gl_modes::{Mode, NodeId, Refusal};
 use gl_registry::RowAnswer;
 use gl_table::{Locked, TxnId};
-use gl_waiting::{QueuedBegin, RowTried, Tried, Turn};
+use gl_waiting::{Came, Outcome, QueuedBegin, RowTried, Tried, Turn};
 use gl_wakes::{Grant, Stop};
 
 /// The answer of a call: a status, what the call answers, and zero in all other fields.
@@ -245,6 +246,64 @@ impl Reply {
                 count: begin.word,
                 ..Reply::of_begin(came)
             },
+            None => Reply::with_status(NO_PLACE),
+        }
+    }
+
+    /// The reply for the end of a wait; if it was not granted, with the node for which it waited.
+    fn of_outcome(outcome: Outcome) -> Reply
+        ensures { result ≡ outcome_reply outcome }
+    {
+        match outcome {
+            Outcome::Granted(mode) => Reply::with_mode(mode),
+            Outcome::RowGranted { node, mode } => {
+                Reply::of_row_lock(Locked::Granted(mode), true).at(node)
+            }
+            Outcome::OtherKeys { node, mode } => {
+                Reply::of_row_lock(Locked::Granted(mode), false).at(node)
+            }
+            Outcome::NotRows => Reply::with_status(NOT_ROWS),
+            Outcome::Victim(node) => Reply::about(VICTIM, node),
+            Outcome::Moved(node) => Reply::about(MOVED, node),
+            Outcome::Gone(node) => Reply::about(GONE, node),
+            Outcome::Refused(refusal) => Reply::refused(refusal),
+            Outcome::TimedOut(node) => Reply::about(TIMED_OUT, node),
+        }
+    }
+
+    /// The reply for a request whose waiter was to be registered.
+    pub(crate) fn of_awaited(came: Option<Came>) -> Reply
+        ensures { result ≡ awaited_reply came }
+    {
+        match came {
+            Some(Came::Ended(outcome)) => Reply::of_outcome(outcome),
+            Some(Came::Waits { at, wanted }) => Reply {
+                mode: mode_number(wanted),
+                ..Reply::about(WAITING, at)
+            },
+            None => Reply::with_status(IN_USE),
+        }
+    }
+
+    /// The reply for the end of a wait, with its transaction.
+    pub(crate) fn of_end(end: Option<(TxnId, Outcome)>) -> Reply
+        ensures { result ≡ end_reply end }
+    {
+        match end {
+            Some((txn, outcome)) => Reply {
+                txn: Txn::of(txn),
+                ..Reply::of_outcome(outcome)
+            },
+            None => Reply::with_status(NO_PLACE),
+        }
+    }
+
+    /// The reply with the earliest time at which a wait ends.
+    pub(crate) fn of_time(time: Option<u64>) -> Reply
+        ensures { result ≡ time_reply time }
+    {
+        match time {
+            Some(time) => Reply::with_count(time),
             None => Reply::with_status(NO_PLACE),
         }
     }

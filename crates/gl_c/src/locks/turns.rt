@@ -7,7 +7,7 @@ ghost use Rattle.gl_c.specs.managers.Handle.{guarded_in};
 
 use crate::answers::reply::Reply;
 use crate::managers::handle::Handle;
-use crate::numbers::since_at;
+use crate::numbers::given_at;
 use gl_waiting::QueuedBegin;
 
 /// Begins a transaction if nobody waits for a slot and one is free; otherwise the begin waits for one,
@@ -25,7 +25,7 @@ pub extern "C" fn bs_call_begin_in_turn(
 {
     manager.begin_in_turn(QueuedBegin {
         word,
-        since: since_at(since),
+        since: given_at(since),
         until: Some(until),
     })
 }

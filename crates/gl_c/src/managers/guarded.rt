@@ -32,6 +32,7 @@ use std::marker::Model;
 
 mod tries;
 mod turns;
+mod waiters;
 
 /// The table of waiters, the slots whose wait the last counted call may have ended, and what watchers
 /// were shown, if there ever was one.

@@ -17,6 +17,7 @@ ghost use Rattle.gl_c.specs.locks.Rows.{named_reply, row_call};
 ghost use Rattle.gl_c.specs.locks.Tries.{tried_path_call, tried_row_call};
 ghost use Rattle.gl_c.specs.locks.Turns.{begun_reply, found_reply, turn_call, word_reply};
 ghost use Rattle.gl_c.specs.locks.Verdicts.{verdict_reply};
+ghost use Rattle.gl_c.specs.locks.Waiters.{TakesAnEnd, await_call, expire_call, late_call};
 ghost use Rattle.gl_waiting.specs.Begins.{has_word, is_late, without_first};
 ghost use Rattle.std.specs.List.{find, list_any};
 ghost use Rattle.gl_c.specs.watchers.Watching.{OnlyShows};
@@ -26,13 +27,14 @@ ghost use Rattle.gl_c.specs.managers.Session.{IsIdle, guarded_of};
 use crate::answers::notices::Notices;
 use crate::answers::reply::Reply;
 use crate::managers::guarded::Guarded;
+use crate::numbers::DONE;
 use crate::questions::look::{Query, look};
 use gl_catalog::{Command, Manager};
 use gl_modes::{Mode, NodeId, Refusal};
 use gl_registry::{Row, RowCall};
 use gl_slots::Slots;
 use gl_table::{Detect, Told, TxnId};
-use gl_waiting::{Keep, QueuedBegin};
+use gl_waiting::{Keep, QueuedBegin, Waiter};
 use gl_waits::Victims;
 use gl_window::{WatchFault, Watcher};
 use std::alloc::Global;
@@ -190,6 +192,35 @@ impl Session {
         ensures { Answers self.old (turn_call begin) result self.new }
     {
         Reply::of_turn(self.guarded.begin_in_turn(begin))
+    }
+
+    /// Registers the waiter of a request that a call left waiting.
+    pub(crate) fn await_request(&mut self, waiter: Waiter) -> Reply
+        ensures { Answers self.old (await_call waiter) result self.new }
+    {
+        Reply::of_awaited(self.guarded.await_request(waiter))
+    }
+
+    /// Ends the wait of a transaction whose time is over.
+    pub(crate) fn time_out(&mut self, txn: TxnId) -> Reply
+        ensures { Answers self.old (late_call txn) result self.new }
+    {
+        self.guarded.time_out(txn);
+        Reply::with_status(DONE)
+    }
+
+    /// Ends each wait whose time is over by now.
+    pub(crate) fn expire(&mut self, now: u64) -> Reply
+        ensures { Answers self.old (expire_call now) result self.new }
+    {
+        Reply::of_time(self.guarded.expire(now))
+    }
+
+    /// Takes the end of a wait.
+    pub(crate) fn take_end(&mut self) -> Reply
+        ensures { TakesAnEnd (Some self.old) result (Some self.new) }
+    {
+        Reply::of_end(self.guarded.take_end())
     }
 
     /// Takes the first of the begins that were handed on.

@@ -3,16 +3,15 @@
 ghost use Rattle.std.specs.Prelude.{◌≡◌, [], drop, slice_get};
 ghost use Rattle.std.specs.List.{find, list_any};
 ghost use Rattle.gl_waiting.specs.Begins.{has_word, is_late, without_first};
-ghost use Rattle.gl_waiting.specs.Asking.{begin_of};
 ghost use Rattle.gl_c.specs.locks.Turns.{turn_call, turn_said};
 ghost use Rattle.gl_c.specs.managers.Carries.{Performs};
 
 use super::Guarded;
 use crate::managers::showing::keep;
-use gl_catalog::{Answer, Command};
+use gl_catalog::Answer;
 use gl_modes::Refusal;
 use gl_table::TxnId;
-use gl_waiting::{QueuedBegin, Turn};
+use gl_waiting::{QueuedBegin, Turn, begin_command};
 
 impl Guarded {
     /// Begins a transaction if nobody waits for a slot and one is free; otherwise the begin waits for
@@ -56,16 +55,6 @@ impl Guarded {
         ensures rest { self.new ≡ record self.old { queue = without_first (is_late now) self.old.queue } }
     {
         self.waiting.take_late_begin(now)
-    }
-}
-
-/// The command of a begin, for new work or for work since an earlier begin.
-fn begin_command(since: Option<u64>) -> Command<'static>
-    ensures { result ≡ begin_of since }
-{
-    match since {
-        Some(since) => Command::BeginAgain { since },
-        None => Command::Begin,
     }
 }
 

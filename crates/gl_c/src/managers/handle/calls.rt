@@ -23,6 +23,7 @@ ghost use Rattle.gl_c.specs.locks.Rows.{FindsRow, row_call};
 ghost use Rattle.gl_c.specs.locks.Tries.{tried_path_call, tried_row_call};
 ghost use Rattle.gl_c.specs.locks.Turns.{TakesBegun, TakesLate, Withdraws, turn_call};
 ghost use Rattle.gl_c.specs.locks.Verdicts.{Judges};
+ghost use Rattle.gl_c.specs.locks.Waiters.{TakesAnEnd, await_call, expire_call, late_call};
 ghost use Rattle.gl_c.specs.watchers.Watching.{Attends};
 
 use super::Handle;
@@ -41,7 +42,7 @@ use gl_catalog::Command;
 use gl_modes::{Mode, NodeId};
 use gl_registry::{Row, RowCall};
 use gl_table::TxnId;
-use gl_waiting::{Keep, QueuedBegin};
+use gl_waiting::{Keep, QueuedBegin, Waiter};
 use gl_window::{WatchFault, Watcher};
 use std::alloc::Global;
 use std::mem::replace;
@@ -252,6 +253,58 @@ impl Handle {
             return Reply::with_status(NO_MANAGER);
         };
         let reply = session.begin_in_turn(begin);
+        *self = Handle::of(alloc, session);
+        reply
+    }
+
+    /// Registers the waiter of a request that a call left waiting.
+    pub(crate) fn await_request(&mut self, waiter: Waiter) -> Reply
+        ensures { Asks (guarded_in self.old) (await_call waiter) result (guarded_in self.new) }
+    {
+        let alloc = self.alloc;
+        let Some(mut session) = self.take() else {
+            return Reply::with_status(NO_MANAGER);
+        };
+        let reply = session.await_request(waiter);
+        *self = Handle::of(alloc, session);
+        reply
+    }
+
+    /// Ends the wait of a transaction whose time is over.
+    pub(crate) fn time_out(&mut self, txn: TxnId) -> Reply
+        ensures { Asks (guarded_in self.old) (late_call txn) result (guarded_in self.new) }
+    {
+        let alloc = self.alloc;
+        let Some(mut session) = self.take() else {
+            return Reply::with_status(NO_MANAGER);
+        };
+        let reply = session.time_out(txn);
+        *self = Handle::of(alloc, session);
+        reply
+    }
+
+    /// Ends each wait whose time is over by now.
+    pub(crate) fn expire(&mut self, now: u64) -> Reply
+        ensures { Asks (guarded_in self.old) (expire_call now) result (guarded_in self.new) }
+    {
+        let alloc = self.alloc;
+        let Some(mut session) = self.take() else {
+            return Reply::with_status(NO_MANAGER);
+        };
+        let reply = session.expire(now);
+        *self = Handle::of(alloc, session);
+        reply
+    }
+
+    /// Takes the end of a wait.
+    pub(crate) fn take_end(&mut self) -> Reply
+        ensures { TakesAnEnd (guarded_in self.old) result (guarded_in self.new) }
+    {
+        let alloc = self.alloc;
+        let Some(mut session) = self.take() else {
+            return Reply::with_status(NO_MANAGER);
+        };
+        let reply = session.take_end();
         *self = Handle::of(alloc, session);
         reply
     }

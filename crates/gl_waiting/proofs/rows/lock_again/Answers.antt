@@ -1,6 +1,9 @@
+use Rattle.std.proofs.Common.{inl, subst, sym}
+use Rattle.gl_waiting.specs.Ends.{CallBy, LocksOn}
+use Rattle.gl_waiting.specs.declared.waiter.Request.{Request}
 use Rattle.gl_waiting.proofs.Awaiting.{carries_counted, carries_ended, carries_low}
 use Rattle.gl_waiting.proofs.GoingOn.{still_itself}
-use Rattle.gl_waiting.proofs.Runs.{calls_none, calls_one}
+use Rattle.gl_waiting.proofs.Runs.{call_made, calls_none, of_one}
 use Rattle.gl_waiting.proofs.rows.lock_again.Goals as goal
 
 pub returns-clause-ends : goal.returns-clause-ends
@@ -29,8 +32,20 @@ returns-clause-ends c =
 
 pub returns-clause-calls : goal.returns-clause-calls
 returns-clause-calls c =
-    calls_one c.args.delivery.now c.lock_row-locked.new.self _ c.lock_row-locked.new.told.items c.lock_row-locked.result.1 c.lock_row-locked.ensures.carries
-    c.lock_row-locked.ensures.run
+    let told = c.lock_row-locked.new.told.items in
+    let d' = c.lock_row-locked.new.self in
+    of_one (CallBy c.args.waiter) c.args.delivery.now d' (
+      call_made c.args.delivery.now d' _ told c.lock_row-locked.result.1 c.lock_row-locked.ensures.carries c.lock_row-locked.ensures.run,
+      inl (subst (λ (x : Request). LocksOn c.args.waiter.txn x told c.args.delivery.now d') (sym c.requires.asked) (
+        c.lock_row-locked.result.0,
+        record {
+          lent = c.as_slice.result;
+          same = c.as_slice.ensures;
+          ended = c.lock_row-locked.result.1;
+          locks = record { locks = c.lock_row-locked.ensures.locks; carries = c.lock_row-locked.ensures.carries };
+        },
+      )),
+    )
 
 pub returns-clause-ended : goal.returns-clause-ended
 returns-clause-ended c =

@@ -1,5 +1,6 @@
 use Rattle.std.proofs.Common.{inr, refl, sym}
 use Rattle.gl_waiting.proofs.GoingOn.{again_row, ends_by_row, ends_by_verdict, ends_now, goes_on_path, granted_in}
+use Rattle.gl_waiting.proofs.OwnCalls.{that_calls, unlocks_own}
 use Rattle.gl_waiting.proofs.waiters.continue_by.Goals as goal
 
 pub returns-in-End-clause-place : goal.returns-in-End-clause-place
@@ -11,6 +12,9 @@ returns-in-End-clause-place c =
           (ends_by_verdict c.args.delivery.now c.args.waiter c.args.verdict c.in-End.outcome (sym c.requires.became) c.in-End.ensures)
           c.give_back-ended.ensures.gives,
     )
+
+pub returns-in-End-clause-calls : goal.returns-in-End-clause-calls
+returns-in-End-clause-calls c = unlocks_own c.args.waiter c.args.delivery.now c.give_back-ended.new.delivery c.give_back-ended.ensures.calls
 
 pub go_on-requires : goal.go_on-requires
 go_on-requires c = record { path = goes_on_path c.args.waiter c.args.verdict c.in-GoOn.node c.in-GoOn.mode c.in-GoOn.ensures }
@@ -30,5 +34,6 @@ returns-in-LockAgain-clause-place c =
     inr (
       c.lock_again-end.result.0,
       refl,
-      ends_by_row c.args.delivery.now c.lock_again-end.new.delivery c.args.waiter c.lock_again-end.result.0 again.calls again.ends,
+      ends_by_row c.args.delivery.now c.lock_again-end.new.delivery c.args.waiter c.lock_again-end.result.0
+          (that_calls c.args.delivery.now c.lock_again-end.new.delivery _ again.calls) again.ends,
     )

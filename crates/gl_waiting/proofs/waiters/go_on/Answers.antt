@@ -1,9 +1,19 @@
-use Rattle.std.proofs.Common.{ap, inr, refl, sym, ◌∙◌}
+use Rattle.std.proofs.Common.{◌≡◌, ap, inl, inr, refl, subst, sym, ◌∙◌}
 use Rattle.gl_catalog.specs.Manager.{ManagerView, state_of}
+use Rattle.gl_modes.specs.declared.mode.Mode.{Mode}
+use Rattle.gl_modes.specs.declared.node.NodeId.{NodeId}
+use Rattle.gl_waiting.specs.Delivering.{DeliveryView}
+use Rattle.gl_waiting.specs.Ends.{CallBy, LocksOn}
+use Rattle.gl_waiting.specs.Going.{CallThat, CallsOf}
+use Rattle.gl_waiting.specs.Paths.{LocksPart}
 use Rattle.gl_waiting.specs.Waiters.{came_of}
+use Rattle.gl_waiting.specs.declared.waiter.Request.{Request}
+use Rattle.gl_waiting.specs.declared.waiter.Request.TheVariants as request
+use Rattle.gl_waiting.specs.declared.waiter.Waiter.{Waiter}
 use Rattle.gl_waiting.proofs.Awaiting.{counted_then, ended_then}
 use Rattle.gl_waiting.proofs.GoingOn.{ends_after, ends_by_path}
-use Rattle.gl_waiting.proofs.Runs.{calls_then}
+use Rattle.gl_waiting.proofs.OwnCalls.{that_calls, unlocks_own}
+use Rattle.gl_waiting.proofs.Runs.{of_as, of_then}
 use Rattle.gl_waiting.proofs.waiters.go_on.Goals as goal
 
 pub returns-clause-place : goal.returns-clause-place
@@ -12,7 +22,8 @@ returns-clause-place c =
     inr (
       c.in-Ended.outcome,
       refl,
-      ends_after c.args.delivery.now mid c.give_back-more.new.delivery c.lock_path_through-reached.ensures.calls c.args.waiter
+      ends_after c.args.delivery.now mid c.give_back-more.new.delivery
+          (that_calls c.args.delivery.now mid _ c.lock_path_through-reached.ensures.calls) c.args.waiter
           c.in-Ended.outcome
           (ends_by_path c.args.delivery.now mid c.args.waiter c.args.node c.args.mode c.lock_path_through-reached.result.0 c.in-Ended.outcome c.requires.path
           c.lock_path_through-reached.ensures.locks
@@ -20,10 +31,24 @@ returns-clause-place c =
           ∙ sym c.in-Ended.ensures)) c.give_back-more.ensures.gives,
     )
 
+-- the parts of its path, as its own calls
+parts : (w : Waiter) (node : NodeId) (mode : Mode) (d d' : DeliveryView) → w.request ≡ request.Path node mode
+    → CallsOf (CallThat (LocksPart w.txn (node, mode))) d d' → CallsOf (CallBy w) d d'
+parts w node mode d d' asked =
+    of_as (CallThat (LocksPart w.txn (node, mode))) (CallBy w)
+    (λ a b h. (h.0, inl (subst (λ (x : Request). LocksOn w.txn x h.0.told a b) (sym asked) h.1))) d d'
+
+pub returns-in_default-clause-calls : goal.returns-in_default-clause-calls
+returns-in_default-clause-calls c =
+    parts c.args.waiter c.args.node c.args.mode c.args.delivery.now c.lock_path_through-reached.new.delivery c.requires.path
+    c.lock_path_through-reached.ensures.calls
+
 pub returns-clause-calls : goal.returns-clause-calls
 returns-clause-calls c =
-    calls_then c.args.delivery.now c.lock_path_through-reached.new.delivery c.give_back-more.new.delivery c.lock_path_through-reached.ensures.calls
-    c.give_back-more.ensures.calls
+    of_then (CallBy c.args.waiter) c.args.delivery.now c.lock_path_through-reached.new.delivery c.give_back-more.new.delivery
+    (parts c.args.waiter c.args.node c.args.mode c.args.delivery.now c.lock_path_through-reached.new.delivery c.requires.path
+    c.lock_path_through-reached.ensures.calls)
+    (unlocks_own c.args.waiter c.lock_path_through-reached.new.delivery c.give_back-more.new.delivery c.give_back-more.ensures.calls)
 
 pub returns-clause-ended : goal.returns-clause-ended
 returns-clause-ended c =

@@ -3,12 +3,15 @@ use Rattle.gl_catalog.specs.Manager.{ManagerView, state_of}
 use Rattle.gl_wakes.proofs.Waking.{ended_none}
 use Rattle.gl_waiting.proofs.Awaiting.{carries_counted, carries_ended, carries_low, counted_then, ended_then, locks_calls, stops_counted}
 use Rattle.gl_waiting.specs.Delivering.{registry_in}
-use Rattle.gl_waiting.proofs.Runs.{calls_none, calls_then}
+use Rattle.gl_waiting.specs.Going.{CallThat}
+use Rattle.gl_waiting.specs.Paths.{LocksPart}
+use Rattle.gl_waiting.proofs.Runs.{of_none, of_then}
 use Rattle.gl_waiting.proofs.waiters.lock_path_through.Goals as goal
 
 pub returns-then-not-stops_above-clause-calls : goal.returns-then-not-stops_above-clause-calls
 returns-then-not-stops_above-clause-calls c =
-    calls_then c.args.delivery.now c.path.delivery c.lock_path-reached.new.self c.path.invariant.calls
+    of_then (CallThat (LocksPart c.args.txn (c.args.node, c.args.mode))) c.args.delivery.now c.path.delivery
+    c.lock_path-reached.new.self c.path.invariant.calls
     (locks_calls c.args.txn c.args.node c.args.mode c.path.delivery c.lock_path-reached.new.self c.lock_path-reached.new.told.items _ _ _
     c.lock_path-reached.ensures.carries c.lock_path-reached.ensures.path)
 
@@ -55,7 +58,8 @@ path-preserved c =
         );
         through = rest.through;
       });
-      calls = calls_then c.args.delivery.now c.path.delivery c.lock_path-reached.new.self c.path.invariant.calls
+      calls = of_then (CallThat (LocksPart c.args.txn (c.args.node, c.args.mode))) c.args.delivery.now c.path.delivery
+          c.lock_path-reached.new.self c.path.invariant.calls
           (locks_calls c.args.txn c.args.node c.args.mode c.path.delivery c.lock_path-reached.new.self c.lock_path-reached.new.told.items _ _ _
           c.lock_path-reached.ensures.carries c.lock_path-reached.ensures.path);
       ended = ended_then (state_of c.args.delivery.now.manager) (state_of c.path.delivery.manager)
@@ -71,7 +75,7 @@ path-init c =
     record {
       empty = c.new-told.ensures;
       locks = λ result d rest. rest;
-      calls = calls_none c.args.delivery.now;
+      calls = of_none (CallThat (LocksPart c.args.txn (c.args.node, c.args.mode))) c.args.delivery.now;
       ended = ended_none (state_of c.args.delivery.now.manager) c.empty-ended.result;
       counted = inl c.empty-ended.ensures.none;
       low = omega arith;

@@ -47,6 +47,6 @@ returns-clause-awaits c =
 pub returns-clause-goes : goal.returns-clause-goes
 returns-clause-goes c =
     subst (λ (ps : List Place). GoesOn c.args.delivery.now c.args.places.now c.continue_by-place.new.delivery ps) (sym c.put.ensures.put)
-    (goes_on_put c.args.delivery.now c.continue_by-place.new.delivery c.continue_by-place.ensures.calls c.args.places.now c.args.slot c.in-Some.waiter
-    c.continue_by-place.result.0 (long c.args.places.now c.args.slot c.put.ensures.slots c.requires.within)
+    (goes_on_put c.args.delivery.now c.continue_by-place.new.delivery c.args.places.now c.args.slot c.in-Some.waiter
+    c.continue_by-place.result.0 c.continue_by-place.ensures.calls (long c.args.places.now c.args.slot c.put.ensures.slots c.requires.within)
     (waiter_there _ c.in-Some.waiter c.in-Some.ensures) c.continue_by-place.ensures.place)

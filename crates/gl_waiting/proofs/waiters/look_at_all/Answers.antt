@@ -1,8 +1,9 @@
-use Rattle.std.proofs.Common.{◌||◌, ℕ, Bool, arith, inl}
+use Rattle.std.proofs.Common.{◌||◌, ℕ, Bool, arith, inl, refl}
 use Rattle.gl_slots.specs.Slots.{has_slot}
 use Rattle.gl_catalog.specs.Manager.{state_of}
 use Rattle.gl_waiting.proofs.Awaiting.{await_more, counted_then, first_false, less_taken, more_joined}
 use Rattle.gl_waiting.proofs.GoingOn.{goes_on_same, goes_on_then}
+use Rattle.gl_waiting.proofs.Idle.{idle_then}
 use Rattle.gl_waiting.proofs.waiters.look_at_all.Goals as goal
 
 pub left-preserved : goal.left-preserved
@@ -24,6 +25,9 @@ left-preserved c =
           one.goes;
       counted = counted_then c.left.next ended c.union-next.result _ c.left.delivery.manager.accepted _ c.union-next.ensures before low was.counted one.counted;
       low = omega (arith, low, before);
+      idle = λ h. idle_then c.args.delivery.now c.left.delivery c.look_at-ended.new.delivery c.args.places.now c.left.places c.look_at-ended.new.places
+          c.left.left now c.left.next ended c.union-next.result c.in-Some.slot left c.in-Some.ensures.some.member c.union-next.ensures (was.idle h)
+          one.idle;
     }
 
 pub left-init : goal.left-init
@@ -34,4 +38,5 @@ left-init c =
       goes = goes_on_same c.args.delivery.now c.args.places.now;
       counted = inl c.empty-next.ensures.none;
       low = omega arith;
+      idle = λ h. ((refl, refl), h, c.empty-next.ensures.none);
     }

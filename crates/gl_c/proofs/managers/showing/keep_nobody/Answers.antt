@@ -1,10 +1,10 @@
 use Rattle.std.proofs.Common.{rules, ◌≡◌, ◌∙◌, ap, refl, sym}
 use Rattle.std.specs.Bool.{then_some}
-use Rattle.std.specs.Prelude.{◌↔◌, Bool, true, false, IsTrue, MatchOption, Option, Some, None, if◌then◌else◌}
-use Rattle.gl_slots.proofs.SlotLemmas.{none-test, test-none}
-use Rattle.gl_slots.specs.Slots.{HasNoSlot, has_none}
+use Rattle.std.specs.Prelude.{Bool, true, false, MatchOption, Option, Some, None, if◌then◌else◌}
+use Rattle.gl_slots.specs.Slots.{has_none}
 use Rattle.gl_slots.specs.declared.slots.Slots.{Slots}
 use Rattle.gl_window.specs.Tellings.{still_known}
+use Rattle.gl_window.proofs.Emptiness.{tests_none}
 use Rattle.gl_c.specs.declared.managers.showing.Showing.{Showing}
 use Rattle.gl_c.specs.managers.Serving.{known_after}
 use Rattle.gl_c.specs.managers.Showing.{parties_in}
@@ -21,15 +21,6 @@ filtered tests (Some x) after leaves is same =
     some_if : (b : Bool) → then_some b x ≡ (if b then Some x else None)
     some_if true = refl
     some_if false = refl
-
--- the test whether there are none
-tests_none : (set : Slots) (b : Bool) → IsTrue b ↔ HasNoSlot set → b ≡ has_none set
-tests_none set true is = sym (none-test set (is.0 refl))
-tests_none set false is = by (has_none set) refl
-  where
-    by : (d : Bool) → has_none set ≡ d → false ≡ d
-    by true e = is.1 (test-none set e)
-    by false e = refl
 
 pub returns-clause-parties : goal.returns-clause-parties
 returns-clause-parties c =

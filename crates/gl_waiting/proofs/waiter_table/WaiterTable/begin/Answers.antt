@@ -8,10 +8,12 @@ use Rattle.gl_registry.specs.Serving.{Applies}
 use Rattle.gl_waiting.specs.Asking.{Begins, Serves, begin_of, begin_said}
 use Rattle.gl_steps.specs.declared.command.Command.{Command}
 use Rattle.gl_waiting.specs.Delivering.{Carries, DeliveryView, registry_in}
+use Rattle.gl_waiting.specs.Ends.{NoneAwaits}
 use Rattle.gl_waiting.specs.Waiters.{Await}
 use Rattle.gl_waiting.specs.Waiting.{WaitingView}
 use Rattle.gl_waiting.proofs.Counting.{carries_or_not, nothing_counted}
 use Rattle.gl_waiting.proofs.Awaiting.{await_on, carries_ended, waiting_with}
+use Rattle.gl_waiting.proofs.Idle.{none_awaits}
 use Rattle.gl_waiting.proofs.Beginning.{begin_answered, command_made, refused_same, refused_step, served_so}
 use Rattle.gl_waiting.proofs.waiter_table.WaiterTable.begin.Goals as goal
 
@@ -49,11 +51,13 @@ returns-in-Ok c =
                 c.begin_command.ensures served.carries);
             run = served.run;
             goes = c.settle.ensures.goes;
+            idle = λ h. c.settle.ensures.idle (subst (λ (ended : Slots). NoneAwaits ended c.self.inside.places) c.settle.ensures.ended h);
             went_on = c.settle.ensures.went_on;
             turns = (refl, refl);
             nothing = nothing_counted c.self.inside.delivery c.serve-answer.new.self c.settle.new.delivery c.serve-answer.result.1 c.self.inside.places
                 c.settle.new.places c.self.inside.begins (carries_or_not c.self.inside.delivery c.serve-answer.new.self c.begin_command.result
-                c.serve-answer.new.told.items c.serve-answer.result.1 served.carries) c.settle.ensures.low c.settle.ensures.none;
+                c.serve-answer.new.told.items c.serve-answer.result.1 served.carries) c.settle.ensures.low
+                (λ none. c.settle.ensures.idle (none_awaits _ _ none));
           }),
     )
 

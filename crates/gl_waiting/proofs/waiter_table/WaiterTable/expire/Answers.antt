@@ -1,19 +1,20 @@
 use Rattle.std.proofs.Common.{◌≡◌, ◌==◌, ◌∙◌, ◌<◌, ℕ, ap, arith, not, refl, subst}
 use Rattle.gl_catalog.specs.Manager.{ManagerView, state_of}
 use Rattle.gl_graph.specs.Refusals.{max_count}
-use Rattle.gl_waiting.specs.Ends.{EndsInTime}
+use Rattle.gl_waiting.specs.Ends.{CallInTime, EndsInTime}
 use Rattle.gl_waiting.specs.Waiters.{Await, IsInTime, place_at}
 use Rattle.gl_waiting.specs.Waiting.{WaitingView, delivery_in}
 use Rattle.gl_waiting.proofs.Awaiting.{below_next}
 use Rattle.gl_waiting.proofs.GoingOn.{goes_same, in_time_all, in_time_on, times_then}
-use Rattle.gl_waiting.proofs.Runs.{calls_none, calls_then, went_on_by}
+use Rattle.gl_waiting.proofs.OwnCalls.{in_time_calls, in_time_earlier, waited_before}
+use Rattle.gl_waiting.proofs.Runs.{of_none, of_then, went_on_by}
 use Rattle.gl_waiting.proofs.waiter_table.WaiterTable.expire.Goals as goal
 
 pub slots-init : goal.slots-init
 slots-init c =
     let d = delivery_in c.args.self.now in
     record {
-      calls = calls_none d;
+      calls = of_none (CallInTime c.args.now c.args.self.now.places) d;
       low = omega arith;
       turns = (refl, refl);
       goes = λ u. goes_same (EndsInTime c.args.now d d) (place_at c.args.self.now.places u);
@@ -30,10 +31,14 @@ slots-preserved c =
     let mid = delivery_in c.slots.self in
     let now = delivery_in c.expire_at.new.self in
     record {
-      calls = calls_then d mid now was.calls one.calls;
+      calls = of_then (CallInTime c.args.now c.args.self.now.places) d mid now was.calls
+          (in_time_earlier c.args.self.now.places c.slots.self.places
+          (λ u w is. waited_before (EndsInTime c.args.now d mid) (place_at c.args.self.now.places u) (place_at c.slots.self.places u) w (was.goes u) is)
+          c.args.now mid now one.calls);
       low = omega (arith, low, before);
       turns = (one.turns.0 ∙ was.turns.0, one.turns.1 ∙ was.turns.1);
-      goes = λ u. times_then c.args.now d mid now was.calls one.calls (place_at c.args.self.now.places u) (place_at c.slots.self.places u)
+      goes = λ u. times_then c.args.now d mid now (in_time_calls c.args.now c.args.self.now.places d mid was.calls)
+          (in_time_calls c.args.now c.slots.self.places mid now one.calls) (place_at c.args.self.now.places u) (place_at c.slots.self.places u)
           (place_at c.expire_at.new.self.places u) (was.goes u) (one.places u);
       in_time = below_next (λ u. c.expire_at.new.self.manager.accepted < max_count → IsInTime c.args.now (place_at c.expire_at.new.self.places u))
           c.slots.slot
@@ -55,7 +60,8 @@ returns c =
     c.accepted-after.ensures ∙ ap (λ (m : ManagerView). m.accepted) c.manager-2.ensures ∙ ap (λ (v : WaitingView). v.manager.accepted) c.self-2.view_is in
     record {
       ended = c.empty.ensures.none;
-      went_on = went_on_by d now (not (c.accepted-after.result == c.accepted-before.result)) was.calls
+      went_on = went_on_by d now (not (c.accepted-after.result == c.accepted-before.result))
+          (in_time_calls c.args.now c.args.self.now.places d now was.calls)
           (ap (λ (k : ℕ). not (k == c.accepted-before.result)) after ∙ ap (λ (k : ℕ). not (now.manager.accepted == k)) before);
       calls = was.calls;
       places = was.goes;

@@ -9,9 +9,11 @@ use Rattle.gl_wakes.specs.Wakes.{HasEnded}
 use Rattle.gl_wakes.proofs.Waking.{ended_none}
 use Rattle.gl_waiting.specs.Asking.{RollsBackTo}
 use Rattle.gl_waiting.specs.Delivering.{ComesToNothing, Delivered, DeliveryView, unlocking}
+use Rattle.gl_waiting.specs.Ends.{NoneAwaits}
 use Rattle.gl_waiting.specs.Waiting.{WaitingView}
 use Rattle.gl_waiting.proofs.Counting.{back_or_not}
 use Rattle.gl_waiting.proofs.Awaiting.{await_on, waiting_with}
+use Rattle.gl_waiting.proofs.Idle.{none_awaits}
 use Rattle.gl_waiting.proofs.waiter_table.WaiterTable.release_since.Goals as goal
 
 back_ended : (t : TxnId) (d d' : DeliveryView) (told : Told) (ended : Slots) (result : Result ℕ Refusal)
@@ -47,8 +49,9 @@ returns c =
       refused = subst (λ (ended : Slots). OnErr result.0 (ComesToNothing d told ended served)) (sym c.settle.ensures.ended) back.refused;
       run = back.run;
       goes = c.settle.ensures.goes;
+      idle = λ h. c.settle.ensures.idle (subst (λ (ended : Slots). NoneAwaits ended c.self.inside.places) c.settle.ensures.ended h);
       went_on = c.settle.ensures.went_on;
       turns = (refl, refl);
       nothing = back_or_not c.args.txn d served told result.1 c.self.inside.begins c.self.inside.places c.settle.new.places c.settle.new.delivery result.0
-          back.refused c.settle.ensures.none;
+          back.refused (λ none. c.settle.ensures.idle (none_awaits _ _ none));
     })

@@ -1,11 +1,13 @@
 use Rattle.std.proofs.Common.{refl, subst, sym}
 use Rattle.gl_slots.specs.declared.slots.Slots.{Slots}
 use Rattle.gl_waiting.specs.Delivering.{Carries}
+use Rattle.gl_waiting.specs.Ends.{NoneAwaits}
 use Rattle.gl_catalog.specs.Manager.{state_of}
 use Rattle.gl_waiting.specs.Asking.{Serves}
 use Rattle.gl_waiting.specs.Waiting.{WaitingView}
 use Rattle.gl_waiting.proofs.Counting.{carries_or_not, nothing_counted}
 use Rattle.gl_waiting.proofs.Awaiting.{await_on, carries_ended, waiting_with}
+use Rattle.gl_waiting.proofs.Idle.{none_awaits}
 use Rattle.gl_waiting.proofs.waiter_table.WaiterTable.serve.Goals as goal
 
 pub settle-requires : goal.settle-requires
@@ -28,11 +30,12 @@ returns c =
           (sym c.settle.ensures.ended) c.serve-answer.ensures.carries;
       run = c.serve-answer.ensures.run;
       goes = c.settle.ensures.goes;
+      idle = λ h. c.settle.ensures.idle (subst (λ (ended : Slots). NoneAwaits ended c.self.inside.places) c.settle.ensures.ended h);
       went_on = c.settle.ensures.went_on;
       turns = (refl, refl);
       nothing = nothing_counted c.self.inside.delivery c.serve-answer.new.self c.settle.new.delivery c.serve-answer.result.1 c.self.inside.places
           c.settle.new.places
           c.self.inside.begins
           (carries_or_not c.self.inside.delivery c.serve-answer.new.self c.args.command c.serve-answer.new.told.items c.serve-answer.result.1
-          c.serve-answer.ensures.carries) c.settle.ensures.low c.settle.ensures.none;
+          c.serve-answer.ensures.carries) c.settle.ensures.low (λ none. c.settle.ensures.idle (none_awaits _ _ none));
     })

@@ -3,9 +3,11 @@ use Rattle.gl_slots.specs.declared.slots.Slots.{Slots}
 use Rattle.gl_waiting.specs.Tries.{IsTried}
 use Rattle.gl_catalog.specs.Manager.{state_of}
 use Rattle.gl_waiting.specs.Asking.{TriesThere}
+use Rattle.gl_waiting.specs.Ends.{NoneAwaits}
 use Rattle.gl_waiting.specs.Waiting.{WaitingView}
 use Rattle.gl_waiting.proofs.Counting.{nothing_counted, path_or_not}
 use Rattle.gl_waiting.proofs.Awaiting.{await_on, waiting_with}
+use Rattle.gl_waiting.proofs.Idle.{none_awaits}
 use Rattle.gl_waiting.proofs.waiter_table.WaiterTable.try_path.Goals as goal
 
 pub settle-requires : goal.settle-requires
@@ -28,11 +30,12 @@ returns c =
       tests = tried.tests;
       run = tried.run;
       goes = c.settle.ensures.goes;
+      idle = λ h. c.settle.ensures.idle (subst (λ (ended : Slots). NoneAwaits ended c.self.inside.places) c.settle.ensures.ended h);
       went_on = c.settle.ensures.went_on;
       turns = (refl, refl);
       nothing = nothing_counted c.self.inside.delivery c.try_path-tried.new.self c.settle.new.delivery c.try_path-tried.result.1 c.self.inside.places
           c.settle.new.places
           c.self.inside.begins (path_or_not c.args.keep c.args.txn
           (c.args.node, c.args.mode) c.self.inside.delivery c.try_path-tried.result.0 c.try_path-tried.new.told.items c.try_path-tried.result.1
-          c.try_path-tried.new.self tried.tries) c.settle.ensures.low c.settle.ensures.none;
+          c.try_path-tried.new.self tried.tries) c.settle.ensures.low (λ none. c.settle.ensures.idle (none_awaits _ _ none));
     })

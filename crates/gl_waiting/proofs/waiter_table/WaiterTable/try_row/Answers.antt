@@ -4,9 +4,11 @@ use Rattle.gl_waiting.specs.RowTries.{TriesRow}
 use Rattle.gl_catalog.specs.Manager.{state_of}
 use Rattle.gl_registry.specs.Locking.{Wish}
 use Rattle.gl_waiting.specs.Asking.{TriesRowThere}
+use Rattle.gl_waiting.specs.Ends.{NoneAwaits}
 use Rattle.gl_waiting.specs.Waiting.{WaitingView}
 use Rattle.gl_waiting.proofs.Counting.{nothing_counted, row_or_not}
 use Rattle.gl_waiting.proofs.Awaiting.{await_on, waiting_with}
+use Rattle.gl_waiting.proofs.Idle.{none_awaits}
 use Rattle.gl_waiting.proofs.waiter_table.WaiterTable.try_row.Goals as goal
 
 pub settle-requires : goal.settle-requires
@@ -31,11 +33,12 @@ returns c =
       queues = tried.queues;
       run = tried.run;
       goes = c.settle.ensures.goes;
+      idle = λ h. c.settle.ensures.idle (subst (λ (ended : Slots). NoneAwaits ended c.self.inside.places) c.settle.ensures.ended h);
       went_on = c.settle.ensures.went_on;
       turns = (refl, refl);
       nothing = nothing_counted c.self.inside.delivery c.try_row-tried.new.self c.settle.new.delivery c.try_row-tried.result.1 c.self.inside.places
           c.settle.new.places
           c.self.inside.begins
           (row_or_not wish c.self.inside.delivery c.try_row-tried.result.0 c.try_row-tried.new.told.items c.try_row-tried.result.1 c.try_row-tried.new.self
-          tried.tries) c.settle.ensures.low c.settle.ensures.none;
+          tried.tries) c.settle.ensures.low (λ none. c.settle.ensures.idle (none_awaits _ _ none));
     })

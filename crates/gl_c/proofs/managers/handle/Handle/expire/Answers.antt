@@ -1,0 +1,14 @@
+use Rattle.std.specs.Prelude.{Some}
+use Rattle.std.proofs.Common.{rules, ◌≡◌}
+use Rattle.gl_c.specs.locks.Waiters.{expire_call}
+use Rattle.gl_c.specs.managers.Handle.{guarded_in}
+use Rattle.gl_c.proofs.Carrying.{asked}
+use Rattle.gl_c.proofs.managers.handle.Handle.expire.Goals as goal
+
+pub returns : goal.returns
+returns c =
+    let from : c.deref_mut.result.now ≡ c.in-Some.session.value = search rules in
+    let to : guarded_in c.of.result ≡ Some c.expire-reply.new.self = search rules in
+    asked (expire_call c.args.now) _ c.in-Some.session.value c.deref_mut.result.now c.expire-reply.new.self c.expire-reply.result
+    (guarded_in c.of.result)
+    c.in-Some.ensures.taken from to c.expire-reply.ensures
