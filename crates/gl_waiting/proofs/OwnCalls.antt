@@ -71,16 +71,14 @@ module _ (ps qs : List Place) (was : Was ps qs) where
 
   in_time_before : (now : ℕ) (d d' : DeliveryView) → CallInTime now qs d d' → CallInTime now ps d d'
   in_time_before now d d' (inl on) = inl (among_before d d' on)
-  in_time_before now d d' (inr (u, w, is, over, call, answer, asks)) =
+  in_time_before now d d' (inr (u, w, is, over, (call, (answer, asks)))) =
       let before = was u w is in
       inr (
         u,
         before.0,
         before.1,
         sym (ap (is_over now) before.2.until) ∙ over,
-        call,
-        answer,
-        subst (λ (t : TxnId). AsksCancel t answer call.told d d') before.2.txn asks,
+        (call, (answer, subst (λ (t : TxnId). AsksCancel t answer call.told d d') before.2.txn asks)),
       )
 
   pub in_time_earlier : (now : ℕ) (d d' : DeliveryView) → CallsOf (CallInTime now qs) d d' → CallsOf (CallInTime now ps) d d'

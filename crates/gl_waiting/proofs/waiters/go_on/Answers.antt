@@ -3,15 +3,19 @@ use Rattle.gl_catalog.specs.Manager.{ManagerView, state_of}
 use Rattle.gl_modes.specs.declared.mode.Mode.{Mode}
 use Rattle.gl_modes.specs.declared.node.NodeId.{NodeId}
 use Rattle.gl_waiting.specs.Delivering.{DeliveryView}
-use Rattle.gl_waiting.specs.Ends.{CallBy, LocksOn}
+use Rattle.gl_waiting.specs.Ends.{CallBy, LocksOn, PlaceGoesOn}
 use Rattle.gl_waiting.specs.Going.{CallThat, CallsOf}
 use Rattle.gl_waiting.specs.Paths.{LocksPart}
-use Rattle.gl_waiting.specs.Waiters.{came_of}
+use Rattle.gl_waiting.specs.Waiters.{came_of, place_of}
+use Rattle.gl_waiting.specs.declared.waiter.Came.{Came}
+use Rattle.gl_waiting.specs.declared.waiter.Came.TheVariants as came
+use Rattle.gl_waiting.specs.declared.waiter.Outcome.{Outcome}
+use Rattle.gl_waiting.specs.declared.waiter.Place.TheVariants as place
 use Rattle.gl_waiting.specs.declared.waiter.Request.{Request}
 use Rattle.gl_waiting.specs.declared.waiter.Request.TheVariants as request
 use Rattle.gl_waiting.specs.declared.waiter.Waiter.{Waiter}
 use Rattle.gl_waiting.proofs.Awaiting.{counted_then, ended_then}
-use Rattle.gl_waiting.proofs.GoingOn.{ends_after, ends_by_path}
+use Rattle.gl_waiting.proofs.GoingOn.{ends_after, ends_by_path, waits_on_still}
 use Rattle.gl_waiting.proofs.OwnCalls.{that_calls, unlocks_own}
 use Rattle.gl_waiting.proofs.Runs.{of_as, of_then}
 use Rattle.gl_waiting.proofs.waiters.go_on.Goals as goal
@@ -61,3 +65,12 @@ returns-clause-counted c =
     counted_then c.lock_path_through-reached.result.1 c.give_back-more.result c.union.result _ c.lock_path_through-reached.new.delivery.manager.accepted _
     c.union.ensures c.lock_path_through-reached.ensures.low c.give_back-more.ensures.low c.lock_path_through-reached.ensures.counted
     c.give_back-more.ensures.counted
+
+-- a request that has not ended waits
+waits_on : (d d' : DeliveryView) (w : Waiter) (c : Came) → ((outcome : Outcome) → c ≡ came.Ended outcome → ⊥) → PlaceGoesOn d d' (place.Waits w) (place_of w c)
+waits_on d d' w (came.Ended outcome) out = absurd (out outcome refl)
+waits_on d d' w (came.Waits at wanted) out = waits_on_still d d' w at wanted
+
+pub returns-in_default-clause-place : goal.returns-in_default-clause-place
+returns-in_default-clause-place c =
+    waits_on c.args.delivery.now c.lock_path_through-reached.new.delivery c.args.waiter c.came_of-came.result (λ outcome is. c.in_default.not-Ended outcome is)

@@ -27,8 +27,8 @@ put-requires c =
     (verdict_still (state_of c.self.inside.delivery.manager) c.args.waiter.txn c.args.waiter.at c.args.waiter.wanted c.self.inside.delivery.boxes
     (sym c.verdict.ensures ∙ c.in_default.is))
 
-pub invariant_of-self-in_default : goal.invariant_of-self-in_default
-invariant_of-self-in_default c =
+pub invariant_of-self : goal.invariant_of-self
+invariant_of-self c =
     let s = state_of c.self.inside.delivery.manager in
     let waits = verdict_still s c.args.waiter.txn c.args.waiter.at c.args.waiter.wanted c.self.inside.delivery.boxes (sym c.verdict.ensures ∙
         c.in_default.is) in
@@ -58,11 +58,11 @@ no_waiter places t (Some v) is none (w, has) = true≢false (sym is)
 pub returns-in_default : goal.returns-in_default
 returns-in_default c =
     subst
-    (λ (v : WaitingView). Awaits v c.args.waiter (Some (came.Waits c.args.waiter.at c.args.waiter.wanted)) c.nothing.result
+    (λ (v : WaitingView). Awaits v c.args.waiter (Some (came.Waits c.args.waiter.at c.args.waiter.wanted)) c.nothing-in_default.result
     (waiting_with c.self.inside.delivery c.put.new.self c.self.inside.begins)) c.self.view_is (
       no_waiter c.self.inside.places c.args.waiter.txn c.waiter_of.result c.if-is_some.ensures c.waiter_of.ensures.none,
-      put_there (waiting_with c.self.inside.delivery c.self.inside.places c.self.inside.begins) c.args.waiter _ c.nothing.result
-          c.put.new.self (sym c.verdict.ensures ∙ c.in_default.is) c.nothing.ensures c.put.ensures.put,
+      put_there (waiting_with c.self.inside.delivery c.self.inside.places c.self.inside.begins) c.args.waiter _ c.nothing-in_default.result
+          c.put.new.self (sym c.verdict.ensures ∙ c.in_default.is) c.nothing-in_default.ensures c.put.ensures.put,
     )
 
 pub go_on_at_once-came-requires : goal.go_on_at_once-came-requires
@@ -72,8 +72,12 @@ go_on_at_once-came-requires c = record {
 }
 
 pub returns : goal.returns
-returns c = (
-  no_waiter c.self.inside.places c.args.waiter.txn c.waiter_of.result c.if-is_some.ensures c.waiter_of.ensures.none,
-  over_by c.args.self.now c.args.waiter _ c.in-Some.verdict c.go_on_at_once-came.result.0 c.go_on_at_once-came.result.1 c.go_on_at_once-came.new.self
-      (sym c.verdict.ensures ∙ c.in-Some.is) c.go_on_at_once-came.ensures,
-)
+returns c =
+    let v = c.args.self.now in (
+      subst (λ (x : WaitingView). IsAwaitedAlready x.places c.args.waiter.txn → ⊥) c.self.view_is
+          (no_waiter c.self.inside.places c.args.waiter.txn c.waiter_of.result c.if-is_some.ensures c.waiter_of.ensures.none),
+      over_by v c.args.waiter (verdict_of (state_of v.manager) v.boxes c.args.waiter.txn c.args.waiter.at c.args.waiter.wanted) c.in-Some.verdict
+          c.go_on_at_once-came.result.0 c.go_on_at_once-came.result.1 c.go_on_at_once-came.new.self
+          (subst (λ (x : WaitingView). verdict_of (state_of x.manager) x.boxes c.args.waiter.txn c.args.waiter.at c.args.waiter.wanted ≡ Some c.in-Some.verdict)
+          c.self.view_is (sym c.verdict.ensures ∙ c.in-Some.is)) c.go_on_at_once-came.ensures,
+    )

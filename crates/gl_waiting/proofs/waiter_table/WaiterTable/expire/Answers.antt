@@ -56,13 +56,12 @@ returns c =
     let last = c.slots.auto.slot-end in
     let before : c.accepted-before.result ≡ d.manager.accepted =
     c.accepted-before.ensures ∙ ap (λ (m : ManagerView). m.accepted) c.manager.ensures ∙ ap (λ (v : WaitingView). v.manager.accepted) c.self.view_is in
-    let after : c.accepted-after.result ≡ now.manager.accepted =
-    c.accepted-after.ensures ∙ ap (λ (m : ManagerView). m.accepted) c.manager-2.ensures ∙ ap (λ (v : WaitingView). v.manager.accepted) c.self-2.view_is in
+    let after = ap (λ (v : WaitingView). v.manager.accepted) c.self-2.view_is in
     record {
-      ended = c.empty.ensures.none;
-      went_on = went_on_by d now (not (c.accepted-after.result == c.accepted-before.result))
-          (in_time_calls c.args.now c.args.self.now.places d now was.calls)
-          (ap (λ (k : ℕ). not (k == c.accepted-before.result)) after ∙ ap (λ (k : ℕ). not (now.manager.accepted == k)) before);
+      ended = c.went_on_since.ensures.ended;
+      went_on = went_on_by d now c.went_on_since.result.went_on (in_time_calls c.args.now c.args.self.now.places d now was.calls)
+          (c.went_on_since.ensures.went_on ∙ ap (λ (k : ℕ). not (k == c.accepted-before.result)) after
+          ∙ ap (λ (k : ℕ). not (now.manager.accepted == k)) before);
       calls = was.calls;
       places = was.goes;
       turns = was.turns;

@@ -62,9 +62,7 @@ returns-then-is_over-clause-calls c =
       w,
       had,
       sym c.is_over.ensures ∙ c.if-is_over.true,
-      call_made (delivery_in v) one.cancelled _ one.told c.time_out.result.ended one.cancels one.run,
-      one.answer,
-      one.asks,
+      (call_made (delivery_in v) one.cancelled _ one.told c.time_out.result.ended one.cancels one.run, (one.answer, one.asks)),
     )))
     (of_as (CallAmong v.places) (CallInTime c.args.now v.places) (λ a b h. inl h) one.cancelled now one.calls)
 

@@ -75,8 +75,8 @@ put-requires c =
     waits_below (state_of left.manager) c.args.waiter.txn c.law-2.ensures.lawful c.law-2.ensures.few c.in-Waits.at
     (waits_there left c.args.waiter _ c.in-Waits.at c.in-Waits.wanted c.continue_by-came.ensures.waits c.in-Waits.is)
 
-pub settle-requires-2 : goal.settle-requires-2
-settle-requires-2 c =
+pub settle-requires-in-Waits : goal.settle-requires-in-Waits
+settle-requires-in-Waits c =
     let left = c.continue_by-came.new.delivery in
     let w = c.args.waiter in
     let waits = waits_there left w _ c.in-Waits.at c.in-Waits.wanted c.continue_by-came.ensures.waits c.in-Waits.is in
@@ -91,30 +91,30 @@ settle-requires-2 c =
 
 pub invariant_of-self-in-Waits : goal.invariant_of-self-in-Waits
 invariant_of-self-in-Waits c =
-    await_answers (state_of c.settle-2.new.delivery.manager) _ c.args.waiter.txn.slot c.settle-2.new.places c.answer-came.new.self _ c.answer-came.result
-    c.answer-came.ensures c.settle-2.ensures.awaits
+    await_answers (state_of c.settle-in-Waits.new.delivery.manager) _ c.args.waiter.txn.slot c.settle-in-Waits.new.places c.answer-came.new.self _ c.answer-came.result
+    c.answer-came.ensures c.settle-in-Waits.ensures.awaits
 
 pub returns-in-Waits : goal.returns-in-Waits
 returns-in-Waits c =
     let first = came.Waits c.in-Waits.at c.in-Waits.wanted in
     let left = c.continue_by-came.new.delivery in
     let w = c.args.waiter in
-    let others = subst (λ (ps : List Place). GoesOn left ps c.settle-2.new.delivery c.settle-2.new.places)
-    (c.put.ensures.put ∙ ap (λ (p : Place). slice_set c.self.inside.places w.txn.slot p) c.place.ensures) c.settle-2.ensures.goes in
+    let others = subst (λ (ps : List Place). GoesOn left ps c.settle-in-Waits.new.delivery c.settle-in-Waits.new.places)
+    (c.put.ensures.put ∙ ap (λ (p : Place). slice_set c.self.inside.places w.txn.slot p) c.place.ensures) c.settle-in-Waits.ensures.goes in
     subst
-    (λ (v : WaitingView). GoesOnAtOnce v w c.answer-came.result c.went_on_since-2.result
-    (waiting_with c.settle-2.new.delivery c.answer-came.new.self c.self.inside.begins)) c.self.view_is
+    (λ (v : WaitingView). GoesOnAtOnce v w c.answer-came.result c.went_on_since-in-Waits.result
+    (waiting_with c.settle-in-Waits.new.delivery c.answer-came.new.self c.self.inside.begins)) c.self.view_is
     (record {
       first = first;
       left = left;
       calls = c.continue_by-came.ensures.calls;
       goes = subst (λ (x : Came). PlaceGoesOn c.self.inside.delivery left (place.Waits w) (place_of w x)) c.in-Waits.is c.continue_by-came.ensures.place;
-      after = c.settle-2.new.places;
+      after = c.settle-in-Waits.new.places;
       others = others;
-      went_on = counted c.self.inside.delivery left c.settle-2.new.delivery w _ c.settle-2.new.places _ c.accepted-before.result
+      went_on = counted c.self.inside.delivery left c.settle-in-Waits.new.delivery w _ c.settle-in-Waits.new.places _ c.accepted-before.result
           c.continue_by-came.ensures.calls others (c.accepted-before.ensures ∙ ap (λ (m : ManagerView). m.accepted) c.manager.ensures)
-          c.went_on_since-2.ensures.went_on;
-      ended = c.went_on_since-2.ensures.ended;
+          c.went_on_since-in-Waits.ensures.went_on;
+      ended = c.went_on_since-in-Waits.ensures.ended;
       replies = c.answer-came.ensures;
       turns = (refl, refl);
     })
