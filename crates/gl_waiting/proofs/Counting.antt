@@ -1,6 +1,6 @@
 -- A call that counts nothing changes nothing.
 use Rattle.gl_slots.specs.declared.slots.Slots.{Slots}
-use Rattle.std.specs.Prelude.{◌≡◌, ◌⊎◌, ◌+◌, ◌<◌, ◌≤◌, ℕ, Bool, true, false, [], List, Option, Some, None, Result, Ok, Err, OnErr, OnOk}
+use Rattle.std.specs.Prelude.{◌≡◌, ◌⊎◌, ◌+◌, ◌<◌, ◌≤◌, ℕ, Bool, true, false, [], List, Option, Some, None, Result, Ok, Err, OnErr}
 use Rattle.std.proofs.Common.{refl, sym, ap, subst, ◌∙◌, inl, inr, ⊎_elim, arith}
 use Rattle.gl_modes.specs.declared.mode.Mode.{Mode}
 use Rattle.gl_modes.specs.declared.node.NodeId.{NodeId}
@@ -19,7 +19,7 @@ use Rattle.gl_registry.specs.Locking.{Wish}
 use Rattle.gl_registry.specs.Releasing.{GoesBackTo}
 use Rattle.gl_registry.specs.Rows.{name_of}
 use Rattle.gl_waiting.specs.Begins.{BeginsView}
-use Rattle.gl_waiting.specs.Delivering.{Carries, ComesToNothing, Delivered, DeliveryView, registry_in, unlocking}
+use Rattle.gl_waiting.specs.Delivering.{Carries, ComesToNothing, DeliveryView, registry_in}
 use Rattle.gl_waiting.specs.declared.tries.Keep.{Keep}
 use Rattle.gl_waiting.specs.declared.tries.RowTried.{RowTried}
 use Rattle.gl_waiting.specs.declared.tries.Tried.{Tried}

@@ -75,7 +75,8 @@ calls_then = of_then Call
 pub calls_none : (d : DeliveryView) → Calls d d
 calls_none = of_none Call
 
-abbrev pub call_made : (d d' : DeliveryView) (c : Command) (told : Told) (ended : Slots) → Carries d c told ended d' → IsRun (state_of d.manager) (state_of d'.manager)
+abbrev pub call_made : (d d' : DeliveryView) (c : Command) (told : Told) (ended : Slots) → Carries d c told ended d' → IsRun (state_of d.manager) (state_of
+    d'.manager)
     → Call d d'
 call_made d d' c told ended carries run = record { command = c; told = told; ended = ended; carries = carries; run = run }
 

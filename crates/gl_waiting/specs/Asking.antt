@@ -26,7 +26,7 @@ use Rattle.gl_waiting.specs.RowTries.{BeginsNoWait, HoldsTried, KeepsQueues, Tri
 use Rattle.gl_waiting.specs.declared.tries.RowTried.{RowTried}
 use Rattle.gl_waiting.specs.Waiters.{AnswersIn, HasWaiter, IsInTime, came_of, place_at, place_of, waiter_in}
 use Rattle.gl_waiting.specs.Waiting.{WaitingView, delivery_in}
-use Rattle.std.specs.Prelude.{◌⊎◌, ◌==◌, ◌++◌, ◌∷◌, None, drop, is_some, slice_get}
+use Rattle.std.specs.Prelude.{◌⊎◌, ◌==◌, ◌++◌, ◌∷◌, None, drop, slice_get}
 use Rattle.gl_model.specs.State.{State, lives}
 use Rattle.gl_modes.specs.declared.mode.Mode.TheVariants.{NL}
 use Rattle.gl_modes.specs.declared.refusal.Refusal.TheVariants as no

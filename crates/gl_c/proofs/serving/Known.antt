@@ -1,9 +1,8 @@
 -- What is known of the waits after each call by which nobody went on.
 use Rattle.gl_slots.specs.declared.slots.Slots.{Slots}
 use Rattle.gl_slots.specs.Limit.{most_slots}
-use Rattle.std.specs.Prelude.{◌≡◌, ◌≤◌, ℕ, Bool, true, false, Option, Some, None, Result, Ok, Err, OnOk, OnErr}
+use Rattle.std.specs.Prelude.{◌≡◌, ◌≤◌, ℕ, Bool, true, false, Option, Some, None, Result, Ok, Err, OnErr}
 use Rattle.std.proofs.Common.{refl, sym, ap, subst, ◌∙◌}
-use mathlib.Core.Bool.{true≢false}
 use Rattle.gl_modes.specs.declared.refusal.Refusal.{Refusal}
 use Rattle.gl_slots.specs.Slots.{has_none}
 use Rattle.gl_model.specs.Lawful.{IsLawful}
@@ -18,7 +17,7 @@ use Rattle.gl_steps.specs.declared.command.Command.{Command}
 use Rattle.gl_catalog.specs.Manager.{ManagerView, state_of}
 use Rattle.gl_catalog.specs.Paths.{Ask}
 use Rattle.gl_catalog.specs.declared.manager.paths.Reached.{Reached}
-use Rattle.gl_registry.specs.Applying.{AppliesCall, CarriesOut, answer_in, naming, own_command, unnamed}
+use Rattle.gl_registry.specs.Applying.{answer_in, own_command, unnamed}
 use Rattle.gl_registry.specs.Locking.{Wish}
 use Rattle.gl_registry.specs.Releasing.{GoesBackTo}
 use Rattle.gl_registry.specs.Rows.{RegistryView}

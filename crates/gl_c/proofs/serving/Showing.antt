@@ -33,13 +33,6 @@ use Rattle.gl_registry.specs.Locking.{Line, Runs}
 use Rattle.gl_steps.proofs.Detection.{steps_keep_detect}
 use Rattle.gl_steps.proofs.Serving.{step_counts}
 use Rattle.gl_steps.specs.Served.{accepts}
-use Rattle.gl_waiting.specs.Delivering.{DeliveryView}
-use Rattle.gl_waiting.specs.Going.{IsRun}
-use Rattle.gl_model.specs.declared.answers.Detect.{Detect}
-use Rattle.gl_c.specs.declared.managers.guarded.Guarded.TheInside.{Inside}
-use Rattle.gl_c.specs.declared.managers.showing.Showing.{Showing}
-use Rattle.gl_c.specs.managers.Showing.{parties_in, shown_in}
-use Rattle.gl_c.specs.managers.Sound.{IsSound}
 use Rattle.gl_c.specs.watchers.Watching.{Continues}
 
 -- a manager that accepted more

@@ -1,6 +1,6 @@
 -- A path that is tried leaves nobody waiting if nobody waited. For Guarded.try_path.
 use Rattle.gl_slots.specs.declared.slots.Slots.{Slots}
-use Rattle.std.specs.Prelude.{◌≡◌, ℕ, Bool, true, false, Result, Ok, Err}
+use Rattle.std.specs.Prelude.{ℕ, Bool, true, false, Result, Ok, Err}
 use Rattle.std.proofs.Common.{sym, subst, inl, inr}
 use Rattle.gl_modes.specs.declared.refusal.Refusal.{Refusal}
 use Rattle.gl_model.specs.declared.txn.TxnId.{TxnId}

@@ -1,20 +1,19 @@
 -- A begin in turn: it is a run, and what is known of the waits after it. For Guarded.begin_in_turn.
 use Rattle.gl_slots.specs.declared.slots.Slots.{Slots}
 use Rattle.gl_slots.specs.Limit.{most_slots}
-use Rattle.std.specs.Prelude.{◌≡◌, ◌≤◌, ℕ, Bool, true, false, [], Option, Some, None, Result, Ok, Err, if◌then◌else◌}
+use Rattle.std.specs.Prelude.{◌≡◌, ◌≤◌, ℕ, Bool, true, false, [], Option, Some, None, Ok, Err, if◌then◌else◌}
 use Rattle.std.proofs.Common.{sym, ap, subst, inl, inr}
 use Rattle.gl_modes.specs.declared.refusal.Refusal.{Refusal}
 use Rattle.gl_model.specs.Lawful.{IsLawful}
 use Rattle.gl_model.specs.State.{State}
 use Rattle.gl_model.specs.Tellings.{Told}
-use Rattle.gl_model.specs.declared.txn.TxnId.{TxnId}
 use Rattle.gl_steps.specs.Step.{Goes, Step}
 use Rattle.gl_steps.specs.Tests.{refusal_of}
 use Rattle.gl_steps.specs.declared.command.Answer.{Answer}
 use Rattle.gl_steps.specs.declared.command.Answer.TheVariants as answer
 use Rattle.gl_steps.specs.declared.command.Command.TheVariants as command
 use Rattle.gl_catalog.specs.Manager.{state_of}
-use Rattle.gl_waiting.specs.Asking.{Begins, BeginsInTurn, begin_of}
+use Rattle.gl_waiting.specs.Asking.{BeginsInTurn, begin_of}
 use Rattle.gl_waiting.specs.Delivering.{registry_in}
 use Rattle.gl_waiting.specs.Waiting.{WaitingView, delivery_in}
 use Rattle.gl_waiting.specs.declared.begins.QueuedBegin.{QueuedBegin}

@@ -1,6 +1,6 @@
 -- What is known of the waits after a wait was awaited, or its time was over. For Guarded.await_request, time_out and expire.
 use Rattle.std.specs.Prelude.{◌≡◌, Bool, true, false, Option, Some, None}
-use Rattle.std.proofs.Common.{sym, ap, subst, ◌∙◌}
+use Rattle.std.proofs.Common.{sym, ap, subst}
 use Rattle.gl_slots.specs.Slots.{has_none}
 use Rattle.gl_slots.specs.declared.slots.Slots.{Slots}
 use Rattle.gl_model.specs.State.{State}

@@ -1,9 +1,8 @@
 -- Begins in turn.
-use Rattle.std.specs.Prelude.{◌≡◌, ℕ, Bool, true, false, Option, Some, None, Result, Ok, Err, drop, slice_get}
+use Rattle.std.specs.Prelude.{◌≡◌, ℕ, Bool, true, false, Option, Some, None, drop, slice_get}
 use Rattle.std.specs.List.{find, list_any}
 use Rattle.gl_modes.specs.declared.refusal.Refusal.TheVariants as no
 use Rattle.gl_steps.specs.declared.command.Answer.{Answer}
-use Rattle.gl_steps.specs.declared.command.Answer.TheVariants as answer
 use Rattle.gl_waiting.specs.Asking.{BeginsInTurn, begin_of, begin_said}
 use Rattle.gl_waiting.specs.Begins.{Begun, has_word, is_late, without_first}
 use Rattle.gl_waiting.specs.declared.begins.QueuedBegin.{QueuedBegin}

@@ -2,7 +2,6 @@
 use Rattle.std.specs.Prelude.{◌≡◌, ℕ, ◌&&◌, Option, Some, None, if◌then◌else◌, length}
 use Rattle.std.specs.List.{slice_get}
 use Rattle.std.specs.Option.{option_map}
-use Rattle.gl_modes.specs.declared.mode.Mode.{Mode}
 use Rattle.gl_modes.specs.declared.node.NodeId.{NodeId}
 use Rattle.gl_modes.specs.declared.refusal.Refusal.TheVariants as no
 use Rattle.gl_graph.specs.declared.kind.Kind.{Kind}
@@ -27,8 +26,7 @@ use Rattle.gl_c.specs.declared.answers.reply.Reply.{Reply}
 use Rattle.gl_c.specs.managers.Carries.{Declines}
 use Rattle.gl_c.specs.managers.Guarded.{GuardedView}
 use Rattle.gl_c.specs.questions.Listings.{doing, lived, of_queue, row_reply, waiter_reply}
-use Rattle.gl_c.specs.Names.{node_of}
-use Rattle.gl_c.specs.Numbers.{mode_number, no_manager, no_place, waiting}
+use Rattle.gl_c.specs.Numbers.{no_manager, no_place}
 use Rattle.gl_c.specs.answers.Replies.{count_reply, refused_reply, reply_of, status_reply}
 
 -- the number of a kind

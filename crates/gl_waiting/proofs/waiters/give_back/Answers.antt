@@ -22,15 +22,15 @@ returns-clause-calls c =
       call_made c.args.delivery.now c.serve-answer.new.self _ c.serve-answer.new.told.items c.serve-answer.result.1 c.serve-answer.ensures.carries
           c.serve-answer.ensures.run,
       (
-          for_instant c.args.instant c.args.outcome (sym c.is_given_back.ensures ∙ c.if-not-is_given_back.false),
-          record {
-            answer = made.0;
-            told = c.serve-answer.new.told.items;
-            applies = subst (λ (n : NodeId). Applies c.args.delivery.now.manager (command.Unlock c.args.txn n) made.0 c.serve-answer.new.told.items
-                c.serve-answer.new.self.manager) c.node-node.ensures made.2;
-            rows = made.3;
-          },
-          refl,
+        for_instant c.args.instant c.args.outcome (sym c.is_given_back.ensures ∙ c.if-not-is_given_back.false),
+        record {
+          answer = made.0;
+          told = c.serve-answer.new.told.items;
+          applies = subst (λ (n : NodeId). Applies c.args.delivery.now.manager (command.Unlock c.args.txn n) made.0 c.serve-answer.new.told.items
+              c.serve-answer.new.self.manager) c.node-node.ensures made.2;
+          rows = made.3;
+        },
+        refl,
       ),
     )
 

@@ -41,13 +41,16 @@ returns-clause-awaits c =
     subst (λ (ps : List Place). AwaitBut (λ u. rest u || has_slot c.continue_by-came.result.1 u) (state_of c.continue_by-came.new.delivery.manager) ps)
     (sym (c.put.ensures.put ∙ ap (λ (p : Place). slice_set c.args.places.now c.args.slot p) c.place.ensures))
     (await_put rest c.args.slot (state_of c.args.delivery.now.manager) c.args.places.now h (state_of c.continue_by-came.new.delivery.manager)
-    c.continue_by-came.result.1 c.in-Some.waiter.txn (place_of c.in-Some.waiter c.continue_by-came.result.0) c.law.ensures.lawful c.continue_by-came.ensures.ended
+    c.continue_by-came.result.1 c.in-Some.waiter.txn (place_of c.in-Some.waiter c.continue_by-came.result.0) c.law.ensures.lawful
+    c.continue_by-came.ensures.ended
     c.continue_by-came.ensures.waits (h.own c.args.slot c.in-Some.waiter was).0
     (long c.args.places.now c.args.slot c.put.ensures.slots c.requires.within) c.requires.within)
 
 pub returns-clause-goes : goal.returns-clause-goes
 returns-clause-goes c =
-    subst (λ (ps : List Place). GoesOn c.args.delivery.now c.args.places.now c.continue_by-came.new.delivery ps) (sym (c.put.ensures.put ∙ ap (λ (p : Place). slice_set c.args.places.now c.args.slot p) c.place.ensures))
+    subst (λ (ps : List Place). GoesOn c.args.delivery.now c.args.places.now c.continue_by-came.new.delivery ps) (sym (c.put.ensures.put ∙ ap (λ (p :
+    Place). slice_set c.args.places.now c.args.slot p) c.place.ensures))
     (goes_on_put c.args.delivery.now c.continue_by-came.new.delivery c.args.places.now c.args.slot c.in-Some.waiter
-    (place_of c.in-Some.waiter c.continue_by-came.result.0) c.continue_by-came.ensures.calls (long c.args.places.now c.args.slot c.put.ensures.slots c.requires.within)
+    (place_of c.in-Some.waiter c.continue_by-came.result.0) c.continue_by-came.ensures.calls (long c.args.places.now c.args.slot c.put.ensures.slots
+    c.requires.within)
     (waiter_there _ c.in-Some.waiter c.in-Some.ensures) c.continue_by-came.ensures.place)

@@ -3,7 +3,6 @@ use Rattle.gl_modes.specs.declared.node.NodeId.{NodeId}
 use Rattle.gl_steps.specs.declared.command.Command.TheVariants as command
 use Rattle.gl_c.specs.managers.Carries.{Asks, command_call}
 use Rattle.gl_c.specs.managers.Handle.{guarded_in}
-use Rattle.gl_c.specs.Names.{node_id}
 use Rattle.gl_c.proofs.Carrying.{under_few}
 use Rattle.gl_c.proofs.graph.nodes.bs_call_add_index.Goals as goal
 

@@ -31,7 +31,7 @@ pub invariant_of-self : goal.invariant_of-self
 invariant_of-self c =
     let s = state_of c.self.inside.delivery.manager in
     let waits = verdict_still s c.args.waiter.txn c.args.waiter.at c.args.waiter.wanted c.self.inside.delivery.boxes (sym c.verdict.ensures ∙
-        c.in_default.is) in
+    c.in_default.is) in
     subst (λ (ps : List Place). Await s ps) (sym c.put.ensures.put)
     (await_more (has_slot no_slots) (λ u. false) s _ (λ u out. no_slots-none u)
     (await_registered s s c.self.inside.places no_slots c.args.waiter

@@ -91,7 +91,8 @@ settle-requires-in-Waits c =
 
 pub invariant_of-self-in-Waits : goal.invariant_of-self-in-Waits
 invariant_of-self-in-Waits c =
-    await_answers (state_of c.settle-in-Waits.new.delivery.manager) _ c.args.waiter.txn.slot c.settle-in-Waits.new.places c.answer-came.new.self _ c.answer-came.result
+    await_answers (state_of c.settle-in-Waits.new.delivery.manager) _ c.args.waiter.txn.slot c.settle-in-Waits.new.places c.answer-came.new.self _
+    c.answer-came.result
     c.answer-came.ensures c.settle-in-Waits.ensures.awaits
 
 pub returns-in-Waits : goal.returns-in-Waits

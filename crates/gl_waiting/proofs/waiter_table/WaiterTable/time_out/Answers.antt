@@ -1,4 +1,4 @@
-use Rattle.std.proofs.Common.{◌≡◌, ◌<◌, ℕ, Bool, [], arith, refl, subst, sym, ap, ◌∙◌, ◌⊎◌, inl, inr, true, false, List}
+use Rattle.std.proofs.Common.{◌≡◌, ◌<◌, ℕ, arith, refl, subst, sym, ap, ◌∙◌, ◌⊎◌, inl, inr, true, false, List}
 use mathlib.Core.Bool.{true≢false}
 use Rattle.gl_steps.specs.Promises.{waits_on}
 use Rattle.std.specs.Prelude.{Option, Some, slice_set}
@@ -10,19 +10,18 @@ use Rattle.gl_steps.specs.declared.command.Answer.TheVariants as answer
 use Rattle.gl_catalog.specs.Manager.{state_of}
 use Rattle.gl_waiting.specs.Asking.{TimesOut, is_done}
 use Rattle.gl_waiting.specs.Delivering.{Carries, registry_in}
-use Rattle.gl_waiting.specs.Going.{WentOn}
 use Rattle.gl_slots.specs.declared.slots.Slots.{Slots}
 use Rattle.gl_waiting.specs.Ends.{Cancels, EndsBetween, EndsLate, GoesOn, PlaceGoes, PlaceGoesOn}
 use Rattle.gl_registry.specs.Serving.{ServesBy, touches_rows}
 use Rattle.gl_steps.specs.declared.command.Command.TheVariants as command
 use Rattle.gl_waiting.specs.Waiters.{AwaitBut, HasWaiter, place_at}
-use Rattle.gl_waiting.specs.Waiting.{WaitingView, delivery_in}
+use Rattle.gl_waiting.specs.Waiting.{WaitingView}
 use Rattle.gl_waiting.specs.declared.waiter.Outcome.TheVariants as end
 use Rattle.gl_waiting.specs.declared.waiter.Place.{Place}
 use Rattle.gl_waiting.specs.declared.waiter.Place.TheVariants as place
 use Rattle.gl_waiting.specs.declared.waiter.Waiter.{Waiter}
 use Rattle.gl_waiting.proofs.Awaiting.{await_on, await_ended, cancel_done, carries_ended, carries_low, set_apart, set_here, waiting_with}
-use Rattle.gl_waiting.proofs.GoingOn.{ends_later, goes_same, goes_with, still_itself}
+use Rattle.gl_waiting.proofs.GoingOn.{ends_later, goes_with, still_itself}
 use Rattle.gl_waiting.proofs.OwnCalls.{among_calls, among_earlier, ended_still}
 use Rattle.gl_waiting.proofs.Runs.{calls_none, calls_one, calls_run, calls_then, run_none}
 use Rattle.gl_waiting.proofs.waiter_table.WaiterTable.time_out.Goals as goal

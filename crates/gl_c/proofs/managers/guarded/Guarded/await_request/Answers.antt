@@ -1,6 +1,5 @@
-use Rattle.std.specs.Prelude.{[], Bool, Option}
+use Rattle.std.specs.Prelude.{[]}
 use Rattle.std.proofs.Common.{◌≡◌, refl, subst, sym, ◌∙◌}
-use Rattle.gl_slots.specs.declared.slots.Slots.{Slots}
 use Rattle.gl_slots.specs.Slots.{has_none}
 use Rattle.gl_c.specs.locks.Waiters.{await_call}
 use Rattle.gl_c.specs.managers.Carries.{Performs}

@@ -1,7 +1,6 @@
 use Rattle.std.specs.Prelude.{[], Bool, Option}
 use Rattle.gl_slots.specs.declared.slots.Slots.{Slots}
 use Rattle.std.proofs.Common.{◌≡◌, ap, refl, subst, sym, ◌∙◌}
-use Rattle.gl_model.specs.Tellings.{Told}
 use Rattle.gl_steps.specs.declared.command.Answer.{Answer}
 use Rattle.gl_steps.specs.declared.command.Command.{Command}
 use Rattle.gl_waiting.specs.Asking.{begin_of}

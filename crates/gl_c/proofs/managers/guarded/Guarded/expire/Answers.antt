@@ -1,6 +1,5 @@
-use Rattle.std.specs.Prelude.{[], Bool, Option, false}
+use Rattle.std.specs.Prelude.{[], false}
 use Rattle.std.proofs.Common.{◌≡◌, refl, subst, sym, ◌∙◌}
-use Rattle.gl_slots.specs.declared.slots.Slots.{Slots}
 use Rattle.gl_c.specs.locks.Waiters.{expire_call}
 use Rattle.gl_c.specs.managers.Carries.{Performs}
 use Rattle.gl_c.specs.managers.Guarded.{GuardedView, with_waiting}

@@ -1,10 +1,6 @@
-use Rattle.std.specs.Prelude.{Option}
-use Rattle.std.proofs.Common.{◌≡◌, ap, refl, subst, sym, ◌∙◌}
-use Rattle.gl_slots.specs.declared.slots.Slots.{Slots}
-use Rattle.gl_model.specs.Tellings.{Told}
+use Rattle.std.proofs.Common.{◌≡◌, refl, subst, sym, ◌∙◌}
 use Rattle.gl_c.specs.managers.Carries.{Performs}
 use Rattle.gl_c.specs.managers.Guarded.{GuardedView, with_waiting}
-use Rattle.gl_c.specs.managers.Serving.{known_after}
 use Rattle.gl_c.specs.managers.Showing.{parties_in, shown_in}
 use Rattle.gl_c.specs.managers.Sound.{view_of}
 use Rattle.gl_c.proofs.serving.Serving.{counted_as, leaves_counted, leaves_idle, sound_counted, sound_idle}

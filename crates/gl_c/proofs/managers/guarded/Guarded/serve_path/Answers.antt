@@ -1,6 +1,4 @@
-use Rattle.std.specs.Prelude.{Option}
 use Rattle.std.proofs.Common.{◌≡◌, ap, refl, subst, sym, ◌∙◌}
-use Rattle.gl_slots.specs.declared.slots.Slots.{Slots}
 use Rattle.gl_model.specs.Tellings.{Told}
 use Rattle.gl_c.specs.managers.Carries.{Performs}
 use Rattle.gl_c.specs.managers.Guarded.{GuardedView, with_waiting}

@@ -1,5 +1,5 @@
 use Rattle.std.specs.Prelude.{[]}
-use Rattle.std.proofs.Common.{subst, tt}
+use Rattle.std.proofs.Common.{subst}
 use Rattle.gl_c.specs.locks.Waiters.{late_call}
 use Rattle.gl_c.specs.managers.Carries.{Performs}
 use Rattle.gl_c.specs.managers.Guarded.{GuardedView}
