@@ -9,8 +9,12 @@ returns c =
     record {
       answer = c.try_row-tried.result;
       told = c.try_row-tried.new.told.items;
-      performs = subst (λ (g : GuardedView). Performs g (tried_row_call (record { txn = c.args.txn; row = c.args.row; keys = c.args.keys; mode = c.args.mode
-          })) c.try_row-tried.result c.try_row-tried.new.told.items
+      performs = subst (λ (g : GuardedView). Performs g (tried_row_call (record {
+        txn = c.args.txn;
+        row = c.args.row;
+        keys = c.args.keys;
+        mode = c.args.mode;
+      })) c.try_row-tried.result c.try_row-tried.new.told.items
           c.try_row-tried.new.self) c.self.view_is c.try_row-tried.ensures;
       replied = c.of_tried_row.ensures;
       tells = search rules;
