@@ -3,6 +3,7 @@ pub mod Awaiting
 pub mod Backs
 pub mod BeginQueues
 pub mod Beginning
+pub mod Commands
 pub mod Counting
 pub mod Delivered
 pub mod GoingOn

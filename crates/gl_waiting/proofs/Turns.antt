@@ -72,7 +72,7 @@ none_full v v' full h = by h.result h.answered h.begins
         cc (made.1, is)
 
 -- nor while nobody waits for a slot
-none_in_turn : (v v' : WaitingView) → IsInTurn v → HandsFirst v v' → ⊥
+pub none_in_turn : (v v' : WaitingView) → IsInTurn v → HandsFirst v v' → ⊥
 none_in_turn v v' (inl none) h = cc (ap (λ (q : List QueuedBegin). slice_get q 0) none, h.is_first)
 none_in_turn v v' (inr full) h = none_full v v' full h
 

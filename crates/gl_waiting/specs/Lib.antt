@@ -4,6 +4,7 @@ pub mod Delivering
 pub mod Ends
 pub mod Going
 pub mod Keys
+pub mod Laws
 pub mod Owned
 pub mod Paths
 pub mod RowLocks

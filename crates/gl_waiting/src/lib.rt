@@ -5,6 +5,7 @@
 mod begins;
 mod delivery;
 mod keys;
+pub mod laws;
 mod places;
 #[cfg(test)]
 mod row_tests;
