@@ -1,5 +1,5 @@
-//! A table that sessions share behind one latch, with watchers, over `left_right` and one history of
-//! snapshots.
+//! The table of crews, which alone use it: sessions share it behind one latch, with watchers, over
+//! `left_right` and one history of snapshots. Engines call the table of C.
 #![tactic(auto)]
 
 mod batch;
