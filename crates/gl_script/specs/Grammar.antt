@@ -4,7 +4,14 @@ use Rattle.std.specs.List.{slice_split}
 use Rattle.gl_modes.specs.declared.mode.Mode.{Mode}
 use Rattle.gl_modes.specs.Modes.{mode_text}
 use Rattle.gl_script.specs.declared.form.Language.{Language}
-use Rattle.gl_script.specs.declared.form.Version.TheVariants as version
+use Rattle.gl_script.specs.declared.verb.LockVerb.{LockVerb}
+use Rattle.gl_script.specs.declared.verb.NumberVerb.{NumberVerb}
+use Rattle.gl_script.specs.declared.verb.RemovalVerb.{RemovalVerb}
+use Rattle.gl_script.specs.declared.verb.RequestVerb.{RequestVerb}
+use Rattle.gl_script.specs.declared.verb.TxnVerb.{TxnVerb}
+use Rattle.gl_script.specs.declared.verb.Verb.{Verb}
+use Rattle.gl_script.specs.declared.verb.Verb.TheVariants as verb
+use Rattle.gl_script.specs.Words.{HasVerb, word}
 
 -- bytes
 abbrev pub Text : Type 0
@@ -15,35 +22,25 @@ pub data Node : Type 0 where
   Plain : (name : Text) → Node
   Interval : (index : Text) → (place : ℕ) → Node
 
--- the commands; the name that a line declares, and those of a transaction, a record, a file, an index and a dropped node, are plain
+-- the commands, by what follows the verb; the name that a line declares, and those of a transaction, a record, a file, an index and a dropped node, are plain
 pub data Command : Type 0 where
   Inner : (name : Text) → (parents : List Node) → Command
   File : (name : Text) → (parents : List Node) → Command
   Index : (name : Text) → (parents : List Node) → (file : Text) → (bounds : List ℕ) → Command
-  Begin : (txn : Text) → Command
-  Lock : (txn : Text) → (mode : Mode) → (node : Node) → Command
-  Try : (txn : Text) → (mode : Mode) → (node : Node) → Command
-  Unlock : (txn : Text) → (node : Node) → Command
-  Cancel : (txn : Text) → Command
-  Commit : (txn : Text) → Command
-  Abort : (txn : Text) → Command
-  Settle : (txn : Text) → Command
-  Insert : (txn : Text) → (name : Text) → (file : Text) → (keys : List ℕ) → Command
-  Delete : (txn : Text) → (rec : Text) → Command
-  Rekey : (txn : Text) → (rec : Text) → (index : Text) → (key : ℕ) → Command
-  Escalate : (txn : Text) → (node : Node) → Command
-  Move : (txn : Text) → (node : Node) → (parents : List Node) → Command
-  Group : (node : Node) → Command
-  Held : (txn : Text) → (node : Node) → Command
-  Effective : (txn : Text) → (node : Node) → Command
-  Drop : (txn : Text) → (node : Text) → Command
   IndexBy : (txn : Text) → (name : Text) → (parents : List Node) → (file : Text) → (bounds : List ℕ) → Command
-  Mark : (txn : Text) → Command
-  Release : (txn : Text) → (mark : ℕ) → Command
+  Begin : (txn : Text) → Command
+  BeginAgain : (txn : Text) → (since : ℕ) → Command
+  Insert : (txn : Text) → (name : Text) → (file : Text) → (keys : List ℕ) → Command
   Adopt : (name : Text) → (file : Text) → (keys : List ℕ) → Command
   Forget : (rec : Text) → Command
-  BeginAgain : (txn : Text) → (since : ℕ) → Command
-  Renew : (txn : Text) → (since : ℕ) → Command
+  Rekey : (txn : Text) → (rec : Text) → (index : Text) → (key : ℕ) → Command
+  Move : (txn : Text) → (node : Node) → (parents : List Node) → Command
+  Group : (node : Node) → Command
+  OfTxn : (verb : TxnVerb) → (txn : Text) → Command
+  OfLock : (verb : LockVerb) → (txn : Text) → (node : Node) → Command
+  OfRequest : (verb : RequestVerb) → (txn : Text) → (mode : Mode) → (node : Node) → Command
+  OfRemoval : (verb : RemovalVerb) → (txn : Text) → (node : Text) → Command
+  OfNumber : (verb : NumberVerb) → (txn : Text) → (number : ℕ) → Command
 
 -- the listings
 pub data Listing : Type 0 where
@@ -94,30 +91,20 @@ abbrev pub IsCommand : Command → Type 0
 IsCommand (Inner n ps) = IsName n × All IsNode ps
 IsCommand (File n ps) = IsName n × AreSomeNodes ps
 IsCommand (Index n ps f bs) = IsName n × AreSomeNodes ps × IsName f × All IsNumber bs
-IsCommand (Begin t) = IsName t
-IsCommand (Lock t m n) = IsName t × IsNode n
-IsCommand (Try t m n) = IsName t × IsNode n
-IsCommand (Unlock t n) = IsName t × IsNode n
-IsCommand (Cancel t) = IsName t
-IsCommand (Commit t) = IsName t
-IsCommand (Abort t) = IsName t
-IsCommand (Settle t) = IsName t
-IsCommand (Insert t r f ks) = IsName t × IsName r × IsName f × All IsNumber ks
-IsCommand (Delete t r) = IsName t × IsName r
-IsCommand (Rekey t r i k) = IsName t × IsName r × IsName i × IsNumber k
-IsCommand (Escalate t n) = IsName t × IsNode n
-IsCommand (Move t n ps) = IsName t × IsNode n × All IsNode ps
-IsCommand (Group n) = IsNode n
-IsCommand (Held t n) = IsName t × IsNode n
-IsCommand (Effective t n) = IsName t × IsNode n
-IsCommand (Drop t n) = IsName t × IsName n
 IsCommand (IndexBy t n ps f bs) = IsName t × IsName n × AreSomeNodes ps × IsName f × All IsNumber bs
-IsCommand (Mark t) = IsName t
-IsCommand (Release t k) = IsName t × IsNumber k
+IsCommand (Begin t) = IsName t
+IsCommand (BeginAgain t k) = IsName t × IsNumber k
+IsCommand (Insert t r f ks) = IsName t × IsName r × IsName f × All IsNumber ks
 IsCommand (Adopt r f ks) = IsName r × IsName f × All IsNumber ks
 IsCommand (Forget r) = IsName r
-IsCommand (BeginAgain t k) = IsName t × IsNumber k
-IsCommand (Renew t k) = IsName t × IsNumber k
+IsCommand (Rekey t r i k) = IsName t × IsName r × IsName i × IsNumber k
+IsCommand (Move t n ps) = IsName t × IsNode n × All IsNode ps
+IsCommand (Group n) = IsNode n
+IsCommand (OfTxn v t) = IsName t
+IsCommand (OfLock v t n) = IsName t × IsNode n
+IsCommand (OfRequest v t m n) = IsName t × IsNode n
+IsCommand (OfRemoval v t n) = IsName t × IsName n
+IsCommand (OfNumber v t k) = IsName t × IsNumber k
 
 -- the names and numbers of a listing are valid
 abbrev pub IsListing : Listing → Type 0
@@ -128,18 +115,31 @@ IsListing (Waits t) = IsName t
 IsListing Txns = Unit
 IsListing Cycle = Unit
 
--- no node moves in a script of version 1; schema changes, savepoints and the commands of a trace need a language that has them
+-- the verb of a command
+abbrev pub verb_of : Command → Verb
+verb_of (Inner n ps) = verb.Inner
+verb_of (File n ps) = verb.File
+verb_of (Index n ps f bs) = verb.Index
+verb_of (IndexBy t n ps f bs) = verb.Index
+verb_of (Begin t) = verb.Begin
+verb_of (BeginAgain t k) = verb.Begin
+verb_of (Insert t r f ks) = verb.Insert
+verb_of (Adopt r f ks) = verb.Adopt
+verb_of (Forget r) = verb.Forget
+verb_of (Rekey t r i k) = verb.Rekey
+verb_of (Move t n ps) = verb.Move
+verb_of (Group n) = verb.Group
+verb_of (OfTxn v t) = verb.OfTxn v
+verb_of (OfLock v t n) = verb.OfLock v
+verb_of (OfRequest v t m n) = verb.OfRequest v
+verb_of (OfRemoval v t n) = verb.OfRemoval v
+verb_of (OfNumber v t k) = verb.OfNumber v
+
+-- the language has the command: its verb, and for an index by a transaction schema changes, for work begun again a trace
 abbrev pub IsOfLanguage : Language → Command → Type 0
-IsOfLanguage l (Move t n ps) = l.version ≢ version.One
-IsOfLanguage l (Drop t n) = l.schema ≡ true
 IsOfLanguage l (IndexBy t n ps f bs) = l.schema ≡ true
-IsOfLanguage l (Mark t) = l.savepoints ≡ true
-IsOfLanguage l (Release t k) = l.savepoints ≡ true
-IsOfLanguage l (Adopt r f ks) = l.trace ≡ true
-IsOfLanguage l (Forget r) = l.trace ≡ true
 IsOfLanguage l (BeginAgain t k) = l.trace ≡ true
-IsOfLanguage l (Renew t k) = l.trace ≡ true
-IsOfLanguage l c = Unit
+IsOfLanguage l c = HasVerb l (verb_of c)
 
 -- the text of a node: its name, or the index, a dot and the interval's number
 abbrev pub node_text : Node → Text
@@ -151,35 +151,29 @@ abbrev pub parents : List Node → List Text
 parents [] = []
 parents (p ∷ ps) = codes ":" ∷ node_text p ∷ map node_text ps
 
+-- the fields after the verb
+abbrev pub parts : Command → List Text
+parts (Inner n ps) = n ∷ parents ps
+parts (File n ps) = n ∷ parents ps
+parts (Index n ps f bs) = n ∷ parents ps ++ codes "on" ∷ f ∷ codes "at" ∷ map decimal bs
+parts (IndexBy t n ps f bs) = t ∷ n ∷ parents ps ++ codes "on" ∷ f ∷ codes "at" ∷ map decimal bs
+parts (Begin t) = t ∷ []
+parts (BeginAgain t k) = t ∷ codes "again" ∷ decimal k ∷ []
+parts (Insert t r f ks) = t ∷ r ∷ f ∷ map decimal ks
+parts (Adopt r f ks) = r ∷ f ∷ map decimal ks
+parts (Forget r) = r ∷ []
+parts (Rekey t r i k) = t ∷ r ∷ i ∷ decimal k ∷ []
+parts (Move t n ps) = t ∷ node_text n ∷ parents ps
+parts (Group n) = node_text n ∷ []
+parts (OfTxn v t) = t ∷ []
+parts (OfLock v t n) = t ∷ node_text n ∷ []
+parts (OfRequest v t m n) = t ∷ mode_text m ∷ node_text n ∷ []
+parts (OfRemoval v t n) = t ∷ n ∷ []
+parts (OfNumber v t k) = t ∷ decimal k ∷ []
+
 -- the fields of a command's line
 abbrev pub fields : Command → List Text
-fields (Inner n ps) = codes "inner" ∷ n ∷ parents ps
-fields (File n ps) = codes "file" ∷ n ∷ parents ps
-fields (Index n ps f bs) = codes "index" ∷ n ∷ parents ps ++ codes "on" ∷ f ∷ codes "at" ∷ map decimal bs
-fields (Begin t) = codes "begin" ∷ t ∷ []
-fields (Lock t m n) = codes "lock" ∷ t ∷ mode_text m ∷ node_text n ∷ []
-fields (Try t m n) = codes "try" ∷ t ∷ mode_text m ∷ node_text n ∷ []
-fields (Unlock t n) = codes "unlock" ∷ t ∷ node_text n ∷ []
-fields (Cancel t) = codes "cancel" ∷ t ∷ []
-fields (Commit t) = codes "commit" ∷ t ∷ []
-fields (Abort t) = codes "abort" ∷ t ∷ []
-fields (Settle t) = codes "settle" ∷ t ∷ []
-fields (Insert t r f ks) = codes "insert" ∷ t ∷ r ∷ f ∷ map decimal ks
-fields (Delete t r) = codes "delete" ∷ t ∷ r ∷ []
-fields (Rekey t r i k) = codes "rekey" ∷ t ∷ r ∷ i ∷ decimal k ∷ []
-fields (Escalate t n) = codes "escalate" ∷ t ∷ node_text n ∷ []
-fields (Move t n ps) = codes "move" ∷ t ∷ node_text n ∷ parents ps
-fields (Group n) = codes "group" ∷ node_text n ∷ []
-fields (Held t n) = codes "held" ∷ t ∷ node_text n ∷ []
-fields (Effective t n) = codes "effective" ∷ t ∷ node_text n ∷ []
-fields (Drop t n) = codes "drop" ∷ t ∷ n ∷ []
-fields (IndexBy t n ps f bs) = codes "index" ∷ t ∷ n ∷ parents ps ++ codes "on" ∷ f ∷ codes "at" ∷ map decimal bs
-fields (Mark t) = codes "mark" ∷ t ∷ []
-fields (Release t k) = codes "release" ∷ t ∷ decimal k ∷ []
-fields (Adopt r f ks) = codes "adopt" ∷ r ∷ f ∷ map decimal ks
-fields (Forget r) = codes "forget" ∷ r ∷ []
-fields (BeginAgain t k) = codes "begin" ∷ t ∷ codes "again" ∷ decimal k ∷ []
-fields (Renew t k) = codes "renew" ∷ t ∷ decimal k ∷ []
+fields c = word (verb_of c) ∷ parts c
 
 -- the fields of a listing's line
 abbrev pub listing_fields : Listing → List Text
@@ -189,6 +183,10 @@ listing_fields (Locks t) = codes "locks" ∷ t ∷ []
 listing_fields (Waits t) = codes "waits" ∷ t ∷ []
 listing_fields Txns = codes "txns" ∷ []
 listing_fields Cycle = codes "cycle" ∷ []
+
+-- the command has this verb, and these fields after it
+abbrev pub SaysParts : Language → Verb → List Text → Command → Type 0
+SaysParts l verb rest command = (verb_of command ≡ verb) × IsCommand command × IsOfLanguage l command × (rest ≡ parts command)
 
 -- the fields are those of the command
 abbrev pub SaysFields : Language → List Text → Command → Type 0

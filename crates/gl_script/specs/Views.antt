@@ -29,30 +29,20 @@ abbrev pub command_of : Form → Lists → Command
 command_of (form.Inner n) lists = grammar.Inner n.items (nodes_of lists)
 command_of (form.File n) lists = grammar.File n.items (nodes_of lists)
 command_of (form.Index n f) lists = grammar.Index n.items (nodes_of lists) f.items lists.numbers.items
-command_of (form.Begin t) lists = grammar.Begin t.items
-command_of (form.Lock t m n) lists = grammar.Lock t.items m (node_of n)
-command_of (form.Try t m n) lists = grammar.Try t.items m (node_of n)
-command_of (form.Unlock t n) lists = grammar.Unlock t.items (node_of n)
-command_of (form.Cancel t) lists = grammar.Cancel t.items
-command_of (form.Commit t) lists = grammar.Commit t.items
-command_of (form.Abort t) lists = grammar.Abort t.items
-command_of (form.Settle t) lists = grammar.Settle t.items
-command_of (form.Insert t r f) lists = grammar.Insert t.items r.items f.items lists.numbers.items
-command_of (form.Delete t r) lists = grammar.Delete t.items r.items
-command_of (form.Rekey t r i k) lists = grammar.Rekey t.items r.items i.items k
-command_of (form.Escalate t n) lists = grammar.Escalate t.items (node_of n)
-command_of (form.Move t n) lists = grammar.Move t.items (node_of n) (nodes_of lists)
-command_of (form.Group n) lists = grammar.Group (node_of n)
-command_of (form.Held t n) lists = grammar.Held t.items (node_of n)
-command_of (form.Effective t n) lists = grammar.Effective t.items (node_of n)
-command_of (form.Drop t n) lists = grammar.Drop t.items n.items
 command_of (form.IndexBy t n f) lists = grammar.IndexBy t.items n.items (nodes_of lists) f.items lists.numbers.items
-command_of (form.Mark t) lists = grammar.Mark t.items
-command_of (form.Release t k) lists = grammar.Release t.items k
+command_of (form.Begin t) lists = grammar.Begin t.items
+command_of (form.BeginAgain t k) lists = grammar.BeginAgain t.items k
+command_of (form.Insert t r f) lists = grammar.Insert t.items r.items f.items lists.numbers.items
 command_of (form.Adopt r f) lists = grammar.Adopt r.items f.items lists.numbers.items
 command_of (form.Forget r) lists = grammar.Forget r.items
-command_of (form.BeginAgain t k) lists = grammar.BeginAgain t.items k
-command_of (form.Renew t k) lists = grammar.Renew t.items k
+command_of (form.Rekey t r i k) lists = grammar.Rekey t.items r.items i.items k
+command_of (form.Move t n) lists = grammar.Move t.items (node_of n) (nodes_of lists)
+command_of (form.Group n) lists = grammar.Group (node_of n)
+command_of (form.OfTxn v t) lists = grammar.OfTxn v t.items
+command_of (form.OfLock v t n) lists = grammar.OfLock v t.items (node_of n)
+command_of (form.OfRequest v t m n) lists = grammar.OfRequest v t.items m (node_of n)
+command_of (form.OfRemoval v t n) lists = grammar.OfRemoval v t.items n.items
+command_of (form.OfNumber v t k) lists = grammar.OfNumber v t.items k
 
 -- the listing of a value
 abbrev pub listing_of : Listing → grammar.Listing

@@ -18,3 +18,4 @@ pub use form::{Form, Language, Lists, Version};
 pub use line::{Line, one_command, parse};
 pub use listing::Listing;
 pub use reads::{Name, Used};
+pub use verb::{LockVerb, NumberVerb, RemovalVerb, RequestVerb, TxnVerb};
