@@ -2,8 +2,13 @@
 use Rattle.std.proofs.Common.{refl, sym}
 use Rattle.gl_steps.specs.declared.command.Command.{Command as Asked}
 use Rattle.gl_steps.specs.declared.command.Command.TheVariants as command
-use Rattle.gl_script.specs.Grammar.{Text, Inner, File, Index, Begin, Lock, Try, Unlock, Cancel, Commit, Abort, Settle, IsName}
-use Rattle.gl_script.specs.Grammar.{Insert, Delete, Rekey, Escalate, Move, Group, Held, Effective, Drop, IndexBy, Adopt, Forget, BeginAgain, Renew}
+use Rattle.gl_script.specs.declared.verb.LockVerb.TheVariants.{Unlock, Escalate, Held, Effective}
+use Rattle.gl_script.specs.declared.verb.NumberVerb.TheVariants.{Renew}
+use Rattle.gl_script.specs.declared.verb.RemovalVerb.TheVariants.{Delete, Drop}
+use Rattle.gl_script.specs.declared.verb.RequestVerb.TheVariants.{Lock, Try}
+use Rattle.gl_script.specs.declared.verb.TxnVerb.TheVariants.{Cancel, Commit, Abort, Settle}
+use Rattle.gl_script.specs.Grammar.{Text, Inner, File, Index, IndexBy, Begin, BeginAgain, Insert, Adopt, Forget, Rekey, Move, Group, IsName}
+use Rattle.gl_script.specs.Grammar.{OfTxn, OfLock, OfRequest, OfRemoval, OfNumber}
 use Rattle.gl_interpreter.specs.declared.request.Request.TheVariants as request
 use Rattle.gl_interpreter.specs.Script.{Script}
 use Rattle.gl_interpreter.specs.Sayable.{EachIsSaid, HasAllCommands, IsSaid, IsSayable}
@@ -18,28 +23,28 @@ each s name command.Begin all is p = (Begin name, is, tt, refl)
 each s name (command.BeginAgain since) all is p = (BeginAgain name since, (is, p), all.trace, refl)
 each s name (command.Lock t n m) all is p =
     let txn = sym p.0.2 in let node = sym p.1.2 in
-    (Lock p.0.0 m p.1.0, (p.0.1, p.1.1), tt, λ i. request.Apply (command.Lock (txn i) (node i) m))
+    (OfRequest Lock p.0.0 m p.1.0, (p.0.1, p.1.1), tt, λ i. request.Apply (command.Lock (txn i) (node i) m))
 each s name (command.Try t n m) all is p =
     let txn = sym p.0.2 in let node = sym p.1.2 in
-    (Try p.0.0 m p.1.0, (p.0.1, p.1.1), tt, λ i. request.Apply (command.Try (txn i) (node i) m))
+    (OfRequest Try p.0.0 m p.1.0, (p.0.1, p.1.1), tt, λ i. request.Apply (command.Try (txn i) (node i) m))
 each s name (command.Unlock t n) all is p =
     let txn = sym p.0.2 in let node = sym p.1.2 in
-    (Unlock p.0.0 p.1.0, (p.0.1, p.1.1), tt, λ i. request.Apply (command.Unlock (txn i) (node i)))
+    (OfLock Unlock p.0.0 p.1.0, (p.0.1, p.1.1), tt, λ i. request.Apply (command.Unlock (txn i) (node i)))
 each s name (command.Escalate t n) all is p =
     let txn = sym p.0.2 in let node = sym p.1.2 in
-    (Escalate p.0.0 p.1.0, (p.0.1, p.1.1), tt, λ i. request.Apply (command.Escalate (txn i) (node i)))
-each s name (command.Cancel t) all is p = let txn = sym p.2 in (Cancel p.0, p.1, tt, λ i. request.Apply (command.Cancel (txn i)))
-each s name (command.Commit t) all is p = let txn = sym p.2 in (Commit p.0, p.1, tt, λ i. request.Apply (command.Commit (txn i)))
+    (OfLock Escalate p.0.0 p.1.0, (p.0.1, p.1.1), tt, λ i. request.Apply (command.Escalate (txn i) (node i)))
+each s name (command.Cancel t) all is p = let txn = sym p.2 in (OfTxn Cancel p.0, p.1, tt, λ i. request.Apply (command.Cancel (txn i)))
+each s name (command.Commit t) all is p = let txn = sym p.2 in (OfTxn Commit p.0, p.1, tt, λ i. request.Apply (command.Commit (txn i)))
 each s name (command.Renew t since) all is p =
-    let txn = sym p.0.2 in (Renew p.0.0 since, (p.0.1, p.1), all.trace, λ i. request.Apply (command.Renew (txn i) since))
-each s name (command.Abort t) all is p = let txn = sym p.2 in (Abort p.0, p.1, tt, λ i. request.Apply (command.Abort (txn i)))
-each s name (command.Settle t) all is p = let txn = sym p.2 in (Settle p.0, p.1, tt, λ i. request.Apply (command.Settle (txn i)))
+    let txn = sym p.0.2 in (OfNumber Renew p.0.0 since, (p.0.1, p.1), all.trace, λ i. request.Apply (command.Renew (txn i) since))
+each s name (command.Abort t) all is p = let txn = sym p.2 in (OfTxn Abort p.0, p.1, tt, λ i. request.Apply (command.Abort (txn i)))
+each s name (command.Settle t) all is p = let txn = sym p.2 in (OfTxn Settle p.0, p.1, tt, λ i. request.Apply (command.Settle (txn i)))
 each s name (command.Insert t f keys) all is p =
     let txn = sym p.0.2 in let file = sym p.1.2 in
     (Insert p.0.0 name p.1.0 keys.now, (p.0.1, is, p.1.1, p.2), tt, (keys, refl, λ i. request.Apply (command.Insert (txn i) (file i) keys)))
 each s name (command.Delete t r) all is p =
     let txn = sym p.0.2 in let rec = sym p.1.2 in
-    (Delete p.0.0 p.1.0, (p.0.1, p.1.1), tt, λ i. request.Apply (command.Delete (txn i) (rec i)))
+    (OfRemoval Delete p.0.0 p.1.0, (p.0.1, p.1.1), tt, λ i. request.Apply (command.Delete (txn i) (rec i)))
 each s name (command.Rekey t r x key) all is p =
     let txn = sym p.0.2 in let rec = sym p.1.2 in let index = sym p.2.2 in
     (Rekey p.0.0 p.1.0 p.2.0 key, (p.0.1, p.1.1, p.2.1, p.3), tt, λ i. request.Apply (command.Rekey (txn i) (rec i) (index i) key))
@@ -49,17 +54,17 @@ each s name (command.Move t n ps) all is p =
 each s name (command.Group n) all is p = let node = sym p.2 in (Group p.0, p.1, tt, λ i. request.Apply (command.Group (node i)))
 each s name (command.Held t n) all is p =
     let txn = sym p.0.2 in let node = sym p.1.2 in
-    (Held p.0.0 p.1.0, (p.0.1, p.1.1), tt, λ i. request.Apply (command.Held (txn i) (node i)))
+    (OfLock Held p.0.0 p.1.0, (p.0.1, p.1.1), tt, λ i. request.Apply (command.Held (txn i) (node i)))
 each s name (command.Effective t n) all is p =
     let txn = sym p.0.2 in let node = sym p.1.2 in
-    (Effective p.0.0 p.1.0, (p.0.1, p.1.1), tt, λ i. request.Apply (command.Effective (txn i) (node i)))
+    (OfLock Effective p.0.0 p.1.0, (p.0.1, p.1.1), tt, λ i. request.Apply (command.Effective (txn i) (node i)))
 each s name (command.Adopt f keys) all is p =
     let file = sym p.0.2 in
     (Adopt name p.0.0 keys.now, (is, p.0.1, p.1), all.trace, (keys, refl, λ i. request.Apply (command.Adopt (file i) keys)))
 each s name (command.Forget r) all is p = let rec = sym p.2 in (Forget p.0, p.1, all.trace, λ i. request.Apply (command.Forget (rec i)))
 each s name (command.Drop t n) all is p =
     let txn = sym p.0.2 in let node = sym p.1.2 in
-    (Drop p.0.0 p.1.0, (p.0.1, p.1.1), all.schema, λ i. request.Apply (command.Drop (txn i) (node i)))
+    (OfRemoval Drop p.0.0 p.1.0, (p.0.1, p.1.1), all.schema, λ i. request.Apply (command.Drop (txn i) (node i)))
 each s name (command.IndexBy t ps f bs) all is p =
     let txn = sym p.0.2 in let file = sym p.2.2 in (
       IndexBy p.0.0 name p.1.0 p.2.0 bs.now,

@@ -9,7 +9,7 @@ use Rattle.gl_script.specs.Grammar.{Command}
 use Rattle.gl_interpreter.specs.declared.desk.Desk.{Desk}
 use Rattle.gl_interpreter.specs.declared.request.Said.{Said}
 use Rattle.gl_interpreter.specs.Rooms.{IsRoomed}
-use Rattle.gl_interpreter.specs.Script.{DoesWhere, HandedOn, RefusedHere, Script, declared, is_name}
+use Rattle.gl_interpreter.specs.Script.{DoesWhere, HandedOn, RefusedHere, Script, declares, does_to_names}
 use Rattle.gl_interpreter.specs.Views.{names_of, script_of}
 
 -- the script is the same if language, names and manager are
@@ -25,7 +25,7 @@ same_script x y names language manager =
 
 module _ (s : Script) (c : Command) (a : Said) (told : Told) (s' : Script) (taken : Bool) (room : Type 0) where
   -- there is no room for the name, or it is in use
-  pub does_refused : (r : Refusal) → IsRoomed taken room (Err r) → is_name (declared c) ≡ true → RefusedHere r s a told s' → DoesWhere taken s c a told s'
+  pub does_refused : (r : Refusal) → IsRoomed taken room (Err r) → declares (does_to_names c) ≡ true → RefusedHere r s a told s' → DoesWhere taken s c a told s'
   does_refused no.NameTaken is named h = subst (λ b. DoesWhere b s c a told s') (sym is) h
   does_refused no.NoMemory is named h = subst (λ b. DoesWhere b s c a told s') (sym is) (inr (named, h))
   does_refused _ is named h = absurd is

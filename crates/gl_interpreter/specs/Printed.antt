@@ -16,12 +16,11 @@ use Rattle.gl_model.specs.declared.txn.TxnId.{TxnId}
 use Rattle.gl_model.specs.Tellings.{Told}
 use Rattle.gl_steps.specs.declared.command.Answer.{Answer}
 use Rattle.gl_steps.specs.declared.command.Answer.TheVariants as answer
-use Rattle.gl_script.specs.Grammar.{Text, Node, Plain, Interval, Command, Inner, File, Index, Lock, Try, Unlock, Cancel, Commit, Abort, Settle}
-use Rattle.gl_script.specs.Grammar.{Insert, Delete, Rekey, Escalate, Move, Group, Held, Effective, Drop, IndexBy, Mark, Release, node_text}
-use Rattle.gl_script.specs.Grammar.{Adopt, Forget, Renew}
+use Rattle.gl_script.specs.Grammar.{Text, Node, Plain, Interval, Command, Inner, File, Index, IndexBy, Insert, Adopt, Forget, Rekey, Move, Group}
+use Rattle.gl_script.specs.Grammar.{OfTxn, OfLock, OfRequest, OfRemoval, OfNumber, node_text}
 use Rattle.gl_interpreter.specs.declared.request.Said.{Said}
 use Rattle.gl_interpreter.specs.declared.request.Said.TheVariants as said
-use Rattle.gl_interpreter.specs.Script.{Script, Declared, NodeName, TxnName, NextTxn, Nothing, declared, node_named}
+use Rattle.gl_interpreter.specs.Script.{Script, Naming, NodeName, TxnName, NextTxn, does_to_names, node_named}
 
 -- a dot, and the place of an interval
 abbrev pub place_text : Option ℕ → Text
@@ -42,44 +41,29 @@ abbrev pub used_nodes : Command → List Node
 used_nodes (Inner n ps) = ps
 used_nodes (File n ps) = ps
 used_nodes (Index n ps f bs) = ps ++ Plain f ∷ []
-used_nodes (Lock t m n) = n ∷ []
-used_nodes (Try t m n) = n ∷ []
-used_nodes (Unlock t n) = n ∷ []
-used_nodes (Insert t r f ks) = Plain f ∷ []
-used_nodes (Delete t r) = Plain r ∷ []
-used_nodes (Rekey t r i k) = Plain r ∷ Plain i ∷ []
-used_nodes (Escalate t n) = n ∷ []
-used_nodes (Move t n ps) = n ∷ ps
-used_nodes (Group n) = n ∷ []
-used_nodes (Held t n) = n ∷ []
-used_nodes (Effective t n) = n ∷ []
-used_nodes (Drop t n) = Plain n ∷ []
 used_nodes (IndexBy t n ps f bs) = ps ++ Plain f ∷ []
+used_nodes (Insert t r f ks) = Plain f ∷ []
 used_nodes (Adopt r f ks) = Plain f ∷ []
 used_nodes (Forget r) = Plain r ∷ []
+used_nodes (Rekey t r i k) = Plain r ∷ Plain i ∷ []
+used_nodes (Move t n ps) = n ∷ ps
+used_nodes (Group n) = n ∷ []
+used_nodes (OfLock v t n) = n ∷ []
+used_nodes (OfRequest v t m n) = n ∷ []
+used_nodes (OfRemoval v t n) = Plain n ∷ []
 used_nodes c = []
 
 -- the transaction that a line uses
 abbrev pub used_txn : Command → Text
-used_txn (Lock t m n) = t
-used_txn (Try t m n) = t
-used_txn (Unlock t n) = t
-used_txn (Cancel t) = t
-used_txn (Commit t) = t
-used_txn (Abort t) = t
-used_txn (Settle t) = t
-used_txn (Insert t r f ks) = t
-used_txn (Delete t r) = t
-used_txn (Rekey t r i k) = t
-used_txn (Escalate t n) = t
-used_txn (Move t n ps) = t
-used_txn (Held t n) = t
-used_txn (Effective t n) = t
-used_txn (Drop t n) = t
 used_txn (IndexBy t n ps f bs) = t
-used_txn (Mark t) = t
-used_txn (Release t k) = t
-used_txn (Renew t k) = t
+used_txn (Insert t r f ks) = t
+used_txn (Rekey t r i k) = t
+used_txn (Move t n ps) = t
+used_txn (OfTxn v t) = t
+used_txn (OfLock v t n) = t
+used_txn (OfRequest v t m n) = t
+used_txn (OfRemoval v t n) = t
+used_txn (OfNumber v t k) = t
 used_txn c = []
 
 -- a space, and the first of these nodes whose name is not in use
@@ -92,17 +76,17 @@ abbrev pub some_unused : Script → List Node → Bool
 some_unused s ns = list_any (λ n. is_none (node_named s n)) ns
 
 -- the name that a line declares
-abbrev pub declared_text : Declared → Text
+abbrev pub declared_text : Naming → Text
 declared_text (NodeName n) = n
 declared_text (TxnName t) = t
 declared_text (NextTxn t) = t
-declared_text Nothing = []
+declared_text n = []
 
 -- a space, and what a refusal names, if anything
 abbrev pub who_text : Script → Command → Refusal → Text
 who_text s c no.NoSuchNode = first_unused s (used_nodes c)
 who_text s c no.NoSuchTxn = 32 ∷ used_txn c
-who_text s c no.NameTaken = 32 ∷ declared_text (declared c)
+who_text s c no.NameTaken = 32 ∷ declared_text (does_to_names c)
 who_text s c (no.NeedParents n) = 32 ∷ called s n
 who_text s c (no.HeldChild n) = 32 ∷ called s n
 who_text s c (no.Cycle n) = 32 ∷ called s n

@@ -2,6 +2,7 @@
 use Rattle.std.specs.Prelude.{◌≡◌, ◌⊎◌, ℕ, Bool, true, false, List, [], length, map, Option, Some, None, is_some, unwrap_or, if◌then◌else◌}
 use Rattle.std.specs.Prelude.{IfOk, OnErr, Result, Ok, Err}
 use denote.Bor.{Bor}
+use Rattle.gl_modes.specs.declared.mode.Mode.{Mode}
 use Rattle.gl_modes.specs.declared.node.NodeId.{NodeId}
 use Rattle.gl_modes.specs.declared.refusal.Refusal.{Refusal}
 use Rattle.gl_modes.specs.declared.refusal.Refusal.TheVariants as no
@@ -27,9 +28,18 @@ use Rattle.gl_steps.specs.Step.{Step}
 use Rattle.gl_script.specs.declared.form.Language.{Language}
 use Rattle.gl_script.specs.declared.form.Version.{Version}
 use Rattle.gl_script.specs.declared.form.Version.TheVariants as version
-use Rattle.gl_script.specs.Grammar.{Text, Node, Plain, Interval, Command, Inner, File, Index, Begin, Lock, Try, Unlock, Cancel, Commit, Abort, Settle}
-use Rattle.gl_script.specs.Grammar.{Insert, Delete, Rekey, Escalate, Move, Group, Held, Effective, Drop, IndexBy, Mark, Release}
-use Rattle.gl_script.specs.Grammar.{Adopt, Forget, BeginAgain, Renew}
+use Rattle.gl_script.specs.declared.verb.LockVerb.{LockVerb}
+use Rattle.gl_script.specs.declared.verb.LockVerb.TheVariants.{Unlock, Escalate, Held, Effective}
+use Rattle.gl_script.specs.declared.verb.NumberVerb.{NumberVerb}
+use Rattle.gl_script.specs.declared.verb.NumberVerb.TheVariants.{Release, Renew}
+use Rattle.gl_script.specs.declared.verb.RemovalVerb.{RemovalVerb}
+use Rattle.gl_script.specs.declared.verb.RemovalVerb.TheVariants.{Delete, Drop}
+use Rattle.gl_script.specs.declared.verb.RequestVerb.{RequestVerb}
+use Rattle.gl_script.specs.declared.verb.RequestVerb.TheVariants.{Lock, Try}
+use Rattle.gl_script.specs.declared.verb.TxnVerb.{TxnVerb}
+use Rattle.gl_script.specs.declared.verb.TxnVerb.TheVariants.{Cancel, Commit, Abort, Settle, Mark}
+use Rattle.gl_script.specs.Grammar.{Text, Node, Plain, Interval, Command, Inner, File, Index, IndexBy, Begin, BeginAgain, Insert, Adopt, Forget, Rekey, Move}
+use Rattle.gl_script.specs.Grammar.{Group, OfTxn, OfLock, OfRequest, OfRemoval, OfNumber}
 use Rattle.gl_interpreter.specs.declared.request.Request.{Request}
 use Rattle.gl_interpreter.specs.declared.request.Request.TheVariants as request
 use Rattle.gl_interpreter.specs.declared.request.Said.{Said}
@@ -91,97 +101,106 @@ plain_id names n = unwrap_or (names.node n) (record { key = 0; birth = 0 })
 abbrev pub txn_id : Names → Text → TxnId
 txn_id names t = unwrap_or (names.txn t) (record { slot = 0; age = 0 })
 
+-- the request about a transaction
+abbrev pub of_txn : TxnVerb → TxnId → Request
+of_txn Cancel t = request.Apply (command.Cancel t)
+of_txn Commit t = request.Apply (command.Commit t)
+of_txn Abort t = request.Apply (command.Abort t)
+of_txn Settle t = request.Apply (command.Settle t)
+of_txn Mark t = request.Mark t
+
+-- the command about the lock of a transaction on a node
+abbrev pub of_lock : LockVerb → TxnId → NodeId → Asked
+of_lock Unlock t n = command.Unlock t n
+of_lock Escalate t n = command.Escalate t n
+of_lock Held t n = command.Held t n
+of_lock Effective t n = command.Effective t n
+
+-- the command that requests a lock
+abbrev pub of_request : RequestVerb → TxnId → NodeId → Mode → Asked
+of_request Lock t n m = command.Lock t n m
+of_request Try t n m = command.Try t n m
+
+-- the command that removes a node
+abbrev pub of_removal : RemovalVerb → TxnId → NodeId → Asked
+of_removal Delete t n = command.Delete t n
+of_removal Drop t n = command.Drop t n
+
+-- the request with a number: a savepoint, or the age of the transaction that began the work
+abbrev pub of_number : NumberVerb → TxnId → ℕ → Request
+of_number Release t mark = request.Release t mark
+of_number Renew t since = request.Apply (command.Renew t since)
+
 -- the request to the manager: the same, with ids for names
 abbrev pub Asks : Script → Command → Request → Type 0
 Asks s (Inner n ps) k = (xs : Bor (List NodeId)) × (xs.now ≡ node_ids s ps) × (k ≡ request.Apply (command.Inner xs))
 Asks s (File n ps) k = (xs : Bor (List NodeId)) × (xs.now ≡ node_ids s ps) × (k ≡ request.Apply (command.File xs))
 Asks s (Index n ps f bs) k =
     (xs : Bor (List NodeId)) × (xs.now ≡ node_ids s ps) × ((ys : Bor (List ℕ)) × (ys.now ≡ bs) × (k ≡ request.Apply (command.Index xs (plain_id s.names f) ys)))
-Asks s (Begin t) k = k ≡ request.Apply command.Begin
-Asks s (Lock t m n) k = k ≡ request.Apply (command.Lock (txn_id s.names t) (node_id s n) m)
-Asks s (Try t m n) k = k ≡ request.Apply (command.Try (txn_id s.names t) (node_id s n) m)
-Asks s (Unlock t n) k = k ≡ request.Apply (command.Unlock (txn_id s.names t) (node_id s n))
-Asks s (Cancel t) k = k ≡ request.Apply (command.Cancel (txn_id s.names t))
-Asks s (Commit t) k = k ≡ request.Apply (command.Commit (txn_id s.names t))
-Asks s (Abort t) k = k ≡ request.Apply (command.Abort (txn_id s.names t))
-Asks s (Settle t) k = k ≡ request.Apply (command.Settle (txn_id s.names t))
-Asks s (Insert t r f ks) k = (ys : Bor (List ℕ)) × (ys.now ≡ ks) × (k ≡ request.Apply (command.Insert (txn_id s.names t) (plain_id s.names f) ys))
-Asks s (Delete t r) k = k ≡ request.Apply (command.Delete (txn_id s.names t) (plain_id s.names r))
-Asks s (Rekey t r i key) k = k ≡ request.Apply (command.Rekey (txn_id s.names t) (plain_id s.names r) (plain_id s.names i) key)
-Asks s (Escalate t n) k = k ≡ request.Apply (command.Escalate (txn_id s.names t) (node_id s n))
-Asks s (Move t n ps) k = (xs : Bor (List NodeId)) × (xs.now ≡ node_ids s ps) × (k ≡ request.Apply (command.Move (txn_id s.names t) (node_id s n) xs))
-Asks s (Group n) k = k ≡ request.Apply (command.Group (node_id s n))
-Asks s (Held t n) k = k ≡ request.Apply (command.Held (txn_id s.names t) (node_id s n))
-Asks s (Effective t n) k = k ≡ request.Apply (command.Effective (txn_id s.names t) (node_id s n))
-Asks s (Drop t n) k = k ≡ request.Apply (command.Drop (txn_id s.names t) (plain_id s.names n))
 Asks s (IndexBy t n ps f bs) k =
     (xs : Bor (List NodeId)) × (xs.now ≡ node_ids s ps)
     × ((ys : Bor (List ℕ)) × (ys.now ≡ bs) × (k ≡ request.Apply (command.IndexBy (txn_id s.names t) xs (plain_id s.names f) ys)))
-Asks s (Mark t) k = k ≡ request.Mark (txn_id s.names t)
-Asks s (Release t mark) k = k ≡ request.Release (txn_id s.names t) mark
+Asks s (Begin t) k = k ≡ request.Apply command.Begin
+Asks s (BeginAgain t since) k = k ≡ request.Apply (command.BeginAgain since)
+Asks s (Insert t r f ks) k = (ys : Bor (List ℕ)) × (ys.now ≡ ks) × (k ≡ request.Apply (command.Insert (txn_id s.names t) (plain_id s.names f) ys))
 Asks s (Adopt r f ks) k = (ys : Bor (List ℕ)) × (ys.now ≡ ks) × (k ≡ request.Apply (command.Adopt (plain_id s.names f) ys))
 Asks s (Forget r) k = k ≡ request.Apply (command.Forget (plain_id s.names r))
-Asks s (BeginAgain t since) k = k ≡ request.Apply (command.BeginAgain since)
-Asks s (Renew t since) k = k ≡ request.Apply (command.Renew (txn_id s.names t) since)
+Asks s (Rekey t r i key) k = k ≡ request.Apply (command.Rekey (txn_id s.names t) (plain_id s.names r) (plain_id s.names i) key)
+Asks s (Move t n ps) k = (xs : Bor (List NodeId)) × (xs.now ≡ node_ids s ps) × (k ≡ request.Apply (command.Move (txn_id s.names t) (node_id s n) xs))
+Asks s (Group n) k = k ≡ request.Apply (command.Group (node_id s n))
+Asks s (OfTxn v t) k = k ≡ of_txn v (txn_id s.names t)
+Asks s (OfLock v t n) k = k ≡ request.Apply (of_lock v (txn_id s.names t) (node_id s n))
+Asks s (OfRequest v t m n) k = k ≡ request.Apply (of_request v (txn_id s.names t) (node_id s n) m)
+Asks s (OfRemoval v t n) k = k ≡ request.Apply (of_removal v (txn_id s.names t) (plain_id s.names n))
+Asks s (OfNumber v t number) k = k ≡ of_number v (txn_id s.names t) number
 
--- what a line declares: the name of a node, that of a transaction, the name of a transaction for the next, or nothing
-pub data Declared : Type 0 where
-  NodeName : (name : Text) → Declared
-  TxnName : (name : Text) → Declared
-  NextTxn : (name : Text) → Declared
-  Nothing : Declared
+-- what a command does to names: it declares that of a node or of a transaction, passes a transaction's to the next, or frees that of a transaction that ends or
+-- of a node that is removed; or nothing
+pub data Naming : Type 0 where
+  NodeName : (name : Text) → Naming
+  TxnName : (name : Text) → Naming
+  NextTxn : (name : Text) → Naming
+  EndedTxn : (name : Text) → Naming
+  RemovedNode : (name : Text) → Naming
+  Nothing : Naming
 
-abbrev pub declared : Command → Declared
-declared (Inner n ps) = NodeName n
-declared (File n ps) = NodeName n
-declared (Index n ps f bs) = NodeName n
-declared (IndexBy t n ps f bs) = NodeName n
-declared (Insert t r f ks) = NodeName r
-declared (Begin t) = TxnName t
-declared (BeginAgain t k) = TxnName t
-declared (Renew t k) = NextTxn t
-declared (Adopt r f ks) = NodeName r
-declared c = Nothing
+abbrev pub does_to_names : Command → Naming
+does_to_names (Inner n ps) = NodeName n
+does_to_names (File n ps) = NodeName n
+does_to_names (Index n ps f bs) = NodeName n
+does_to_names (IndexBy t n ps f bs) = NodeName n
+does_to_names (Insert t r f ks) = NodeName r
+does_to_names (Adopt r f ks) = NodeName r
+does_to_names (Begin t) = TxnName t
+does_to_names (BeginAgain t k) = TxnName t
+does_to_names (OfNumber Renew t k) = NextTxn t
+does_to_names (OfTxn Commit t) = EndedTxn t
+does_to_names (OfTxn Abort t) = EndedTxn t
+does_to_names (OfRemoval v t n) = RemovedNode n
+does_to_names (Forget r) = RemovedNode r
+does_to_names c = Nothing
 
 -- the name is in use, and so cannot be declared; that of a transaction passes to the next
-abbrev pub is_in_use : Names → Declared → Bool
+abbrev pub is_in_use : Names → Naming → Bool
 is_in_use names (NodeName n) = is_some (names.node n)
 is_in_use names (TxnName t) = is_some (names.txn t)
-is_in_use names (NextTxn t) = false
-is_in_use names Nothing = false
+is_in_use names n = false
 
--- this is a name
-abbrev pub is_name : Declared → Bool
-is_name (NodeName n) = true
-is_name (TxnName t) = true
-is_name (NextTxn t) = true
-is_name Nothing = false
+-- a name is declared, or passes to the next transaction
+abbrev pub declares : Naming → Bool
+declares (NodeName n) = true
+declares (TxnName t) = true
+declares (NextTxn t) = true
+declares n = false
 
--- the names after a node or a transaction was made as the line declares
-abbrev pub named_as : Names → Declared → Answer → Names
-named_as names (NodeName n) (answer.Node x) = with_node names n x
-named_as names (TxnName t) (answer.Begun x) = with_txn names t x
-named_as names (NextTxn t) (answer.Begun x) = with_txn (without_txn names t (txn_id names t)) t x
-named_as names d a = names
-
--- the names after a transaction ended
-abbrev pub without_ended : Names → Text → Answer → Names
-without_ended names t answer.Done = without_txn names t (txn_id names t)
-without_ended names t a = names
-
--- the names after a node was removed
-abbrev pub without_deleted : Names → Text → Answer → Names
-without_deleted names r answer.Done = without_node names r (plain_id names r)
-without_deleted names r a = names
-
--- the names after a command
-abbrev pub renamed : Names → Command → Answer → Names
-renamed names (Commit t) a = without_ended names t a
-renamed names (Abort t) a = without_ended names t a
-renamed names (Delete t r) a = without_deleted names r a
-renamed names (Drop t n) a = without_deleted names n a
-renamed names (Forget r) a = without_deleted names r a
-renamed names c a = named_as names (declared c) a
+-- the names after the manager's answer
+abbrev pub renamed : Names → Naming → Answer → Names
+renamed names (NodeName n) (answer.Node x) = with_node names n x
+renamed names (TxnName t) (answer.Begun x) = with_txn names t x
+renamed names (NextTxn t) (answer.Begun x) = with_txn (without_txn names t (txn_id names t)) t x
+renamed names (EndedTxn t) answer.Done = without_txn names t (txn_id names t)
+renamed names (RemovedNode n) answer.Done = without_node names n (plain_id names n)
+renamed names n a = names
 
 -- the manager's step; the orders are unchanged if it is not counted, and no lock that stays moves to a later place
 pub record Steps (s : Script) (c : Command) (asked : Asked) (a : Said) (told : Told) (s' : Script) : Type 0 where
@@ -191,7 +210,7 @@ pub record Steps (s : Script) (c : Command) (asked : Asked) (a : Said) (told : T
   pub deadlock : KeptBy asked s.locks s.deadlock given s'.locks s'.deadlock
   pub orders : s'.locks.accepted ≡ s.locks.accepted → s'.orders ≡ s.orders
   pub places : (t : ℕ) → KeepsPlaces (s.orders t) (s'.orders t)
-  pub names : s'.names ≡ renamed s.names c given
+  pub names : s'.names ≡ renamed s.names (does_to_names c) given
 
 -- the manager has the locks of the script, its last deadlock and its orders; so each order has exactly the nodes that its slot holds or waits for, each once
 pub record StandsFor (m : ManagerView) (s : Script) : Type 0 where
@@ -256,8 +275,8 @@ pub record RefusedHere (r : Refusal) (s : Script) (a : Said) (told : Told) (s' :
 -- a name that is in use cannot be declared again; without memory for what is declared, the command is not passed on either
 abbrev pub DoesWhere : Bool → Script → Command → Said → Told → Script → Type 0
 DoesWhere true s c a told s' = RefusedHere no.NameTaken s a told s'
-DoesWhere false s c a told s' = HandedOn s c a told s' ⊎ ((is_name (declared c) ≡ true) × RefusedHere no.NoMemory s a told s')
+DoesWhere false s c a told s' = HandedOn s c a told s' ⊎ ((declares (does_to_names c) ≡ true) × RefusedHere no.NoMemory s a told s')
 
 -- the effect of a command of the script
 abbrev pub Does : Script → Command → Said → Told → Script → Type 0
-Does s c a told s' = DoesWhere (is_in_use s.names (declared c)) s c a told s'
+Does s c a told s' = DoesWhere (is_in_use s.names (does_to_names c)) s c a told s'

@@ -8,9 +8,11 @@ use Rattle.gl_table.specs.Table.{nodes_of}
 use Rattle.gl_catalog.specs.Manager.{state_of}
 use Rattle.gl_script.specs.Grammar.{Text}
 use Rattle.gl_interpreter.specs.declared.desk.Desk.{Desk}
+use Rattle.gl_interpreter.specs.declared.naming.Naming.{Naming as CodeNaming}
+use Rattle.gl_interpreter.specs.declared.naming.Naming.TheVariants as naming
 use Rattle.gl_interpreter.specs.declared.register.Register.{Register}
 use Rattle.gl_interpreter.specs.Names.{Names, same_txn}
-use Rattle.gl_interpreter.specs.Script.{Script}
+use Rattle.gl_interpreter.specs.Script.{Script, Naming, NodeName, TxnName, NextTxn, EndedTxn, RemovedNode, Nothing}
 
 -- names are equal if their bytes are
 abbrev pub same_name : ArrayVec ℕ → ArrayVec ℕ → Bool
@@ -42,6 +44,15 @@ names_of desk =
       txn = id_in desk.txns;
       txn_name = name_in same_txn desk.txns;
     }
+
+-- what is done to names
+abbrev pub naming_of : CodeNaming → Naming
+naming_of (naming.Node n) = NodeName n.now.items
+naming_of (naming.Txn t) = TxnName t.now.items
+naming_of (naming.NextTxn t) = NextTxn t.now.items
+naming_of (naming.EndedTxn t) = EndedTxn t.now.items
+naming_of (naming.RemovedNode n) = RemovedNode n.now.items
+naming_of naming.Nothing = Nothing
 
 -- the script of a desk
 abbrev pub script_of : Desk → Script

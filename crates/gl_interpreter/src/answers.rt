@@ -23,10 +23,11 @@ ghost use Rattle.gl_interpreter.specs.Printed.{
   used_txn,
   who_text,
 };
-ghost use Rattle.gl_interpreter.specs.Script.{declared, node_named};
-ghost use Rattle.gl_interpreter.specs.Views.{script_of};
+ghost use Rattle.gl_interpreter.specs.Script.{node_named};
+ghost use Rattle.gl_interpreter.specs.Views.{naming_of, script_of};
 
 use crate::desk::Desk;
+use crate::naming::{Naming, does_to_names};
 use crate::request::Said;
 use crate::sink::{Sink, put};
 use gl_catalog::{Answer, Escalated};
@@ -201,7 +202,7 @@ fn put_who<W: Write>(
     match refusal {
         Refusal::NoSuchNode => put_first_unused(sink, writer, desk, form, lists),
         Refusal::NoSuchTxn => put_name(sink, writer, txn_name(form)),
-        Refusal::NameTaken => put_name(sink, writer, declared_name(form)),
+        Refusal::NameTaken => put_name(sink, writer, declared_name(does_to_names(form))),
         Refusal::NeedParents { node } => put_called(sink, writer, desk, node),
         Refusal::HeldChild { node } => put_called(sink, writer, desk, node),
         Refusal::Cycle { node } => put_called(sink, writer, desk, node),
@@ -214,43 +215,27 @@ fn txn_name(form: &Form) -> &[u8]
     ensures { (lists : TheLists) → result.now ≡ used_txn (command_of form.entry.now lists) }
 {
     match form {
-        Form::Lock { txn, .. } => txn.as_slice(),
-        Form::Try { txn, .. } => txn.as_slice(),
-        Form::Unlock { txn, .. } => txn.as_slice(),
-        Form::Cancel { txn } => txn.as_slice(),
-        Form::Commit { txn } => txn.as_slice(),
-        Form::Abort { txn } => txn.as_slice(),
-        Form::Settle { txn } => txn.as_slice(),
-        Form::Insert { txn, .. } => txn.as_slice(),
-        Form::Delete { txn, .. } => txn.as_slice(),
-        Form::Rekey { txn, .. } => txn.as_slice(),
-        Form::Escalate { txn, .. } => txn.as_slice(),
-        Form::Move { txn, .. } => txn.as_slice(),
-        Form::Held { txn, .. } => txn.as_slice(),
-        Form::Effective { txn, .. } => txn.as_slice(),
-        Form::Drop { txn, .. } => txn.as_slice(),
         Form::IndexBy { txn, .. } => txn.as_slice(),
-        Form::Mark { txn } => txn.as_slice(),
-        Form::Release { txn, .. } => txn.as_slice(),
-        Form::Renew { txn, .. } => txn.as_slice(),
+        Form::Insert { txn, .. } => txn.as_slice(),
+        Form::Rekey { txn, .. } => txn.as_slice(),
+        Form::Move { txn, .. } => txn.as_slice(),
+        Form::OfTxn { txn, .. } => txn.as_slice(),
+        Form::OfLock { txn, .. } => txn.as_slice(),
+        Form::OfRequest { txn, .. } => txn.as_slice(),
+        Form::OfRemoval { txn, .. } => txn.as_slice(),
+        Form::OfNumber { txn, .. } => txn.as_slice(),
         _ => &[],
     }
 }
 
 /// The name that a line declares, empty if it declares none.
-fn declared_name(form: &Form) -> &[u8]
-    ensures { (lists : TheLists) → result.now ≡ declared_text (declared (command_of form.entry.now lists)) }
+fn declared_name<'a>(naming: Naming<'a>) -> &'a [u8]
+    ensures { result.now ≡ declared_text (naming_of naming) }
 {
-    match form {
-        Form::Inner { name } => name.as_slice(),
-        Form::File { name } => name.as_slice(),
-        Form::Index { name, .. } => name.as_slice(),
-        Form::IndexBy { name, .. } => name.as_slice(),
-        Form::Insert { name, .. } => name.as_slice(),
-        Form::Adopt { name, .. } => name.as_slice(),
-        Form::Begin { txn } => txn.as_slice(),
-        Form::BeginAgain { txn, .. } => txn.as_slice(),
-        Form::Renew { txn, .. } => txn.as_slice(),
+    match naming {
+        Naming::Node(name) => name.as_slice(),
+        Naming::Txn(name) => name.as_slice(),
+        Naming::NextTxn(name) => name.as_slice(),
         _ => &[],
     }
 }
@@ -285,36 +270,22 @@ fn put_first_unused<W: Write>(
         Form::Insert { file, .. } => {
             put_unused_name(sink, writer, desk, file);
         }
-        Form::Delete { rec, .. } => {
-            put_unused_name(sink, writer, desk, rec);
-        }
-        Form::Drop { node, .. } => {
-            put_unused_name(sink, writer, desk, node);
-        }
         Form::Adopt { file, .. } => {
             put_unused_name(sink, writer, desk, file);
         }
         Form::Forget { rec } => {
             put_unused_name(sink, writer, desk, rec);
         }
-        Form::Lock { node, .. }
-        | Form::Try { node, .. }
-        | Form::Unlock { node, .. }
-        | Form::Escalate { node, .. }
-        | Form::Group { node }
-        | Form::Held { node, .. }
-        | Form::Effective { node, .. } => {
+        Form::OfRemoval { node, .. } => {
+            put_unused_name(sink, writer, desk, node);
+        }
+        Form::Group { node } | Form::OfLock { node, .. } | Form::OfRequest { node, .. } => {
             put_unused(sink, writer, desk, node);
         }
         Form::Begin { .. } => {}
-        Form::Cancel { .. } => {}
-        Form::Commit { .. } => {}
-        Form::Abort { .. } => {}
-        Form::Settle { .. } => {}
-        Form::Mark { .. } => {}
-        Form::Release { .. } => {}
         Form::BeginAgain { .. } => {}
-        Form::Renew { .. } => {}
+        Form::OfTxn { .. } => {}
+        Form::OfNumber { .. } => {}
     }
 }
 

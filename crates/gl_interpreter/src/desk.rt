@@ -4,31 +4,29 @@ ghost use Rattle.std.specs.Prelude.{◌≡◌, [], false, is_some};
 ghost use Rattle.gl_graph.specs.Graph.{first_parent, shape_of};
 ghost use Rattle.gl_graph.specs.Shapes.{place_in};
 ghost use Rattle.gl_script.specs.Views.{command_of, node_of, nodes_of};
-ghost use Rattle.gl_script.specs.declared.form.Lists.{Lists as TheLists};
 ghost use Rattle.gl_interpreter.specs.Names.{no_names};
 ghost use Rattle.gl_interpreter.specs.Rows.{name_at};
 ghost use Rattle.gl_interpreter.specs.Rooms.{HasRoomFor, IsRoomed, MakesRoom, MakesRoomIn};
 ghost use Rattle.gl_interpreter.specs.Script.{
   Asks,
   Does,
+  EndedTxn,
   NextTxn,
   NodeName,
+  RemovedNode,
   TxnName,
-  declared,
-  named_as,
   node_id,
   node_ids,
   node_named,
   plain_id,
   renamed,
   txn_id,
-  without_deleted,
-  without_ended,
 };
-ghost use Rattle.gl_interpreter.specs.Views.{HasRoom, id_in, name_in, names_of, script_of};
+ghost use Rattle.gl_interpreter.specs.Views.{HasRoom, id_in, name_in, names_of, naming_of, script_of};
 
+use crate::naming::{Naming, does_to_names};
 use crate::register::Register;
-use crate::request::{Request, Said};
+use crate::request::{Request, Said, of_lock, of_number, of_removal, of_request, of_txn};
 use arrayvec::ArrayVec;
 use gl_catalog::{Answer, Command, Manager};
 use gl_modes::{NodeId, Refusal};
@@ -86,14 +84,15 @@ impl Desk {
         requires empty { told.old.items ≡ [] }
         ensures does { Does (script_of self.old) (command_of form.now lists.now) result told.new.items (script_of self.new) }
     {
-        if let Err(refusal) = self.make_room(form) {
+        let naming = does_to_names(form);
+        if let Err(refusal) = self.make_room(naming) {
             return Said::Answer(Answer::Refused(refusal));
         }
         self.resolve(lists, ids);
         match self.request(form, lists, ids.as_slice()) {
             Request::Apply(command) => {
                 let answer = self.manager.apply_telling(command, told);
-                self.rename(form, answer);
+                self.rename(naming, answer);
                 Said::Answer(answer)
             }
             Request::Mark(txn) => self.mark(txn),
@@ -103,23 +102,17 @@ impl Desk {
 
     /// Whether the name that a line declares is free, or that of the transaction that it renews, and
     /// there is room for it.
-    fn make_room(&mut self, form: &Form) -> Result<(), Refusal>
+    fn make_room(&mut self, naming: Naming<'_>) -> Result<(), Refusal>
         ensures names { names_of self.new ≡ names_of self.old }
         ensures language { self.new.language ≡ self.old.language }
         ensures manager { self.new.manager ≡ self.old.manager }
-        ensures room { (lists : TheLists) → MakesRoom (names_of self.old) (declared (command_of form.now lists)) self.new result }
+        ensures room { MakesRoom (names_of self.old) (naming_of naming) self.new result }
     {
-        match form {
-            Form::Inner { name } => room_for(&mut self.nodes, name),
-            Form::File { name } => room_for(&mut self.nodes, name),
-            Form::Index { name, .. } => room_for(&mut self.nodes, name),
-            Form::IndexBy { name, .. } => room_for(&mut self.nodes, name),
-            Form::Insert { name, .. } => room_for(&mut self.nodes, name),
-            Form::Adopt { name, .. } => room_for(&mut self.nodes, name),
-            Form::Begin { txn } => room_for(&mut self.txns, txn),
-            Form::BeginAgain { txn, .. } => room_for(&mut self.txns, txn),
-            Form::Renew { .. } => room_in(&mut self.txns),
-            _ => Ok(()),
+        match naming {
+            Naming::Node(name) => room_for(&mut self.nodes, name),
+            Naming::Txn(name) => room_for(&mut self.txns, name),
+            Naming::NextTxn(_) => room_in(&mut self.txns),
+            Naming::EndedTxn(_) | Naming::RemovedNode(_) | Naming::Nothing => Ok(()),
         }
     }
 
@@ -147,43 +140,26 @@ impl Desk {
                 file: self.plain_id(file),
                 bounds: numbers,
             }),
+            Form::IndexBy { txn, file, .. } => Request::Apply(Command::IndexBy {
+                txn: self.txn_id(txn),
+                parents: ids,
+                file: self.plain_id(file),
+                bounds: numbers,
+            }),
             Form::Begin { .. } => Request::Apply(Command::Begin),
             Form::BeginAgain { since, .. } => {
                 Request::Apply(Command::BeginAgain { since: *since })
             }
-            Form::Lock { txn, mode, node } => Request::Apply(Command::Lock {
-                txn: self.txn_id(txn),
-                node: self.node_id(node),
-                mode: *mode,
-            }),
-            Form::Try { txn, mode, node } => Request::Apply(Command::Try {
-                txn: self.txn_id(txn),
-                node: self.node_id(node),
-                mode: *mode,
-            }),
-            Form::Unlock { txn, node } => Request::Apply(Command::Unlock {
-                txn: self.txn_id(txn),
-                node: self.node_id(node),
-            }),
-            Form::Cancel { txn } => Request::Apply(Command::Cancel {
-                txn: self.txn_id(txn),
-            }),
-            Form::Commit { txn } => Request::Apply(Command::Commit {
-                txn: self.txn_id(txn),
-            }),
-            Form::Abort { txn } => Request::Apply(Command::Abort {
-                txn: self.txn_id(txn),
-            }),
-            Form::Settle { txn } => Request::Apply(Command::Settle {
-                txn: self.txn_id(txn),
-            }),
             Form::Insert { txn, file, .. } => Request::Apply(Command::Insert {
                 txn: self.txn_id(txn),
                 file: self.plain_id(file),
                 keys: numbers,
             }),
-            Form::Delete { txn, rec } => Request::Apply(Command::Delete {
-                txn: self.txn_id(txn),
+            Form::Adopt { file, .. } => Request::Apply(Command::Adopt {
+                file: self.plain_id(file),
+                keys: numbers,
+            }),
+            Form::Forget { rec } => Request::Apply(Command::Forget {
                 rec: self.plain_id(rec),
             }),
             Form::Rekey {
@@ -197,10 +173,6 @@ impl Desk {
                 index: self.plain_id(index),
                 key: *key,
             }),
-            Form::Escalate { txn, node } => Request::Apply(Command::Escalate {
-                txn: self.txn_id(txn),
-                node: self.node_id(node),
-            }),
             Form::Move { txn, node } => Request::Apply(Command::Move {
                 txn: self.txn_id(txn),
                 node: self.node_id(node),
@@ -209,71 +181,45 @@ impl Desk {
             Form::Group { node } => Request::Apply(Command::Group {
                 node: self.node_id(node),
             }),
-            Form::Held { txn, node } => Request::Apply(Command::Held {
-                txn: self.txn_id(txn),
-                node: self.node_id(node),
-            }),
-            Form::Effective { txn, node } => Request::Apply(Command::Effective {
-                txn: self.txn_id(txn),
-                node: self.node_id(node),
-            }),
-            Form::Drop { txn, node } => Request::Apply(Command::Drop {
-                txn: self.txn_id(txn),
-                node: self.plain_id(node),
-            }),
-            Form::IndexBy { txn, file, .. } => Request::Apply(Command::IndexBy {
-                txn: self.txn_id(txn),
-                parents: ids,
-                file: self.plain_id(file),
-                bounds: numbers,
-            }),
-            Form::Adopt { file, .. } => Request::Apply(Command::Adopt {
-                file: self.plain_id(file),
-                keys: numbers,
-            }),
-            Form::Forget { rec } => Request::Apply(Command::Forget {
-                rec: self.plain_id(rec),
-            }),
-            Form::Renew { txn, since } => Request::Apply(Command::Renew {
-                txn: self.txn_id(txn),
-                since: *since,
-            }),
-            Form::Mark { txn } => Request::Mark(self.txn_id(txn)),
-            Form::Release { txn, mark } => Request::Release(self.txn_id(txn), *mark),
+            Form::OfTxn { verb, txn } => of_txn(*verb, self.txn_id(txn)),
+            Form::OfLock { verb, txn, node } => {
+                Request::Apply(of_lock(*verb, self.txn_id(txn), self.node_id(node)))
+            }
+            Form::OfRequest {
+                verb,
+                txn,
+                mode,
+                node,
+            } => Request::Apply(of_request(*verb, self.txn_id(txn), self.node_id(node), *mode)),
+            Form::OfRemoval { verb, txn, node } => {
+                Request::Apply(of_removal(*verb, self.txn_id(txn), self.plain_id(node)))
+            }
+            Form::OfNumber { verb, txn, number } => of_number(*verb, self.txn_id(txn), *number),
         }
     }
 
     /// Updates the names after a command: a new node or transaction has its name, and the name of one
     /// that is gone is free.
-    fn rename(&mut self, form: &Form, answer: Answer)
-        requires room { (lists : TheLists) → HasRoomFor self.old (declared (command_of form.now lists)) }
-        ensures names { (lists : TheLists) → names_of self.new ≡ renamed (names_of self.old) (command_of form.now lists) answer }
+    fn rename(&mut self, naming: Naming<'_>, answer: Answer)
+        requires room { HasRoomFor self.old (naming_of naming) }
+        ensures names { names_of self.new ≡ renamed (names_of self.old) (naming_of naming) answer }
         ensures language { self.new.language ≡ self.old.language }
         ensures manager { self.new.manager ≡ self.old.manager }
     {
-        match form {
-            Form::Inner { name } => self.name_node(name, answer),
-            Form::File { name } => self.name_node(name, answer),
-            Form::Index { name, .. } => self.name_node(name, answer),
-            Form::IndexBy { name, .. } => self.name_node(name, answer),
-            Form::Insert { name, .. } => self.name_node(name, answer),
-            Form::Adopt { name, .. } => self.name_node(name, answer),
-            Form::Begin { txn } => self.name_txn(txn, answer),
-            Form::BeginAgain { txn, .. } => self.name_txn(txn, answer),
-            Form::Renew { txn, .. } => self.name_next_txn(txn, answer),
-            Form::Commit { txn } => self.free_txn(txn, answer),
-            Form::Abort { txn } => self.free_txn(txn, answer),
-            Form::Delete { rec, .. } => self.free_node(rec, answer),
-            Form::Drop { node, .. } => self.free_node(node, answer),
-            Form::Forget { rec } => self.free_node(rec, answer),
-            _ => {}
+        match naming {
+            Naming::Node(name) => self.name_node(name, answer),
+            Naming::Txn(name) => self.name_txn(name, answer),
+            Naming::NextTxn(name) => self.name_next_txn(name, answer),
+            Naming::EndedTxn(name) => self.free_txn(name, answer),
+            Naming::RemovedNode(name) => self.free_node(name, answer),
+            Naming::Nothing => {}
         }
     }
 
     /// Gives this name to the node that was made.
     fn name_node(&mut self, name: &Name, answer: Answer)
         requires room { HasRoom self.old.nodes }
-        ensures names { names_of self.new ≡ named_as (names_of self.old) (NodeName name.now.items) answer }
+        ensures names { names_of self.new ≡ renamed (names_of self.old) (NodeName name.now.items) answer }
         ensures language { self.new.language ≡ self.old.language }
         ensures manager { self.new.manager ≡ self.old.manager }
     {
@@ -285,7 +231,7 @@ impl Desk {
     /// Gives this name to the transaction that began.
     fn name_txn(&mut self, name: &Name, answer: Answer)
         requires room { HasRoom self.old.txns }
-        ensures names { names_of self.new ≡ named_as (names_of self.old) (TxnName name.now.items) answer }
+        ensures names { names_of self.new ≡ renamed (names_of self.old) (TxnName name.now.items) answer }
         ensures language { self.new.language ≡ self.old.language }
         ensures manager { self.new.manager ≡ self.old.manager }
     {
@@ -297,7 +243,7 @@ impl Desk {
     /// Gives the name of a transaction that was renewed to the one that began in its place.
     fn name_next_txn(&mut self, name: &Name, answer: Answer)
         requires room { HasRoom self.old.txns }
-        ensures names { names_of self.new ≡ named_as (names_of self.old) (NextTxn name.now.items) answer }
+        ensures names { names_of self.new ≡ renamed (names_of self.old) (NextTxn name.now.items) answer }
         ensures language { self.new.language ≡ self.old.language }
         ensures manager { self.new.manager ≡ self.old.manager }
     {
@@ -310,7 +256,7 @@ impl Desk {
 
     /// Frees the name of a transaction that has ended.
     fn free_txn(&mut self, name: &Name, answer: Answer)
-        ensures names { names_of self.new ≡ without_ended (names_of self.old) name.now.items answer }
+        ensures names { names_of self.new ≡ renamed (names_of self.old) (EndedTxn name.now.items) answer }
         ensures language { self.new.language ≡ self.old.language }
         ensures manager { self.new.manager ≡ self.old.manager }
     {
@@ -322,7 +268,7 @@ impl Desk {
 
     /// Frees the name of a node that was removed.
     fn free_node(&mut self, name: &Name, answer: Answer)
-        ensures names { names_of self.new ≡ without_deleted (names_of self.old) name.now.items answer }
+        ensures names { names_of self.new ≡ renamed (names_of self.old) (RemovedNode name.now.items) answer }
         ensures language { self.new.language ≡ self.old.language }
         ensures manager { self.new.manager ≡ self.old.manager }
     {

@@ -13,6 +13,7 @@ mod drawing;
 mod interpreter;
 mod laws;
 mod listings;
+mod naming;
 mod register;
 mod request;
 mod savepoints;

@@ -27,26 +27,11 @@ returns-then-not-put_unused_name g c =
 pub returns-in-Begin : goal.returns-in-Begin
 returns-in-Begin g c = rw c.in-Begin.is (Hands-none _ _)
 
-pub returns-in-Cancel : goal.returns-in-Cancel
-returns-in-Cancel g c = rw c.in-Cancel.is (Hands-none _ _)
-
-pub returns-in-Commit : goal.returns-in-Commit
-returns-in-Commit g c = rw c.in-Commit.is (Hands-none _ _)
-
-pub returns-in-Abort : goal.returns-in-Abort
-returns-in-Abort g c = rw c.in-Abort.is (Hands-none _ _)
-
-pub returns-in-Settle : goal.returns-in-Settle
-returns-in-Settle g c = rw c.in-Settle.is (Hands-none _ _)
-
-pub returns-in-Mark : goal.returns-in-Mark
-returns-in-Mark g c = rw c.in-Mark.is (Hands-none _ _)
-
-pub returns-in-Release : goal.returns-in-Release
-returns-in-Release g c = rw c.in-Release.is (Hands-none _ _)
-
 pub returns-in-BeginAgain : goal.returns-in-BeginAgain
 returns-in-BeginAgain g c = rw c.in-BeginAgain.is (Hands-none _ _)
 
-pub returns-in-Renew : goal.returns-in-Renew
-returns-in-Renew g c = rw c.in-Renew.is (Hands-none _ _)
+pub returns-in-OfTxn : goal.returns-in-OfTxn
+returns-in-OfTxn g c = rw c.in-OfTxn.is (Hands-none _ _)
+
+pub returns-in-OfNumber : goal.returns-in-OfNumber
+returns-in-OfNumber g c = rw c.in-OfNumber.is (Hands-none _ _)

@@ -9,21 +9,21 @@ use Rattle.gl_script.specs.Views.{command_of}
 use Rattle.gl_interpreter.specs.declared.request.Request.{Request}
 use Rattle.gl_interpreter.specs.declared.request.Said.TheVariants as said
 use Rattle.gl_interpreter.specs.Rooms.{HasRoomFor}
-use Rattle.gl_interpreter.specs.Script.{Asks, IsStoodFor, Releases, Script, Serves, declared, is_in_use, mark_of, renamed}
+use Rattle.gl_interpreter.specs.Script.{Asks, IsStoodFor, Releases, Script, Serves, does_to_names, is_in_use, mark_of, renamed}
 use Rattle.gl_interpreter.specs.Views.{names_of, script_of}
 use Rattle.gl_interpreter.proofs.Serving.{does_handed, does_refused, same_script}
 use Rattle.gl_interpreter.proofs.desk.Desk.serve.Goals as goal
 
 pub rename-requires : goal.rename-requires
-rename-requires c = record { room = λ lists. (rw c.in_default.is at (c.make_room.ensures.room lists)).0.1 }
+rename-requires c = record { room = (rw c.in_default.is at c.make_room.ensures.room).0.1 }
 
 pub returns-in-Err : goal.returns-in-Err
 returns-in-Err c =
     let asked = command_of c.args.form.now c.args.lists.now in
-    let room = rw c.in-Err.is at (c.make_room.ensures.room c.args.lists.now) in
+    let room = rw c.in-Err.is at (rw (c.does_to_names-naming.ensures c.args.lists.now) at c.make_room.ensures.room) in
     record {
-      does = does_refused (script_of c.args.self.now) asked _ _ _ (is_in_use (names_of c.args.self.now) (declared asked))
-          (HasRoomFor c.make_room.new.self (declared asked)) c.in-Err.refusal room.0 room.1
+      does = does_refused (script_of c.args.self.now) asked _ _ _ (is_in_use (names_of c.args.self.now) (does_to_names asked))
+          (HasRoomFor c.make_room.new.self (does_to_names asked)) c.in-Err.refusal room.0 room.1
           (record {
             said_is = refl;
             nobody_told = c.requires.empty;
@@ -35,10 +35,10 @@ pub returns-in-Apply : goal.returns-in-Apply
 returns-in-Apply c =
     let s = script_of c.args.self.now in
     let asked = command_of c.args.form.now c.args.lists.now in
-    let room = rw c.in_default.is at (c.make_room.ensures.room c.args.lists.now) in
+    let room = rw c.in_default.is at (rw (c.does_to_names-naming.ensures c.args.lists.now) at c.make_room.ensures.room) in
     let same = same_script c.make_room.new.self c.args.self.now c.make_room.ensures.names c.make_room.ensures.language c.make_room.ensures.manager in
     record {
-      does = does_handed s asked _ _ _ (is_in_use (names_of c.args.self.now) (declared asked)) (HasRoomFor c.make_room.new.self (declared asked)) room.0
+      does = does_handed s asked _ _ _ (is_in_use (names_of c.args.self.now) (does_to_names asked)) (HasRoomFor c.make_room.new.self (does_to_names asked)) room.0
           (record {
             asked = c.request.result;
             asks = subst (λ (s : Script). Asks s asked c.request.result) same c.request.ensures;
@@ -60,7 +60,8 @@ returns-in-Apply c =
                   places = rw c.rename.ensures.manager
                       (subst (λ (m : ManagerView). (u : ℕ) → KeepsPlaces (nodes_of m.table u) (nodes_of c.apply_telling-answer.new.self.table u))
                       c.make_room.ensures.manager c.apply_telling-answer.ensures.orders.each);
-                  names = c.rename.ensures.names c.args.lists.now ∙ ap (λ n. renamed n asked c.apply_telling-answer.result) c.make_room.ensures.names;
+                  names = rw (c.does_to_names-naming.ensures c.args.lists.now) at c.rename.ensures.names
+                      ∙ ap (λ n. renamed n (does_to_names asked) c.apply_telling-answer.result) c.make_room.ensures.names;
                 });
             language = c.rename.ensures.language ∙ c.make_room.ensures.language;
           });
@@ -70,10 +71,10 @@ pub returns-in-Mark : goal.returns-in-Mark
 returns-in-Mark c =
     let s = script_of c.args.self.now in
     let asked = command_of c.args.form.now c.args.lists.now in
-    let room = rw c.in_default.is at (c.make_room.ensures.room c.args.lists.now) in
+    let room = rw c.in_default.is at (rw (c.does_to_names-naming.ensures c.args.lists.now) at c.make_room.ensures.room) in
     let same = same_script c.make_room.new.self c.args.self.now c.make_room.ensures.names c.make_room.ensures.language c.make_room.ensures.manager in
     record {
-      does = does_handed s asked _ _ _ (is_in_use (names_of c.args.self.now) (declared asked)) (HasRoomFor c.make_room.new.self (declared asked)) room.0
+      does = does_handed s asked _ _ _ (is_in_use (names_of c.args.self.now) (does_to_names asked)) (HasRoomFor c.make_room.new.self (does_to_names asked)) room.0
           (record {
             asked = c.request.result;
             asks = subst (λ (s : Script). Asks s asked c.request.result) same c.request.ensures;
@@ -93,10 +94,10 @@ pub returns-in-Release : goal.returns-in-Release
 returns-in-Release c =
     let s = script_of c.args.self.now in
     let asked = command_of c.args.form.now c.args.lists.now in
-    let room = rw c.in_default.is at (c.make_room.ensures.room c.args.lists.now) in
+    let room = rw c.in_default.is at (rw (c.does_to_names-naming.ensures c.args.lists.now) at c.make_room.ensures.room) in
     let same = same_script c.make_room.new.self c.args.self.now c.make_room.ensures.names c.make_room.ensures.language c.make_room.ensures.manager in
     record {
-      does = does_handed s asked _ _ _ (is_in_use (names_of c.args.self.now) (declared asked)) (HasRoomFor c.make_room.new.self (declared asked)) room.0
+      does = does_handed s asked _ _ _ (is_in_use (names_of c.args.self.now) (does_to_names asked)) (HasRoomFor c.make_room.new.self (does_to_names asked)) room.0
           (record {
             asked = c.request.result;
             asks = subst (λ (s : Script). Asks s asked c.request.result) same c.request.ensures;
