@@ -23,16 +23,15 @@ ghost use Rattle.gl_interpreter.specs.Printed.{
   used_txn,
   who_text,
 };
-ghost use Rattle.gl_interpreter.specs.Script.{node_named};
-ghost use Rattle.gl_interpreter.specs.Views.{naming_of, script_of};
+ghost use Rattle.gl_interpreter.specs.Script.{does_to_names, node_named};
+ghost use Rattle.gl_interpreter.specs.Views.{script_of};
 
 use crate::desk::Desk;
-use crate::naming::{Naming, does_to_names};
 use crate::request::Said;
 use crate::sink::{Sink, put};
 use gl_catalog::{Answer, Escalated};
 use gl_modes::{NodeId, Refusal};
-use gl_script::{Form, Lists, Name, Used};
+use gl_script::{Form, Lists, Name, NumberVerb, Used};
 use gl_table::{Effect, Notice, TxnId};
 use itoa::Buffer;
 use std::io::Write;
@@ -202,7 +201,7 @@ fn put_who<W: Write>(
     match refusal {
         Refusal::NoSuchNode => put_first_unused(sink, writer, desk, form, lists),
         Refusal::NoSuchTxn => put_name(sink, writer, txn_name(form)),
-        Refusal::NameTaken => put_name(sink, writer, declared_name(does_to_names(form))),
+        Refusal::NameTaken => put_name(sink, writer, declared_name(form)),
         Refusal::NeedParents { node } => put_called(sink, writer, desk, node),
         Refusal::HeldChild { node } => put_called(sink, writer, desk, node),
         Refusal::Cycle { node } => put_called(sink, writer, desk, node),
@@ -229,13 +228,23 @@ fn txn_name(form: &Form) -> &[u8]
 }
 
 /// The name that a line declares, empty if it declares none.
-fn declared_name<'a>(naming: Naming<'a>) -> &'a [u8]
-    ensures { result.now ≡ declared_text (naming_of naming) }
+fn declared_name(form: &Form) -> &[u8]
+    ensures { (lists : TheLists) → result.now ≡ declared_text (does_to_names (command_of form.entry.now lists)) }
 {
-    match naming {
-        Naming::Node(name) => name.as_slice(),
-        Naming::Txn(name) => name.as_slice(),
-        Naming::NextTxn(name) => name.as_slice(),
+    match form {
+        Form::Inner { name } => name.as_slice(),
+        Form::File { name } => name.as_slice(),
+        Form::Index { name, .. } => name.as_slice(),
+        Form::IndexBy { name, .. } => name.as_slice(),
+        Form::Insert { name, .. } => name.as_slice(),
+        Form::Adopt { name, .. } => name.as_slice(),
+        Form::Begin { txn } => txn.as_slice(),
+        Form::BeginAgain { txn, .. } => txn.as_slice(),
+        Form::OfNumber {
+            verb: NumberVerb::Renew,
+            txn,
+            ..
+        } => txn.as_slice(),
         _ => &[],
     }
 }

@@ -106,7 +106,7 @@ impl Desk {
         ensures names { names_of self.new ≡ names_of self.old }
         ensures language { self.new.language ≡ self.old.language }
         ensures manager { self.new.manager ≡ self.old.manager }
-        ensures room { MakesRoom (names_of self.old) (naming_of naming) self.new result }
+        ensures room { MakesRoom (names_of self.old) (naming_of naming.entry) self.new result }
     {
         match naming {
             Naming::Node(name) => room_for(&mut self.nodes, name),
@@ -202,7 +202,7 @@ impl Desk {
     /// that is gone is free.
     fn rename(&mut self, naming: Naming<'_>, answer: Answer)
         requires room { HasRoomFor self.old (naming_of naming) }
-        ensures names { names_of self.new ≡ renamed (names_of self.old) (naming_of naming) answer }
+        ensures names { names_of self.new ≡ renamed (names_of self.old) (naming_of naming.entry) answer }
         ensures language { self.new.language ≡ self.old.language }
         ensures manager { self.new.manager ≡ self.old.manager }
     {

@@ -37,6 +37,7 @@ returns-in-Apply c =
     let asked = command_of c.args.form.now c.args.lists.now in
     let room = rw c.in_default.is at (rw (c.does_to_names-naming.ensures c.args.lists.now) at c.make_room.ensures.room) in
     let same = same_script c.make_room.new.self c.args.self.now c.make_room.ensures.names c.make_room.ensures.language c.make_room.ensures.manager in
+    let named = rw (c.does_to_names-naming.ensures c.args.lists.now) at c.rename.ensures.names in
     record {
       does = does_handed s asked _ _ _ (is_in_use (names_of c.args.self.now) (does_to_names asked)) (HasRoomFor c.make_room.new.self (does_to_names asked)) room.0
           (record {
@@ -60,8 +61,7 @@ returns-in-Apply c =
                   places = rw c.rename.ensures.manager
                       (subst (λ (m : ManagerView). (u : ℕ) → KeepsPlaces (nodes_of m.table u) (nodes_of c.apply_telling-answer.new.self.table u))
                       c.make_room.ensures.manager c.apply_telling-answer.ensures.orders.each);
-                  names = rw (c.does_to_names-naming.ensures c.args.lists.now) at c.rename.ensures.names
-                      ∙ ap (λ n. renamed n (does_to_names asked) c.apply_telling-answer.result) c.make_room.ensures.names;
+                  names = named ∙ ap (λ n. renamed n (does_to_names asked) c.apply_telling-answer.result) c.make_room.ensures.names;
                 });
             language = c.rename.ensures.language ∙ c.make_room.ensures.language;
           });
