@@ -39,7 +39,8 @@ returns-in-Apply c =
     let same = same_script c.make_room.new.self c.args.self.now c.make_room.ensures.names c.make_room.ensures.language c.make_room.ensures.manager in
     let named = rw (c.does_to_names-naming.ensures c.args.lists.now) at c.rename.ensures.names in
     record {
-      does = does_handed s asked _ _ _ (is_in_use (names_of c.args.self.now) (does_to_names asked)) (HasRoomFor c.make_room.new.self (does_to_names asked)) room.0
+      does = does_handed s asked _ _ _ (is_in_use (names_of c.args.self.now) (does_to_names asked))
+          (HasRoomFor c.make_room.new.self (does_to_names asked)) room.0
           (record {
             asked = c.request.result;
             asks = subst (λ (s : Script). Asks s asked c.request.result) same c.request.ensures;
@@ -74,7 +75,8 @@ returns-in-Mark c =
     let room = rw c.in_default.is at (rw (c.does_to_names-naming.ensures c.args.lists.now) at c.make_room.ensures.room) in
     let same = same_script c.make_room.new.self c.args.self.now c.make_room.ensures.names c.make_room.ensures.language c.make_room.ensures.manager in
     record {
-      does = does_handed s asked _ _ _ (is_in_use (names_of c.args.self.now) (does_to_names asked)) (HasRoomFor c.make_room.new.self (does_to_names asked)) room.0
+      does = does_handed s asked _ _ _ (is_in_use (names_of c.args.self.now) (does_to_names asked))
+          (HasRoomFor c.make_room.new.self (does_to_names asked)) room.0
           (record {
             asked = c.request.result;
             asks = subst (λ (s : Script). Asks s asked c.request.result) same c.request.ensures;
@@ -97,7 +99,8 @@ returns-in-Release c =
     let room = rw c.in_default.is at (rw (c.does_to_names-naming.ensures c.args.lists.now) at c.make_room.ensures.room) in
     let same = same_script c.make_room.new.self c.args.self.now c.make_room.ensures.names c.make_room.ensures.language c.make_room.ensures.manager in
     record {
-      does = does_handed s asked _ _ _ (is_in_use (names_of c.args.self.now) (does_to_names asked)) (HasRoomFor c.make_room.new.self (does_to_names asked)) room.0
+      does = does_handed s asked _ _ _ (is_in_use (names_of c.args.self.now) (does_to_names asked))
+          (HasRoomFor c.make_room.new.self (does_to_names asked)) room.0
           (record {
             asked = c.request.result;
             asks = subst (λ (s : Script). Asks s asked c.request.result) same c.request.ensures;
