@@ -5,7 +5,7 @@ use Rattle.gl_model.specs.State.{lives}
 use Rattle.gl_catalog.specs.Manager.{IsLawfulManager, ManagerView, state_of}
 use Rattle.gl_slots.specs.Limit.{most_slots}
 use Rattle.std.specs.Prelude.{◌≡◌, ℕ, false, if◌then◌else◌, nat_lt}
-use Rattle.gl_registry.specs.declared.row.Row.{Row}
+use Rattle.gl_rows.specs.declared.row.Row.{Row}
 use Rattle.gl_c.specs.declared.names.Node.{Node}
 use Rattle.gl_c.specs.declared.names.Txn.{Txn}
 

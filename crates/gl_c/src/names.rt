@@ -6,7 +6,7 @@ ghost use Rattle.gl_c.specs.Names.{NamesNobody, node_id, node_of, row_at, txn_id
 
 use crate::numbers::slot_at;
 use gl_modes::NodeId;
-use gl_registry::Row;
+use gl_rows::Row;
 use gl_table::TxnId;
 
 /// The name of a node. The name of a node that is gone names nothing, whatever was made since. Zero in

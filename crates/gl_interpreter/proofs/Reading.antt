@@ -14,7 +14,7 @@ use Rattle.gl_interpreter.specs.declared.script.RunFault.{RunFault}
 use Rattle.gl_interpreter.specs.declared.script.RunFault.TheVariants.{Read, Write, TooMuch}
 use Rattle.gl_script.specs.declared.form.Version.{Version}
 use Rattle.gl_script.specs.declared.form.Version.TheVariants as version
-use Rattle.gl_words.specs.declared.requests.Choices.{Choices}
+use Rattle.gl_options.specs.declared.requests.Choices.{Choices}
 use Rattle.gl_interpreter.specs.Report.{Answers, Going, IsOpen, Left, Opening, Opens, Prints, Ran, Report, ReportOfWhole, Run, Splits, Stage, ended}
 use Rattle.gl_interpreter.specs.Report.{last_line, version_of}
 use Rattle.gl_interpreter.specs.Script.{Script}

@@ -3,9 +3,9 @@ use Rattle.std.specs.Prelude.{◌≡◌, ◌≤◌, ℕ, Bool, ◌||◌, List, [
 use Rattle.std.specs.Io.KnownBytes.{Consumes}
 use Rattle.std.specs.Str.{bytes_eq}
 use Rattle.gl_script.specs.Grammar.{Text}
-use Rattle.gl_words.specs.declared.requests.Asked.TheVariants.{Script}
-use Rattle.gl_words.specs.declared.requests.Choices.{Choices}
-use Rattle.gl_words.specs.Planned.{AsksFor}
+use Rattle.gl_options.specs.declared.requests.Asked.TheVariants.{Script}
+use Rattle.gl_options.specs.declared.requests.Choices.{Choices}
+use Rattle.gl_options.specs.Planned.{AsksFor}
 use Rattle.gl_interpreter.specs.declared.drawing.PictureFault.{PictureFault}
 use Rattle.gl_interpreter.specs.declared.drawing.PictureFault.TheVariants.{Run, Words}
 

@@ -3,7 +3,7 @@ use Rattle.std.specs.Prelude.{◌≡◌, ◌≢◌, ◌<◌, ◌≤◌, ◌⊎�
 use Rattle.std.specs.Prelude.{if◌then◌else◌, Result, MatchResult, OnOk}
 use Rattle.std.specs.Io.KnownBytes.{Consumes, Appends}
 use Rattle.std.specs.Str.{bytes_eq}
-use Rattle.gl_words.specs.declared.requests.Choices.{Choices}
+use Rattle.gl_options.specs.declared.requests.Choices.{Choices}
 use Rattle.gl_model.specs.Tellings.{Told}
 use Rattle.gl_script.specs.declared.form.Version.{Version}
 use Rattle.gl_script.specs.declared.form.Version.TheVariants as version

@@ -8,7 +8,7 @@ use Rattle.gl_modes.specs.declared.refusal.Refusal.{Refusal}
 use Rattle.gl_modes.specs.declared.refusal.Refusal.TheVariants as no
 use Rattle.gl_graph.specs.Graph.{Graph, interval_at}
 use Rattle.gl_graph.specs.Refusals.{first_refusal}
-use Rattle.gl_words.specs.declared.requests.Choices.{Choices}
+use Rattle.gl_options.specs.declared.requests.Choices.{Choices}
 use Rattle.gl_model.specs.declared.txn.TxnId.{TxnId}
 use Rattle.gl_model.specs.declared.deadlock.Deadlock.{Deadlock}
 use Rattle.gl_model.specs.Deadlocks.{no_deadlock}

@@ -1,7 +1,7 @@
 -- A script that the tool has read in part.
 use Rattle.std.specs.Prelude.{◌≡◌, ℕ, List, [], ◌++◌, false, take, Option, None, Some, Result, MatchResult}
 use Rattle.std.specs.Io.KnownBytes.{Appends}
-use Rattle.gl_words.specs.declared.requests.Choices.{Choices}
+use Rattle.gl_options.specs.declared.requests.Choices.{Choices}
 use Rattle.gl_model.specs.Deadlocks.{no_deadlock}
 use Rattle.gl_model.specs.State.{choosing, empty_state}
 use Rattle.gl_model.specs.Tellings.{Told}

@@ -11,9 +11,9 @@ use crate::listings::put_listing;
 use crate::sink::{Sink, put};
 use arrayvec::ArrayVec;
 use gl_catalog::Manager;
+use gl_options::Choices;
 use gl_script::{Form, Language, Line, Lists, Version, parse};
 use gl_table::Told;
-use gl_words::Choices;
 use std::alloc::Global;
 use std::io::Write;
 

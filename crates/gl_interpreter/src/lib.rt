@@ -22,7 +22,7 @@ mod sink;
 
 pub use answers::put_number;
 pub use drawing::{Part, PictureFault, Shown, complain_of_picture, draw_script, picture};
-pub use gl_words::Choices;
+pub use gl_options::Choices;
 pub use laws::each_is_said;
 pub use script::{RunFault, run, run_choosing};
 pub use sink::{Sink, flush, new_sink, put, send};

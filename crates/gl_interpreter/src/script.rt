@@ -2,15 +2,15 @@
 
 ghost use Rattle.std.specs.Prelude.{◌≡◌, ℕ, ◌<◌, List, [], ◌∷◌, ◌++◌, IfSome, OnOk, Option, length, vec_len};
 ghost use Rattle.std.specs.Io.KnownBytes.{IsAtEnd};
-ghost use Rattle.gl_words.specs.Planned.{plain};
+ghost use Rattle.gl_options.specs.Planned.{plain};
 ghost use Rattle.gl_interpreter.specs.Report.{IsOpen, Ran, ReadsWithin};
 ghost use Rattle.gl_interpreter.specs.SoFar.{Finishes, HasReported, IsNew, Takes, choices_now};
 
 use crate::interpreter::Interpreter;
 use crate::sink::{Sink, flush, new_sink};
 use arrayvec::ArrayVec;
+use gl_options::Choices;
 use gl_table::Detect;
-use gl_words::Choices;
 use memchr::memchr;
 use std::alloc::Global;
 use std::io::{Read, Write};

@@ -5,5 +5,5 @@ pub use Rattle.gl_interpreter.specs.Rows
 pub use Rattle.gl_interpreter.specs.Report
 pub use Rattle.gl_modes.specs.Modes
 pub use Rattle.gl_modes.specs.Refusals
-pub use Rattle.gl_words.specs.Planned
+pub use Rattle.gl_options.specs.Planned
 pub use Rattle.gl_crew.specs.Crews

@@ -4,9 +4,9 @@ use Rattle.std.specs.Io.KnownBytes.{Consumes, Appends, IsAtEnd}
 use Rattle.gl_script.specs.Grammar.{Text}
 use Rattle.gl_waits.specs.declared.victims.Victims.{Victims}
 use Rattle.gl_model.specs.declared.answers.Detect.{Detect}
-use Rattle.gl_words.specs.declared.requests.Asked.TheVariants as asked
-use Rattle.gl_words.specs.declared.requests.Choices.{Choices}
-use Rattle.gl_words.specs.Planned.{AsksFor}
+use Rattle.gl_options.specs.declared.requests.Asked.TheVariants as asked
+use Rattle.gl_options.specs.declared.requests.Choices.{Choices}
+use Rattle.gl_options.specs.Planned.{AsksFor}
 use Rattle.gl_crew.specs.Crews.{IsCount}
 use Rattle.gl_interpreter.specs.declared.script.RunFault.{RunFault}
 use Rattle.gl_interpreter.specs.declared.script.RunFault.TheVariants.{Write}

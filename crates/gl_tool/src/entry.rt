@@ -1,13 +1,13 @@
 //! The whole program.
 
 ghost use Rattle.std.specs.Prelude.{◌≡◌, ◌≤◌, map};
-ghost use Rattle.gl_words.specs.Planned.{HasNoPlan};
+ghost use Rattle.gl_options.specs.Planned.{HasNoPlan};
 ghost use Rattle.gl_tool.specs.Outcome.{Ends, PutsCount, Stops, Works, status_of};
 
 use arrayvec::ArrayString;
 use gl_crew::{CrewFault, crew_choosing};
 use gl_interpreter::{RunFault, flush, new_sink, put, put_number, run_choosing, send};
-use gl_words::{Asked, asked};
+use gl_options::{Asked, asked};
 use std::alloc::Global;
 use std::convert::AsStr;
 use std::fmt::Write as FormatWrite;

@@ -11,4 +11,4 @@ pub use gl_crew::{CrewFault, Gate, Point, crew, crew_choosing, crew_with};
 pub use gl_interpreter::{
     PictureFault, RunFault, Shown, complain_of_picture, draw_script, picture, run, run_choosing,
 };
-pub use gl_words::{Asked, Choices, Plan, asked, plan};
+pub use gl_options::{Asked, Choices, Plan, asked, plan};

@@ -24,12 +24,12 @@ use Rattle.gl_steps.specs.declared.command.Command.TheVariants as command
 use Rattle.gl_catalog.specs.Manager.{ManagerView, state_of}
 use Rattle.gl_catalog.specs.Paths.{Ask}
 use Rattle.gl_catalog.specs.declared.manager.paths.Reached.{Reached}
-use Rattle.gl_registry.specs.declared.answer.RowLocked.{RowLocked}
-use Rattle.gl_registry.specs.declared.answer.RowRefusal.{RowRefusal}
-use Rattle.gl_registry.specs.declared.answer.RowRefusal.TheVariants as row_no
-use Rattle.gl_registry.specs.declared.row.Row.{Row}
-use Rattle.gl_registry.specs.Locking.{LocksBy, LocksRow, Wish, first_locked}
-use Rattle.gl_registry.specs.Rows.{RegistryView, RowsView, name_of}
+use Rattle.gl_rows.specs.declared.answer.RowLocked.{RowLocked}
+use Rattle.gl_rows.specs.declared.answer.RowRefusal.{RowRefusal}
+use Rattle.gl_rows.specs.declared.answer.RowRefusal.TheVariants as row_no
+use Rattle.gl_rows.specs.declared.row.Row.{Row}
+use Rattle.gl_rows.specs.Locking.{LocksBy, LocksRow, Wish, first_locked}
+use Rattle.gl_rows.specs.Rows.{RegistryView, RowsView, name_of}
 use Rattle.gl_waiting.specs.Asking.{LocksAlone, Requests}
 use Rattle.gl_waiting.specs.Paths.{LocksParts}
 use Rattle.gl_waiting.specs.Delivering.{DeliveryView, registry_in}

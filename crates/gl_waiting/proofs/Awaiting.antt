@@ -32,7 +32,7 @@ use Rattle.gl_steps.specs.Promises.{waits_on}
 use Rattle.gl_catalog.specs.declared.manager.paths.Reached.{Reached}
 use Rattle.gl_catalog.specs.Manager.{state_of}
 use Rattle.gl_catalog.specs.Paths.{LocksPath}
-use Rattle.gl_registry.specs.Serving.{PathLeavesRows}
+use Rattle.gl_rows.specs.Serving.{PathLeavesRows}
 use Rattle.gl_model.specs.declared.answers.Notice.{Notice}
 use Rattle.gl_model.specs.declared.answers.Notice.TheVariants as notice
 use Rattle.gl_modes.specs.Modes.{is_at_least}
@@ -51,9 +51,9 @@ use Rattle.gl_waiting.specs.Paths.{LocksPart}
 use Rattle.gl_waiting.proofs.Runs.{call_made, of_one}
 use Rattle.gl_waiting.specs.Waiters.{AnswersIn, Await, AwaitBut, TakesEnd, came_as, came_of, waits_as, waits_for_node, IsWaitingPlace, is_granted}
 use Rattle.gl_waiting.specs.Waiters.{place_at, stops_above, waiter_in}
-use Rattle.gl_registry.specs.declared.answer.RowLocked.{RowLocked}
-use Rattle.gl_registry.specs.declared.answer.RowRefusal.{RowRefusal}
-use Rattle.gl_registry.specs.declared.answer.RowRefusal.TheVariants as row_no
+use Rattle.gl_rows.specs.declared.answer.RowLocked.{RowLocked}
+use Rattle.gl_rows.specs.declared.answer.RowRefusal.{RowRefusal}
+use Rattle.gl_rows.specs.declared.answer.RowRefusal.TheVariants as row_no
 use Rattle.gl_waiting.proofs.RowLocking.{row_waits_as}
 use Rattle.gl_waiting.specs.Asking.{Requests}
 use Rattle.gl_waiting.specs.RowLocks.{row_came_of}

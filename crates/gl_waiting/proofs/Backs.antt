@@ -27,11 +27,11 @@ use Rattle.gl_steps.specs.Step.{Run, Step}
 use Rattle.gl_steps.proofs.LivesOn.{GoesOn, lives_on_same, lives_on_trans, pumped_goes_on}
 use Rattle.gl_steps.proofs.Serving.{step_counts}
 use Rattle.gl_steps.proofs.WaitsEnd.{told_over}
-use Rattle.gl_registry.specs.Applying.{Upkeep}
-use Rattle.gl_registry.specs.Releasing.{GoesBackTo}
-use Rattle.gl_registry.specs.Rows.{RegistryView}
-use Rattle.gl_registry.proofs.CarriedOut.{each_goes}
-use Rattle.gl_registry.proofs.Upkeep.{LeavesAll, upkeep_leaves}
+use Rattle.gl_rows.specs.Applying.{Upkeep}
+use Rattle.gl_rows.specs.Releasing.{GoesBackTo}
+use Rattle.gl_rows.specs.Rows.{RegistryView}
+use Rattle.gl_rows.proofs.CarriedOut.{each_goes}
+use Rattle.gl_rows.proofs.Upkeep.{LeavesAll, upkeep_leaves}
 use Rattle.gl_wakes.specs.Boxes.{Slot}
 use Rattle.gl_wakes.specs.Notices.{RisingTo}
 use Rattle.gl_wakes.specs.Wakes.{HasEnded}

@@ -17,8 +17,8 @@ use Rattle.gl_steps.specs.declared.command.Command.{Command}
 use Rattle.gl_steps.specs.declared.command.Command.TheVariants as command
 use Rattle.gl_steps.specs.Served.{accepts}
 use Rattle.gl_catalog.specs.Manager.{state_of}
-use Rattle.gl_registry.specs.Rows.{RegistryView}
-use Rattle.gl_registry.specs.Serving.{Applies, ServesBy, touches_rows}
+use Rattle.gl_rows.specs.Rows.{RegistryView}
+use Rattle.gl_rows.specs.Serving.{Applies, ServesBy, touches_rows}
 use Rattle.gl_waiting.specs.Asking.{IsBeginAnswer, IsFull, begin_of}
 use Rattle.gl_waiting.specs.Delivering.{Carries, DeliveryView}
 

@@ -13,8 +13,8 @@ use Rattle.gl_steps.specs.declared.command.Answer.{Answer}
 use Rattle.gl_steps.specs.declared.command.Answer.TheVariants as answer
 use Rattle.gl_steps.specs.declared.command.Command.{Command}
 use Rattle.gl_catalog.specs.Manager.{state_of}
-use Rattle.gl_registry.specs.Rows.{RegistryView}
-use Rattle.gl_registry.specs.Serving.{ServesBy, touches_rows}
+use Rattle.gl_rows.specs.Rows.{RegistryView}
+use Rattle.gl_rows.specs.Serving.{ServesBy, touches_rows}
 use Rattle.gl_waiting.specs.Asking.{HandsOn, HandsOnAfter, InTurn, IsNothing, Serves}
 use Rattle.gl_waiting.specs.Delivering.{Carries, ComesToNothing, DeliveryView, registry_in}
 use Rattle.gl_waiting.specs.Ends.{NoneAwaits}
@@ -87,8 +87,7 @@ refusals_change_nothing v c r told off v' h =
     let stays = h.called.idle (none_awaits h.own.ended v.places idle.none) in
     let manager = ap (λ (d : DeliveryView). d.manager) (stays.0 ∙ idle.same) in
     let mid : h.mid ≡ v = h.called.nothing (ap (λ (d : DeliveryView). d.manager.accepted) (stays.0 ∙ idle.same)) in
-    let handed = h.nothing manager h.called.turns.0 in
-    (
+    let handed = h.nothing manager h.called.turns.0 in (
       handed.0 ∙ mid,
       idle.untold,
       subst IsNothing (sym handed.1) (idle.none, nobody_went_on h.own.went_on served (delivery_in h.mid) h.called.went_on stays.0),

@@ -13,11 +13,11 @@ use Rattle.gl_steps.specs.declared.command.Command.{Command}
 use Rattle.gl_catalog.specs.Manager.{ManagerView, state_of}
 use Rattle.gl_catalog.specs.Paths.{Ask}
 use Rattle.gl_catalog.specs.Replies.{CallSteps, took}
-use Rattle.gl_registry.specs.declared.answer.RowLocked.{RowLocked}
-use Rattle.gl_registry.specs.declared.answer.RowRefusal.{RowRefusal}
-use Rattle.gl_registry.specs.Locking.{Wish}
-use Rattle.gl_registry.specs.Releasing.{GoesBackTo}
-use Rattle.gl_registry.specs.Rows.{name_of}
+use Rattle.gl_rows.specs.declared.answer.RowLocked.{RowLocked}
+use Rattle.gl_rows.specs.declared.answer.RowRefusal.{RowRefusal}
+use Rattle.gl_rows.specs.Locking.{Wish}
+use Rattle.gl_rows.specs.Releasing.{GoesBackTo}
+use Rattle.gl_rows.specs.Rows.{name_of}
 use Rattle.gl_waiting.specs.Begins.{BeginsView}
 use Rattle.gl_waiting.specs.Delivering.{Carries, ComesToNothing, DeliveryView, registry_in}
 use Rattle.gl_waiting.specs.declared.tries.Keep.{Keep}

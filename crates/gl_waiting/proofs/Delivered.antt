@@ -22,9 +22,9 @@ use Rattle.gl_steps.specs.declared.command.Command.{Command}
 use Rattle.gl_steps.specs.Served.{accepts}
 use Rattle.gl_steps.proofs.Serving.{step_counts}
 use Rattle.gl_catalog.specs.Manager.{state_of}
-use Rattle.gl_registry.specs.Rows.{RegistryView}
-use Rattle.gl_registry.specs.Serving.{Applies, LeavesRows, ServesBy, dropped_by, touches_rows}
-use Rattle.gl_registry.proofs.Dropped.{unaccepted_leaves}
+use Rattle.gl_rows.specs.Rows.{RegistryView}
+use Rattle.gl_rows.specs.Serving.{Applies, LeavesRows, ServesBy, dropped_by, touches_rows}
+use Rattle.gl_rows.proofs.Dropped.{unaccepted_leaves}
 use Rattle.gl_wakes.specs.Boxes.{Slot}
 use Rattle.gl_wakes.specs.Notices.{RisingTo}
 use Rattle.gl_wakes.specs.Wakes.{names_slot}

@@ -21,7 +21,7 @@ use Rattle.gl_model.specs.State.{State}
 use Rattle.gl_slots.specs.Limit.{most_slots}
 use Rattle.gl_waiting.specs.Waiters.{Await, IsInTime, StillRequests, came_of, has_more, next_after, next_of, next_of_row, node_in}
 use Rattle.gl_waiting.specs.Waiters.{outcome_of, place_at, place_of}
-use Rattle.gl_registry.specs.declared.row.Row.{Row}
+use Rattle.gl_rows.specs.declared.row.Row.{Row}
 use Rattle.gl_waiting.specs.RowLocks.{LocksRowWith, granted_own}
 use Rattle.gl_waiting.specs.declared.keys.RowKeys.{RowKeys}
 use Rattle.gl_waiting.specs.declared.waiter.Came.TheVariants as came

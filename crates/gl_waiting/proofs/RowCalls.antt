@@ -28,20 +28,20 @@ use Rattle.gl_steps.proofs.Serving.{step_counts}
 use Rattle.gl_catalog.specs.Counters.{refuses}
 use Rattle.gl_catalog.specs.Manager.{ManagerView, state_of}
 use Rattle.gl_catalog.specs.Replies.{doing, made, rising}
-use Rattle.gl_registry.specs.declared.answer.RowAnswer.{RowAnswer}
-use Rattle.gl_registry.specs.declared.answer.RowLocked.{RowLocked}
-use Rattle.gl_registry.specs.declared.answer.RowRefusal.{RowRefusal}
-use Rattle.gl_registry.specs.declared.answer.RowRefusal.TheVariants as row_no
-use Rattle.gl_registry.specs.declared.call.RowCall.{RowCall}
-use Rattle.gl_registry.specs.declared.call.RowCall.TheVariants as call
-use Rattle.gl_registry.specs.declared.row.Row.{Row}
-use Rattle.gl_registry.specs.Answers.{done_said, lock_said}
-use Rattle.gl_registry.specs.Applying.{AppliesCall, AppliesRow, CarriesOut, StepsAmid, answer_in, naming, own_command, plainly, unnamed}
-use Rattle.gl_registry.specs.Files.{MakesFile}
-use Rattle.gl_registry.specs.Locking.{LocksBy, LocksRow, Wish}
-use Rattle.gl_registry.specs.Releasing.{EndsTxn, GivesBack, RekeysBy, UnlocksBy, node_for}
-use Rattle.gl_registry.specs.Rows.{RegistryView, RowsView, name_of}
-use Rattle.gl_registry.proofs.Upkeep.{LeavesAll, upkeep_law, upkeep_leaves}
+use Rattle.gl_rows.specs.declared.answer.RowAnswer.{RowAnswer}
+use Rattle.gl_rows.specs.declared.answer.RowLocked.{RowLocked}
+use Rattle.gl_rows.specs.declared.answer.RowRefusal.{RowRefusal}
+use Rattle.gl_rows.specs.declared.answer.RowRefusal.TheVariants as row_no
+use Rattle.gl_rows.specs.declared.call.RowCall.{RowCall}
+use Rattle.gl_rows.specs.declared.call.RowCall.TheVariants as call
+use Rattle.gl_rows.specs.declared.row.Row.{Row}
+use Rattle.gl_rows.specs.Answers.{done_said, lock_said}
+use Rattle.gl_rows.specs.Applying.{AppliesCall, AppliesRow, CarriesOut, StepsAmid, answer_in, naming, own_command, plainly, unnamed}
+use Rattle.gl_rows.specs.Files.{MakesFile}
+use Rattle.gl_rows.specs.Locking.{LocksBy, LocksRow, Wish}
+use Rattle.gl_rows.specs.Releasing.{EndsTxn, GivesBack, RekeysBy, UnlocksBy, node_for}
+use Rattle.gl_rows.specs.Rows.{RegistryView, RowsView, name_of}
+use Rattle.gl_rows.proofs.Upkeep.{LeavesAll, upkeep_law, upkeep_leaves}
 use Rattle.gl_wakes.specs.Boxes.{Slot, emptied}
 use Rattle.gl_wakes.specs.Notices.{RisingTo}
 use Rattle.gl_wakes.specs.Wakes.{HasEnded, names_slot}

@@ -25,16 +25,16 @@ use Rattle.gl_steps.specs.Step.{Goes, Step, answer_of_lock, lock_answer}
 use Rattle.gl_steps.specs.Tests.{refusal_of}
 use Rattle.gl_catalog.specs.Adopting.{AdoptsLocked}
 use Rattle.gl_catalog.specs.Manager.{ManagerView, state_of}
-use Rattle.gl_registry.specs.declared.answer.RowAnswer.{RowAnswer}
-use Rattle.gl_registry.specs.declared.answer.RowLocked.{RowLocked}
-use Rattle.gl_registry.specs.declared.answer.RowRefusal.{RowRefusal}
-use Rattle.gl_registry.specs.declared.answer.RowRefusal.TheVariants as row_no
-use Rattle.gl_registry.specs.declared.call.RowCall.TheVariants as call
-use Rattle.gl_registry.specs.declared.row.Row.{Row}
-use Rattle.gl_registry.specs.Answers.{done_said}
-use Rattle.gl_registry.specs.Applying.{AppliesCall, answer_in}
-use Rattle.gl_registry.specs.Locking.{LocksBy, LocksRow, Wish, first_locked}
-use Rattle.gl_registry.specs.Rows.{name_of}
+use Rattle.gl_rows.specs.declared.answer.RowAnswer.{RowAnswer}
+use Rattle.gl_rows.specs.declared.answer.RowLocked.{RowLocked}
+use Rattle.gl_rows.specs.declared.answer.RowRefusal.{RowRefusal}
+use Rattle.gl_rows.specs.declared.answer.RowRefusal.TheVariants as row_no
+use Rattle.gl_rows.specs.declared.call.RowCall.TheVariants as call
+use Rattle.gl_rows.specs.declared.row.Row.{Row}
+use Rattle.gl_rows.specs.Answers.{done_said}
+use Rattle.gl_rows.specs.Applying.{AppliesCall, answer_in}
+use Rattle.gl_rows.specs.Locking.{LocksBy, LocksRow, Wish, first_locked}
+use Rattle.gl_rows.specs.Rows.{name_of}
 use Rattle.gl_waiting.specs.Delivering.{DeliveryView, registry_in}
 use Rattle.gl_waiting.specs.RowLocks.{LocksRowAs}
 use Rattle.gl_waiting.specs.RowTries.{HoldsAtLeast, HoldsTried, IsHeldIn, is_released, lock_of_tried, refused_at, row_refused}

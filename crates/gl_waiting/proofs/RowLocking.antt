@@ -8,13 +8,13 @@ use Rattle.gl_model.specs.declared.answers.Locked.TheVariants as locked
 use Rattle.gl_model.specs.declared.txn.TxnId.{TxnId}
 use Rattle.gl_model.specs.State.{State}
 use Rattle.gl_model.specs.Tellings.{Told}
-use Rattle.gl_registry.specs.declared.answer.RowAnswer.{RowAnswer}
-use Rattle.gl_registry.specs.declared.answer.RowLocked.{RowLocked}
-use Rattle.gl_registry.specs.declared.answer.RowRefusal.{RowRefusal}
-use Rattle.gl_registry.specs.declared.answer.RowRefusal.TheVariants as row_no
-use Rattle.gl_registry.specs.Answers.{lock_said}
-use Rattle.gl_registry.specs.Applying.{AppliesCall, CarriesOut, answer_in, own_command}
-use Rattle.gl_registry.specs.Locking.{LocksRow, Wish}
+use Rattle.gl_rows.specs.declared.answer.RowAnswer.{RowAnswer}
+use Rattle.gl_rows.specs.declared.answer.RowLocked.{RowLocked}
+use Rattle.gl_rows.specs.declared.answer.RowRefusal.{RowRefusal}
+use Rattle.gl_rows.specs.declared.answer.RowRefusal.TheVariants as row_no
+use Rattle.gl_rows.specs.Answers.{lock_said}
+use Rattle.gl_rows.specs.Applying.{AppliesCall, CarriesOut, answer_in, own_command}
+use Rattle.gl_rows.specs.Locking.{LocksRow, Wish}
 use Rattle.gl_waiting.specs.Delivering.{DeliveryView, registry_in}
 use Rattle.gl_waiting.specs.Ends.{is_given_back}
 use Rattle.gl_waiting.specs.RowLocks.{IsRowLockAnswer, LocksRowAs, after_grant, row_came_as, row_lock}

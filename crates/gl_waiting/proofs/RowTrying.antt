@@ -39,20 +39,20 @@ use Rattle.gl_steps.proofs.OneStep.{all_none}
 use Rattle.gl_steps.proofs.StepsKeepLaw.{steps_keep_law}
 use Rattle.gl_steps.proofs.WaitsBegin.{begins_waits}
 use Rattle.gl_catalog.specs.Manager.{ManagerView, state_of}
-use Rattle.gl_registry.specs.declared.answer.RowAnswer.{RowAnswer}
-use Rattle.gl_registry.specs.declared.answer.RowAnswer.TheVariants as row_answer
-use Rattle.gl_registry.specs.declared.answer.RowLocked.{RowLocked}
-use Rattle.gl_registry.specs.declared.answer.RowRefusal.{RowRefusal}
-use Rattle.gl_registry.specs.declared.answer.RowRefusal.TheVariants as row_no
-use Rattle.gl_registry.specs.declared.call.RowCall.TheVariants as call
-use Rattle.gl_registry.specs.declared.row.Row.{Row}
-use Rattle.gl_registry.specs.Answers.{done_said, lock_said}
-use Rattle.gl_registry.specs.Applying.{AppliesCall, CarriesOut, StepsAmid, answer_in, own_command}
-use Rattle.gl_registry.specs.Locking.{LocksBy, LocksRow, Wish, first_locked}
-use Rattle.gl_registry.specs.Releasing.{named_or_none, no_node}
-use Rattle.gl_registry.specs.Rows.{RowsView, name_of}
+use Rattle.gl_rows.specs.declared.answer.RowAnswer.{RowAnswer}
+use Rattle.gl_rows.specs.declared.answer.RowAnswer.TheVariants as row_answer
+use Rattle.gl_rows.specs.declared.answer.RowLocked.{RowLocked}
+use Rattle.gl_rows.specs.declared.answer.RowRefusal.{RowRefusal}
+use Rattle.gl_rows.specs.declared.answer.RowRefusal.TheVariants as row_no
+use Rattle.gl_rows.specs.declared.call.RowCall.TheVariants as call
+use Rattle.gl_rows.specs.declared.row.Row.{Row}
+use Rattle.gl_rows.specs.Answers.{done_said, lock_said}
+use Rattle.gl_rows.specs.Applying.{AppliesCall, CarriesOut, StepsAmid, answer_in, own_command}
+use Rattle.gl_rows.specs.Locking.{LocksBy, LocksRow, Wish, first_locked}
+use Rattle.gl_rows.specs.Releasing.{named_or_none, no_node}
+use Rattle.gl_rows.specs.Rows.{RowsView, name_of}
 use Rattle.gl_wakes.specs.Wakes.{HasEnded}
-use Rattle.gl_registry.proofs.Upkeep.{upkeep_leaves}
+use Rattle.gl_rows.proofs.Upkeep.{upkeep_leaves}
 use Rattle.gl_catalog.specs.Paths.{Ask}
 use Rattle.gl_catalog.specs.Replies.{CallSteps, took}
 use Rattle.gl_waiting.specs.Delivering.{Carries, DeliveryView, registry_in}

@@ -10,7 +10,7 @@ use Rattle.gl_catalog.specs.Replies.{Says}
 use Rattle.gl_steps.specs.declared.command.Answer.{Answer}
 use Rattle.gl_steps.specs.declared.command.Command.{Command}
 use Rattle.gl_steps.specs.Step.{Run, Step}
-use Rattle.gl_registry.specs.Locking.{Line, Runs}
+use Rattle.gl_rows.specs.Locking.{Line, Runs}
 use Rattle.gl_waiting.specs.Delivering.{Carries, DeliveryView}
 use Rattle.gl_waiting.specs.Going.{Call, Calls, CallsOf, CallsTo, IsRun, WentOn}
 

@@ -41,9 +41,9 @@ use Rattle.gl_catalog.proofs.KeptPaths.{path_climbs}
 use Rattle.gl_catalog.proofs.OwnGrants.{GrantsOwn}
 use Rattle.gl_catalog.proofs.PathSteps.{full_wants}
 use Rattle.gl_catalog.proofs.StillWanted.{below_kept}
-use Rattle.gl_registry.specs.Releasing.{GoesBackTo}
-use Rattle.gl_registry.specs.Rows.{RegistryView}
-use Rattle.gl_registry.specs.Serving.{ServesBy}
+use Rattle.gl_rows.specs.Releasing.{GoesBackTo}
+use Rattle.gl_rows.specs.Rows.{RegistryView}
+use Rattle.gl_rows.specs.Serving.{ServesBy}
 use Rattle.gl_wakes.specs.Boxes.{Slot}
 use Rattle.gl_wakes.specs.Wakes.{HasEnded}
 use Rattle.gl_wakes.proofs.Waking.{ended_none}

@@ -11,9 +11,9 @@ use Rattle.gl_steps.specs.declared.command.Command.{Command}
 use Rattle.gl_catalog.specs.Manager.{state_of}
 use Rattle.gl_catalog.specs.Paths.{Ask}
 use Rattle.gl_catalog.specs.declared.manager.paths.Reached.{Reached}
-use Rattle.gl_registry.specs.Locking.{Wish}
-use Rattle.gl_registry.specs.declared.answer.RowAnswer.{RowAnswer}
-use Rattle.gl_registry.specs.declared.call.RowCall.{RowCall}
+use Rattle.gl_rows.specs.Locking.{Wish}
+use Rattle.gl_rows.specs.declared.answer.RowAnswer.{RowAnswer}
+use Rattle.gl_rows.specs.declared.call.RowCall.{RowCall}
 use Rattle.gl_waiting.specs.Asking.{Awaits, AwaitsBy, Begins, Expires, HandsFirst, HandsOn, InTurn, LocksPath, RollsBackTo, Serves, ServesRow, TriesRowThere}
 use Rattle.gl_waiting.specs.Asking.{TriesThere}
 use Rattle.gl_waiting.specs.Delivering.{DeliveryView}

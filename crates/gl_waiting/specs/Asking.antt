@@ -11,7 +11,7 @@ use Rattle.gl_model.specs.declared.txn.TxnId.{TxnId}
 use Rattle.gl_catalog.specs.Manager.{state_of}
 use Rattle.gl_catalog.specs.Paths.{Ask, lock_of}
 use Rattle.gl_catalog.specs.declared.manager.paths.Reached.{Reached}
-use Rattle.gl_registry.specs.Serving.{Applies, PathLeavesRows, ServesBy, touches_rows}
+use Rattle.gl_rows.specs.Serving.{Applies, PathLeavesRows, ServesBy, touches_rows}
 use Rattle.gl_waiting.specs.Delivering.{Carries, ComesToNothing, Delivered, DeliveryView, lock_said, registry_in, unlocking}
 use Rattle.gl_waiting.specs.Ends.{AsksCancel, CallAmong, CallInTime, EndsBetween, EndsInTime, EndsLate, GivesBack, GoesOn, NoneAwaits, PlaceGoes, PlaceGoesOn}
 use Rattle.gl_waiting.specs.Ends.{CallBy, StaysSo}
@@ -20,7 +20,7 @@ use Rattle.gl_waiting.specs.declared.set_off.SetOff.{SetOff}
 use Rattle.gl_slots.specs.Slots.{HasNoSlot}
 use Rattle.gl_wakes.specs.Wakes.{HasEnded}
 use Rattle.gl_waiting.specs.Paths.{LocksThrough}
-use Rattle.gl_registry.specs.Locking.{Wish}
+use Rattle.gl_rows.specs.Locking.{Wish}
 use Rattle.gl_waiting.specs.RowLocks.{RequestsRow}
 use Rattle.gl_waiting.specs.RowTries.{BeginsNoWait, HoldsTried, KeepsQueues, TriesRow}
 use Rattle.gl_waiting.specs.declared.tries.RowTried.{RowTried}
@@ -36,10 +36,10 @@ use Rattle.gl_steps.specs.Tests.{refusal_of}
 use Rattle.std.specs.Prelude.{OnErr, OnOk, ◌&&◌, if◌then◌else◌}
 use Rattle.gl_graph.specs.Refusals.{first_refusal}
 use Rattle.gl_catalog.specs.Paths.{path_tests}
-use Rattle.gl_registry.specs.declared.answer.RowAnswer.{RowAnswer}
-use Rattle.gl_registry.specs.declared.call.RowCall.{RowCall}
-use Rattle.gl_registry.specs.Applying.{AppliesCall, CarriesOut, answer_in, naming, own_command}
-use Rattle.gl_registry.specs.Releasing.{GoesBackTo}
+use Rattle.gl_rows.specs.declared.answer.RowAnswer.{RowAnswer}
+use Rattle.gl_rows.specs.declared.call.RowCall.{RowCall}
+use Rattle.gl_rows.specs.Applying.{AppliesCall, CarriesOut, answer_in, naming, own_command}
+use Rattle.gl_rows.specs.Releasing.{GoesBackTo}
 use Rattle.gl_wakes.specs.Boxes.{verdict_of}
 use Rattle.gl_wakes.specs.declared.grant.Grant.{Grant}
 use Rattle.gl_wakes.specs.declared.grant.Stop.{Stop}

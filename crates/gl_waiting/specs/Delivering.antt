@@ -14,8 +14,8 @@ use Rattle.gl_steps.specs.declared.command.Answer.TheVariants as answer
 use Rattle.gl_steps.specs.declared.command.Command.{Command}
 use Rattle.gl_steps.specs.declared.command.Command.TheVariants as command
 use Rattle.gl_catalog.specs.Manager.{ManagerView, state_of}
-use Rattle.gl_registry.specs.Releasing.{no_node}
-use Rattle.gl_registry.specs.Rows.{RegistryView, RowsView}
+use Rattle.gl_rows.specs.Releasing.{no_node}
+use Rattle.gl_rows.specs.Rows.{RegistryView, RowsView}
 use Rattle.gl_wakes.specs.Boxes.{Delivers, Slot, emptied}
 use Rattle.gl_wakes.specs.Wakes.{HasEnded, names_slot}
 

@@ -5,7 +5,7 @@ use Rattle.gl_model.specs.State.{State}
 use Rattle.gl_model.specs.Tellings.{Told}
 use Rattle.gl_steps.specs.declared.command.Command.{Command}
 use Rattle.gl_catalog.specs.Manager.{state_of}
-use Rattle.gl_registry.specs.Locking.{Line, Runs}
+use Rattle.gl_rows.specs.Locking.{Line, Runs}
 use Rattle.gl_waiting.specs.Delivering.{Carries, DeliveryView}
 
 -- some commands lead from one state to the other

@@ -5,8 +5,8 @@ use Rattle.gl_model.specs.Tellings.{Told}
 use Rattle.gl_model.specs.declared.txn.TxnId.{TxnId}
 use Rattle.gl_catalog.specs.Paths.{Ask}
 use Rattle.gl_catalog.specs.declared.manager.paths.Reached.{Reached}
-use Rattle.gl_registry.specs.Rows.{RegistryView}
-use Rattle.gl_registry.specs.Serving.{PathLeavesRows}
+use Rattle.gl_rows.specs.Rows.{RegistryView}
+use Rattle.gl_rows.specs.Serving.{PathLeavesRows}
 use Rattle.gl_waiting.specs.Delivering.{DeliveryView, registry_in}
 use Rattle.gl_waiting.specs.Waiters.{IsThrough, stops_above}
 

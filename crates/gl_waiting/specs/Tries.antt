@@ -21,7 +21,7 @@ use Rattle.gl_catalog.specs.Counters.{grants, refuses}
 use Rattle.gl_catalog.specs.Manager.{ManagerView, state_of}
 use Rattle.gl_catalog.specs.Paths.{Ask, ComesFirst, missing_parent}
 use Rattle.gl_catalog.specs.Replies.{said, took}
-use Rattle.gl_registry.specs.Releasing.{GoesBackTo}
+use Rattle.gl_rows.specs.Releasing.{GoesBackTo}
 use Rattle.gl_waiting.specs.declared.tries.Keep.{Keep}
 use Rattle.gl_waiting.specs.declared.tries.Keep.TheVariants as keep
 use Rattle.gl_waiting.specs.declared.tries.Tried.{Tried}

@@ -11,8 +11,8 @@ use Rattle.gl_modes.specs.declared.refusal.Refusal.{Refusal}
 use Rattle.gl_model.specs.State.{State, lives, status_of}
 use Rattle.gl_modes.specs.declared.refusal.Refusal.TheVariants as no
 use Rattle.gl_catalog.specs.Replies.{wait_of}
-use Rattle.gl_registry.specs.declared.row.Row.{Row}
-use Rattle.gl_registry.specs.Releasing.{no_node}
+use Rattle.gl_rows.specs.declared.row.Row.{Row}
+use Rattle.gl_rows.specs.Releasing.{no_node}
 use Rattle.gl_waiting.specs.declared.keys.RowKeys.{RowKeys}
 use Rattle.gl_waiting.specs.declared.waiter.Came.{Came}
 use Rattle.gl_waiting.specs.declared.waiter.Came.TheVariants as came

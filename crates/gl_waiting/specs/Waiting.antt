@@ -1,7 +1,7 @@
 -- What a contract sees of a table of waiters.
 use Rattle.std.specs.Prelude.{List}
 use Rattle.gl_catalog.specs.Manager.{ManagerView}
-use Rattle.gl_registry.specs.Rows.{RowsView}
+use Rattle.gl_rows.specs.Rows.{RowsView}
 use Rattle.gl_wakes.specs.Boxes.{Slot}
 use Rattle.gl_waiting.specs.Begins.{Begun}
 use Rattle.gl_waiting.specs.declared.begins.QueuedBegin.{QueuedBegin}

@@ -5,7 +5,7 @@ use crate::{Came, Outcome, Request, RowKeys, RowTried, Waiter, Waiting};
 use gl_catalog::{Answer, Command};
 use gl_modes::Mode::{IX, X};
 use gl_modes::{NodeId, Refusal};
-use gl_registry::{Row, RowAnswer, RowCall};
+use gl_rows::{Row, RowAnswer, RowCall};
 use gl_table::{Told, TxnId};
 use std::alloc::Global;
 use std::process::Abort;

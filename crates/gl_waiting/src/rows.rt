@@ -15,7 +15,7 @@ use crate::waiter::{Came, Outcome, Waiter};
 use crate::waiters::wait_of;
 use gl_catalog::Manager;
 use gl_modes::{Mode, NodeId};
-use gl_registry::{Row, RowLocked, RowRefusal};
+use gl_rows::{Row, RowLocked, RowRefusal};
 use gl_slots::Slots;
 use gl_table::{Locked, Told, TxnId};
 

@@ -7,7 +7,7 @@ use crate::{Came, Delivery, Outcome, QueuedBegin, Request, SetOff, Turn, Waiter,
 use gl_catalog::{Answer, Command, Manager};
 use gl_modes::Mode::{IX, X};
 use gl_modes::{NodeId, Refusal};
-use gl_registry::Registry;
+use gl_rows::Registry;
 use gl_table::{Detect, Told, TxnId};
 use std::alloc::Global;
 use std::fmt::Debug;

@@ -10,7 +10,7 @@ ghost use Rattle.gl_waiting.specs.RowTries.{IsAtOnce, is_released, lock_of_tried
 use arrayvec::ArrayVec;
 use gl_catalog::Answer;
 use gl_modes::{Mode, NodeId, Refusal, covers};
-use gl_registry::{RowAnswer, RowLocked, RowRefusal};
+use gl_rows::{RowAnswer, RowLocked, RowRefusal};
 use gl_table::Locked;
 
 /// How many nodes above it a tried path remembers.

@@ -5,7 +5,7 @@ ghost use Rattle.gl_waiting.specs.Waiters.{has_more, is_granted_so, next_of, nod
 
 use crate::keys::RowKeys;
 use gl_modes::{Mode, NodeId, Refusal};
-use gl_registry::Row;
+use gl_rows::Row;
 use gl_table::TxnId;
 use gl_wakes::{Grant, Stop};
 

@@ -15,10 +15,10 @@ use Rattle.gl_catalog.specs.Manager.{ManagerView, state_of}
 use Rattle.gl_catalog.specs.Savepoints.{TakesBack}
 use Rattle.gl_steps.specs.Promises.{NobodyWaits}
 use Rattle.gl_steps.proofs.LivesOn.{GoesOn, lives_on_same, lives_on_trans, pumped_goes_on}
-use Rattle.gl_registry.specs.Releasing.{GoesBackTo}
-use Rattle.gl_registry.specs.Rows.{RegistryView}
-use Rattle.gl_registry.proofs.CarriedOut.{each_goes}
-use Rattle.gl_registry.proofs.Upkeep.{LeavesAll, upkeep_leaves}
+use Rattle.gl_rows.specs.Releasing.{GoesBackTo}
+use Rattle.gl_rows.specs.Rows.{RegistryView}
+use Rattle.gl_rows.proofs.CarriedOut.{each_goes}
+use Rattle.gl_rows.proofs.Upkeep.{LeavesAll, upkeep_leaves}
 use Rattle.gl_c.proofs.serving.RowCalls.{leaves_idle}
 
 -- One node after the other is unlocked: all live on, and nobody begins to wait.

@@ -17,13 +17,13 @@ use Rattle.gl_steps.specs.declared.command.Command.{Command}
 use Rattle.gl_catalog.specs.Manager.{ManagerView, state_of}
 use Rattle.gl_catalog.specs.Paths.{Ask}
 use Rattle.gl_catalog.specs.declared.manager.paths.Reached.{Reached}
-use Rattle.gl_registry.specs.Applying.{answer_in, own_command, unnamed}
-use Rattle.gl_registry.specs.Locking.{Wish}
-use Rattle.gl_registry.specs.Releasing.{GoesBackTo}
-use Rattle.gl_registry.specs.Rows.{RegistryView}
-use Rattle.gl_registry.specs.Serving.{ServesBy, touches_rows}
-use Rattle.gl_registry.specs.declared.answer.RowAnswer.{RowAnswer}
-use Rattle.gl_registry.specs.declared.call.RowCall.{RowCall}
+use Rattle.gl_rows.specs.Applying.{answer_in, own_command, unnamed}
+use Rattle.gl_rows.specs.Locking.{Wish}
+use Rattle.gl_rows.specs.Releasing.{GoesBackTo}
+use Rattle.gl_rows.specs.Rows.{RegistryView}
+use Rattle.gl_rows.specs.Serving.{ServesBy, touches_rows}
+use Rattle.gl_rows.specs.declared.answer.RowAnswer.{RowAnswer}
+use Rattle.gl_rows.specs.declared.call.RowCall.{RowCall}
 use Rattle.gl_waiting.specs.Asking.{LocksPath, RollsBackTo, Serves, ServesRow, TriesRowThere, TriesThere}
 use Rattle.gl_waiting.specs.Delivering.{ComesToNothing, DeliveryView, registry_in}
 use Rattle.gl_waiting.specs.Going.{WentOn}

@@ -16,12 +16,12 @@ use Rattle.gl_steps.specs.declared.command.Command.{Command}
 use Rattle.gl_catalog.specs.Counters.{refuses}
 use Rattle.gl_catalog.specs.Manager.{ManagerView, state_of}
 use Rattle.gl_steps.specs.Promises.{NobodyWaits}
-use Rattle.gl_registry.specs.declared.answer.RowAnswer.{RowAnswer}
-use Rattle.gl_registry.specs.declared.call.RowCall.{RowCall}
-use Rattle.gl_registry.specs.declared.call.RowCall.TheVariants as call
-use Rattle.gl_registry.specs.Applying.{CarriesOut, StepsAmid, answer_in, naming, own_command, unnamed}
-use Rattle.gl_registry.specs.Rows.{RegistryView, RowsView}
-use Rattle.gl_registry.proofs.Upkeep.{LeavesAll, upkeep_law, upkeep_leaves}
+use Rattle.gl_rows.specs.declared.answer.RowAnswer.{RowAnswer}
+use Rattle.gl_rows.specs.declared.call.RowCall.{RowCall}
+use Rattle.gl_rows.specs.declared.call.RowCall.TheVariants as call
+use Rattle.gl_rows.specs.Applying.{CarriesOut, StepsAmid, answer_in, naming, own_command, unnamed}
+use Rattle.gl_rows.specs.Rows.{RegistryView, RowsView}
+use Rattle.gl_rows.proofs.Upkeep.{LeavesAll, upkeep_law, upkeep_leaves}
 use Rattle.gl_steps.specs.Served.{is_query, is_refused, leaves_waiting}
 use Rattle.gl_window.proofs.Waits.{Spares}
 use Rattle.gl_window.specs.Boards.{HasParties}

@@ -10,7 +10,7 @@ use Rattle.gl_table.specs.Table.{board_of}
 use Rattle.gl_steps.specs.Served.{accepts}
 use Rattle.gl_steps.proofs.Serving.{step_counts}
 use Rattle.gl_catalog.specs.Manager.{ManagerView, state_of}
-use Rattle.gl_registry.specs.Locking.{Line, Runs}
+use Rattle.gl_rows.specs.Locking.{Line, Runs}
 use Rattle.gl_waiting.specs.Going.{IsRun}
 use Rattle.gl_waiting.specs.Waiting.{WaitingView}
 use Rattle.gl_waiting.specs.declared.set_off.SetOff.{SetOff}

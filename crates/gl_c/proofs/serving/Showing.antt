@@ -29,7 +29,7 @@ use Rattle.gl_window.specs.Window.{GoesOn}
 use Rattle.gl_window.specs.declared.publisher.WatchFault.{WatchFault}
 use Rattle.gl_c.specs.managers.Serving.{KnowsWaits, ShowsOn}
 use Rattle.gl_modes.proofs.Words.{split}
-use Rattle.gl_registry.specs.Locking.{Line, Runs}
+use Rattle.gl_rows.specs.Locking.{Line, Runs}
 use Rattle.gl_steps.proofs.Detection.{steps_keep_detect}
 use Rattle.gl_steps.proofs.Serving.{step_counts}
 use Rattle.gl_steps.specs.Served.{accepts}

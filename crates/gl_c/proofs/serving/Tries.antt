@@ -8,7 +8,7 @@ use Rattle.gl_model.specs.Tellings.{Told}
 use Rattle.gl_steps.specs.Promises.{NobodyWaits}
 use Rattle.gl_catalog.specs.Manager.{ManagerView, state_of}
 use Rattle.gl_catalog.specs.Paths.{Ask}
-use Rattle.gl_registry.specs.Releasing.{GoesBackTo}
+use Rattle.gl_rows.specs.Releasing.{GoesBackTo}
 use Rattle.gl_waiting.specs.Delivering.{ComesToNothing, DeliveryView}
 use Rattle.gl_waiting.specs.Delivering.{registry_in as registry_of}
 use Rattle.gl_waiting.specs.declared.tries.Keep.{Keep}

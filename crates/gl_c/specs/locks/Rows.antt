@@ -5,12 +5,12 @@ use Rattle.gl_modes.specs.declared.refusal.Refusal.TheVariants as no
 use Rattle.gl_model.specs.declared.answers.Locked.{Locked}
 use Rattle.gl_model.specs.declared.answers.Locked.TheVariants as locked
 use Rattle.gl_steps.specs.declared.command.Answer.TheVariants as answer
-use Rattle.gl_registry.specs.Applying.{answer_in, own_command, unnamed}
-use Rattle.gl_registry.specs.Rows.{name_of}
-use Rattle.gl_registry.specs.declared.answer.RowAnswer.{RowAnswer}
-use Rattle.gl_registry.specs.declared.answer.RowAnswer.TheVariants as row_answer
-use Rattle.gl_registry.specs.declared.call.RowCall.{RowCall}
-use Rattle.gl_registry.specs.declared.row.Row.{Row}
+use Rattle.gl_rows.specs.Applying.{answer_in, own_command, unnamed}
+use Rattle.gl_rows.specs.Rows.{name_of}
+use Rattle.gl_rows.specs.declared.answer.RowAnswer.{RowAnswer}
+use Rattle.gl_rows.specs.declared.answer.RowAnswer.TheVariants as row_answer
+use Rattle.gl_rows.specs.declared.call.RowCall.{RowCall}
+use Rattle.gl_rows.specs.declared.row.Row.{Row}
 use Rattle.gl_c.specs.declared.answers.reply.Reply.{Reply}
 use Rattle.gl_c.specs.managers.Carries.{Declines, CallOf, spared_by}
 use Rattle.gl_c.specs.managers.Guarded.{GuardedView}

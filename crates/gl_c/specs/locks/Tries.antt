@@ -6,7 +6,7 @@ use Rattle.gl_model.specs.declared.answers.Locked.TheVariants as locked
 use Rattle.gl_model.specs.declared.txn.TxnId.{TxnId}
 use Rattle.gl_steps.specs.declared.command.Answer.TheVariants as answer
 use Rattle.gl_catalog.specs.Paths.{Ask}
-use Rattle.gl_registry.specs.Locking.{Wish}
+use Rattle.gl_rows.specs.Locking.{Wish}
 use Rattle.gl_waiting.specs.declared.tries.Keep.{Keep}
 use Rattle.gl_waiting.specs.declared.tries.RowTried.{RowTried}
 use Rattle.gl_waiting.specs.declared.tries.RowTried.TheVariants as row

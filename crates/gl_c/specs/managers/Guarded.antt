@@ -2,7 +2,7 @@
 use Rattle.std.specs.Prelude.{List, Option}
 use Rattle.gl_slots.specs.declared.slots.Slots.{Slots}
 use Rattle.gl_catalog.specs.Manager.{ManagerView}
-use Rattle.gl_registry.specs.Rows.{RowsView}
+use Rattle.gl_rows.specs.Rows.{RowsView}
 use Rattle.gl_waiting.specs.Begins.{Begun}
 use Rattle.gl_waiting.specs.Waiting.{WaitingView}
 use Rattle.gl_waiting.specs.declared.begins.QueuedBegin.{QueuedBegin}

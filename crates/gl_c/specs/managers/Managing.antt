@@ -8,8 +8,8 @@ use Rattle.gl_model.specs.declared.answers.Detect.{Detect}
 use Rattle.gl_waits.specs.declared.victims.Victims.{Victims}
 use Rattle.gl_model.specs.State.{choosing, empty_state, with_limits}
 use Rattle.gl_catalog.specs.Manager.{state_of}
-use Rattle.gl_registry.specs.Rows.{has_asked, has_rows, name_of}
-use Rattle.gl_registry.specs.declared.row.Row.{Row}
+use Rattle.gl_rows.specs.Rows.{has_asked, has_rows, name_of}
+use Rattle.gl_rows.specs.declared.row.Row.{Row}
 use Rattle.gl_waiting.specs.declared.waiter.Place.TheVariants.{Empty}
 use Rattle.gl_c.specs.declared.answers.reply.Reply.{Reply}
 use Rattle.gl_c.specs.managers.Carries.{Declines, Where}

@@ -19,7 +19,7 @@ use crate::numbers::{
 };
 use gl_catalog::{Answer, Reached};
 use gl_modes::{Mode, NodeId, Refusal};
-use gl_registry::RowAnswer;
+use gl_rows::RowAnswer;
 use gl_table::{Locked, TxnId};
 use gl_waiting::{Came, Outcome, QueuedBegin, RowTried, Tried, Turn};
 use gl_wakes::{Grant, Stop};

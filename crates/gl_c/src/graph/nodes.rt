@@ -1,7 +1,7 @@
 //! Calls that make nodes.
 
 ghost use Rattle.gl_steps.specs.declared.command.Command.TheVariants as command;
-ghost use Rattle.gl_registry.specs.declared.call.RowCall.TheVariants as call;
+ghost use Rattle.gl_rows.specs.declared.call.RowCall.TheVariants as call;
 ghost use Rattle.gl_c.specs.managers.Carries.{Asks, Declines, Under, command_call};
 ghost use Rattle.gl_c.specs.managers.Handle.{guarded_in};
 ghost use Rattle.gl_c.specs.Names.{node_id};
@@ -14,7 +14,7 @@ use crate::managers::handle::Handle;
 use crate::names::Node;
 use crate::numbers::BAD_NUMBER;
 use gl_catalog::Command;
-use gl_registry::RowCall;
+use gl_rows::RowCall;
 
 /// Makes an inner node under 0 to 8 inner nodes; without parents it is a root.
 #[unsafe(no_mangle)]

@@ -2,7 +2,7 @@
 //! somebody fills `told`, whatever it had before.
 
 ghost use Rattle.std.specs.Prelude.{[]};
-ghost use Rattle.gl_registry.specs.declared.call.RowCall.TheVariants as call;
+ghost use Rattle.gl_rows.specs.declared.call.RowCall.TheVariants as call;
 ghost use Rattle.gl_c.specs.managers.Carries.{Carries, Declines, Where};
 ghost use Rattle.gl_c.specs.managers.Handle.{guarded_in};
 ghost use Rattle.gl_c.specs.Names.{node_id, row_at, txn_id};
@@ -15,7 +15,7 @@ use crate::answers::reply::Reply;
 use crate::managers::handle::Handle;
 use crate::names::{Node, Txn};
 use crate::numbers::{BAD_NUMBER, mode_at};
-use gl_registry::RowCall;
+use gl_rows::RowCall;
 
 /// Locks a row by its node, with these keys, one for each index of its file in the order of making. To
 /// insert or delete a row, lock it in X. If the row's node has other keys, the lock is held as well,

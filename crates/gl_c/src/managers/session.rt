@@ -5,7 +5,7 @@ ghost use Rattle.std.specs.Prelude.{◌≡◌, ◌≤◌, ◌^◌, IfErr, IfOk, 
 ghost use Rattle.gl_modes.specs.declared.refusal.Refusal.{Refusal as ARefusal};
 ghost use Rattle.gl_table.specs.Table.{board_of};
 ghost use Rattle.gl_catalog.specs.Manager.{IsLawfulManager, state_of};
-ghost use Rattle.gl_registry.specs.Rows.{name_of};
+ghost use Rattle.gl_rows.specs.Rows.{name_of};
 ghost use Rattle.gl_window.specs.Boards.{Ends};
 ghost use Rattle.gl_wakes.specs.Boxes.{verdict_of};
 ghost use Rattle.gl_c.specs.managers.Carries.{Answers, Replies, command_call};
@@ -31,7 +31,7 @@ use crate::numbers::DONE;
 use crate::questions::look::{Query, look};
 use gl_catalog::{Command, Manager};
 use gl_modes::{Mode, NodeId, Refusal};
-use gl_registry::{Row, RowCall};
+use gl_rows::{Row, RowCall};
 use gl_slots::Slots;
 use gl_table::{Detect, Told, TxnId};
 use gl_waiting::{Keep, QueuedBegin, Waiter};

@@ -4,7 +4,7 @@ ghost use Rattle.std.specs.Prelude.{◌≡◌, ◌≤◌, ◌⊎◌, ◌∷◌, 
 ghost use Rattle.gl_slots.specs.Slots.{HasNoSlot, has_none};
 ghost use Rattle.gl_table.specs.Table.{board_of};
 ghost use Rattle.gl_catalog.specs.Manager.{IsLawfulManager, state_of};
-ghost use Rattle.gl_registry.specs.Applying.{answer_in};
+ghost use Rattle.gl_rows.specs.Applying.{answer_in};
 ghost use Rattle.gl_window.specs.Boards.{Ends, Fine, HasParties, last_epoch};
 ghost use Rattle.gl_window.specs.Tellings.{leaves_waits, still_known};
 ghost use Rattle.gl_c.specs.locks.Paths.{ends_waiting, goes_well, leaves_on_path};
@@ -16,7 +16,7 @@ ghost use Rattle.gl_c.specs.watchers.Watching.{Continues};
 use gl_catalog::replies::answer_of_lock;
 use gl_catalog::{Answer, Command, Manager, Reached};
 use gl_modes::Refusal;
-use gl_registry::RowAnswer;
+use gl_rows::RowAnswer;
 use gl_slots::Slots;
 use gl_steps::leaves_waiting;
 use gl_table::{Detect, Locked, Notice, TxnId};

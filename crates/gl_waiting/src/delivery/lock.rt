@@ -3,7 +3,7 @@
 ghost use Rattle.std.specs.Prelude.{◌≡◌, []};
 ghost use Rattle.gl_catalog.specs.Manager.{state_of};
 ghost use Rattle.gl_catalog.specs.Paths.{lock_of};
-ghost use Rattle.gl_registry.specs.Serving.{Applies};
+ghost use Rattle.gl_rows.specs.Serving.{Applies};
 ghost use Rattle.gl_waiting.specs.Delivering.{Carries, IsLockAnswer, lock_said};
 ghost use Rattle.gl_waiting.specs.Going.{IsRun};
 

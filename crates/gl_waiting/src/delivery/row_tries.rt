@@ -3,7 +3,7 @@
 ghost use Rattle.std.specs.Prelude.{◌≡◌, ◌⊎◌, ◌<◌, ◌≤◌, [], Some, false};
 ghost use Rattle.gl_slots.specs.Slots.{HasNoSlot};
 ghost use Rattle.gl_catalog.specs.Manager.{state_of};
-ghost use Rattle.gl_registry.specs.Rows.{name_of};
+ghost use Rattle.gl_rows.specs.Rows.{name_of};
 ghost use Rattle.gl_wakes.specs.Wakes.{HasEnded};
 ghost use Rattle.gl_waiting.specs.Going.{IsRun};
 ghost use Rattle.gl_waiting.specs.RowTries.{BeginsNoWait, BlocksNobody, HoldsTried, IsHeldIn, KeepsQueues, NotesRow, TriesRow, busy_node, was_held};
@@ -12,7 +12,7 @@ use super::Delivery;
 use crate::tries::{RowTried, is_released, refused_at, row_refused, row_tried_as};
 use gl_catalog::Manager;
 use gl_modes::{Mode, NodeId};
-use gl_registry::{Row, RowCall, RowRefusal};
+use gl_rows::{Row, RowCall, RowRefusal};
 use gl_slots::Slots;
 use gl_table::{Told, TxnId};
 

@@ -1,9 +1,9 @@
 //! Calls about rows.
 
 ghost use Rattle.std.specs.Prelude.{◌≡◌, []};
-ghost use Rattle.gl_registry.specs.Answers.{lock_said};
+ghost use Rattle.gl_rows.specs.Answers.{lock_said};
 ghost use Rattle.gl_catalog.specs.Manager.{state_of};
-ghost use Rattle.gl_registry.specs.Applying.{AppliesCall, CarriesOut, answer_in, naming, own_command};
+ghost use Rattle.gl_rows.specs.Applying.{AppliesCall, CarriesOut, answer_in, naming, own_command};
 ghost use Rattle.gl_waiting.specs.Delivering.{Carries, registry_in};
 ghost use Rattle.gl_waiting.specs.Going.{IsRun};
 ghost use Rattle.gl_waiting.specs.RowLocks.{IsRowLockAnswer, LocksRowAs, row_lock};
@@ -11,7 +11,7 @@ ghost use Rattle.gl_waiting.specs.RowLocks.{IsRowLockAnswer, LocksRowAs, row_loc
 use super::{Delivery, deliver};
 use gl_catalog::Answer;
 use gl_modes::Mode;
-use gl_registry::{Row, RowAnswer, RowCall, RowLocked, RowRefusal};
+use gl_rows::{Row, RowAnswer, RowCall, RowLocked, RowRefusal};
 use gl_slots::Slots;
 use gl_table::{Told, TxnId};
 

@@ -2,7 +2,7 @@
 
 ghost use Rattle.std.specs.Prelude.{◌≡◌, ◌≤◌, [], OnErr, OnOk};
 ghost use Rattle.gl_catalog.specs.Manager.{state_of};
-ghost use Rattle.gl_registry.specs.Releasing.{GoesBackTo};
+ghost use Rattle.gl_rows.specs.Releasing.{GoesBackTo};
 ghost use Rattle.gl_waiting.specs.Delivering.{ComesToNothing, Delivered, unlocking};
 ghost use Rattle.gl_waiting.specs.Going.{IsRun};
 

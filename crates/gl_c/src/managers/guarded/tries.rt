@@ -7,7 +7,7 @@ ghost use Rattle.gl_c.specs.managers.Carries.{Performs};
 use super::Guarded;
 use crate::managers::showing::keep_nobody;
 use gl_modes::{Mode, NodeId};
-use gl_registry::Row;
+use gl_rows::Row;
 use gl_table::{Told, TxnId};
 use gl_waiting::{Keep, RowTried, Tried};
 

@@ -40,7 +40,7 @@ use crate::questions::deadlock::Deadlock;
 use crate::questions::look::Query;
 use gl_catalog::Command;
 use gl_modes::{Mode, NodeId};
-use gl_registry::{Row, RowCall};
+use gl_rows::{Row, RowCall};
 use gl_table::TxnId;
 use gl_waiting::{Keep, QueuedBegin, Waiter};
 use gl_window::{WatchFault, Watcher};

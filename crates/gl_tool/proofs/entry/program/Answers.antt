@@ -1,7 +1,7 @@
 use Rattle.std.proofs.Common.{refl, sym, arith, inl, inr, ◌≡◌, ◌∙◌, ℕ, List, Option, Err}
 use Rattle.gl_script.specs.Grammar.{Text}
-use Rattle.gl_words.specs.declared.requests.Asked.TheVariants as asked
-use Rattle.gl_words.specs.Planned.{HasNoPlan}
+use Rattle.gl_options.specs.declared.requests.Asked.TheVariants as asked
+use Rattle.gl_options.specs.Planned.{HasNoPlan}
 use Rattle.gl_tool.specs.declared.entry.ToolFault.{ToolFault}
 use Rattle.gl_tool.specs.declared.entry.ToolFault.TheVariants.{Run, Crew, Words}
 use Rattle.gl_tool.specs.Outcome.{Stops, Works, status_of}

@@ -2,8 +2,8 @@ use Rattle.std.proofs.Common.{arith, ℕ, ◌<◌, ◌≤◌, Bool, true, false,
 use Rattle.gl_script.specs.Grammar.{Text}
 use Rattle.gl_waits.specs.declared.victims.Victims.{Victims}
 use Rattle.gl_model.specs.declared.answers.Detect.{Detect}
-use Rattle.gl_words.specs.declared.requests.Asked.TheVariants.{Crew}
-use Rattle.gl_words.specs.Planned.{IsAsked}
+use Rattle.gl_options.specs.declared.requests.Asked.TheVariants.{Crew}
+use Rattle.gl_options.specs.Planned.{IsAsked}
 use Rattle.gl_tool.proofs.entry.work.Goals as goal
 
 -- a crew that is asked for has 1 to 128 sessions

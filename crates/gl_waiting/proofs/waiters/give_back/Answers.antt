@@ -2,7 +2,7 @@ use Rattle.std.proofs.Common.{◌≡◌, Bool, true, refl, subst, sym, ◌∙◌
 use Rattle.gl_modes.specs.declared.node.NodeId.{NodeId}
 use Rattle.gl_modes.proofs.Words.{and_both}
 use Rattle.gl_steps.specs.declared.command.Command.TheVariants as command
-use Rattle.gl_registry.specs.Serving.{Applies}
+use Rattle.gl_rows.specs.Serving.{Applies}
 use Rattle.gl_waiting.specs.Ends.{Unlocks, UnlocksIf, UnlocksInstant, is_given_back}
 use Rattle.gl_waiting.specs.Going.{CallThat}
 use Rattle.gl_waiting.specs.Waiters.{is_granted_so, node_in}

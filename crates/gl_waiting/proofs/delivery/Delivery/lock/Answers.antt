@@ -3,7 +3,7 @@ use Rattle.std.specs.Prelude.{Option, Some}
 use Rattle.gl_steps.specs.declared.command.Answer.{Answer}
 use Rattle.gl_catalog.specs.Manager.{state_of}
 use Rattle.gl_catalog.specs.Paths.{lock_of}
-use Rattle.gl_registry.specs.Serving.{Applies}
+use Rattle.gl_rows.specs.Serving.{Applies}
 use Rattle.gl_waiting.specs.Delivering.{IsLockAnswer}
 use Rattle.gl_waiting.proofs.Delivered.{lock_answered}
 use Rattle.gl_waiting.proofs.delivery.Delivery.lock.Goals as goal

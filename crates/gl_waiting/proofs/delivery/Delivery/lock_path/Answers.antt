@@ -1,7 +1,7 @@
 use Rattle.std.proofs.Common.{◌≡◌, ap, subst, ◌∙◌, inl, inr, ℕ}
 use Rattle.gl_catalog.specs.Manager.{ManagerView, state_of}
 use Rattle.gl_catalog.specs.Paths.{lock_of}
-use Rattle.gl_registry.specs.Serving.{PathLeavesRows}
+use Rattle.gl_rows.specs.Serving.{PathLeavesRows}
 use Rattle.gl_waiting.specs.Delivering.{Carries, DeliveryView, registry_in}
 use Rattle.gl_waiting.specs.Going.{IsRun}
 use Rattle.gl_waiting.proofs.Delivered.{with_boxes}

@@ -1,4 +1,4 @@
-use Rattle.gl_registry.specs.Locking.{Wish}
+use Rattle.gl_rows.specs.Locking.{Wish}
 use Rattle.gl_waiting.proofs.RowLocking.{locks_as, row_answered}
 use Rattle.gl_waiting.proofs.delivery.Delivery.lock_row.Goals as goal
 

@@ -1,9 +1,9 @@
 use Rattle.std.proofs.Common.{ap, subst, sym, ◌∙◌}
 use Rattle.std.specs.Prelude.{Err, Result}
 use Rattle.gl_catalog.specs.Manager.{ManagerView, state_of}
-use Rattle.gl_registry.specs.declared.answer.RowLocked.{RowLocked}
-use Rattle.gl_registry.specs.declared.answer.RowRefusal.{RowRefusal}
-use Rattle.gl_registry.specs.Locking.{Wish}
+use Rattle.gl_rows.specs.declared.answer.RowLocked.{RowLocked}
+use Rattle.gl_rows.specs.declared.answer.RowRefusal.{RowRefusal}
+use Rattle.gl_rows.specs.Locking.{Wish}
 use Rattle.gl_waiting.specs.RowLocks.{LocksRowAs}
 use Rattle.gl_waiting.specs.RowTries.{HoldsTried, KeepsQueues}
 use Rattle.gl_waiting.specs.declared.tries.RowTried.{RowTried}

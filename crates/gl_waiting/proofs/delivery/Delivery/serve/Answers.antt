@@ -1,7 +1,7 @@
 use Rattle.std.proofs.Common.{subst, sym, ◌∙◌}
 use Rattle.std.specs.Prelude.{Some}
 use Rattle.gl_catalog.specs.Manager.{state_of}
-use Rattle.gl_registry.specs.Serving.{ServesBy, touches_rows}
+use Rattle.gl_rows.specs.Serving.{ServesBy, touches_rows}
 use Rattle.gl_waiting.specs.Delivering.{Carries, DeliveryView, registry_in}
 use Rattle.gl_waiting.specs.Going.{IsRun}
 use Rattle.gl_waiting.proofs.Delivered.{carries_not, carries_so, made, made_rises, with_boxes}

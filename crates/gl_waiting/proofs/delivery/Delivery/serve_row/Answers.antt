@@ -4,7 +4,7 @@ use Rattle.gl_slots.specs.Limit.{most_slots}
 use Rattle.gl_slots.specs.Slots.{has_slot}
 use Rattle.gl_steps.specs.declared.command.Command.{Command}
 use Rattle.gl_catalog.specs.Manager.{ManagerView, state_of}
-use Rattle.gl_registry.specs.Applying.{AppliesCall, CarriesOut, answer_in, naming, own_command}
+use Rattle.gl_rows.specs.Applying.{AppliesCall, CarriesOut, answer_in, naming, own_command}
 use Rattle.gl_wakes.specs.Wakes.{names_slot}
 use Rattle.gl_waiting.specs.Delivering.{Carries, DeliveryView, Puts, registry_in}
 use Rattle.gl_waiting.specs.Going.{IsRun}

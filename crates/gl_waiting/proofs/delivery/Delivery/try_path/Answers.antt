@@ -6,7 +6,7 @@ use Rattle.gl_model.specs.State.{lives}
 use Rattle.gl_model.specs.Tellings.{Told}
 use Rattle.gl_catalog.specs.Manager.{ManagerView, state_of}
 use Rattle.gl_catalog.specs.Paths.{Ask}
-use Rattle.gl_registry.specs.Releasing.{GoesBackTo}
+use Rattle.gl_rows.specs.Releasing.{GoesBackTo}
 use Rattle.gl_wakes.specs.Wakes.{HasEnded}
 use Rattle.gl_waiting.specs.Delivering.{ComesToNothing, Delivered, DeliveryView, unlocking}
 use Rattle.gl_waiting.specs.Tries.{IsTried, gives_back, lock_count}

@@ -4,7 +4,7 @@ use Rattle.gl_modes.specs.declared.node.NodeId.{NodeId}
 use Rattle.gl_catalog.specs.Manager.{ManagerView, state_of}
 use Rattle.gl_catalog.specs.Paths.{Ask}
 use Rattle.gl_model.specs.declared.txn.TxnId.{TxnId}
-use Rattle.gl_registry.specs.Locking.{Wish}
+use Rattle.gl_rows.specs.Locking.{Wish}
 use Rattle.gl_waiting.specs.Delivering.{DeliveryView}
 use Rattle.gl_waiting.specs.RowTries.{HoldsTried, TriesRowBy, was_held}
 use Rattle.gl_waiting.specs.declared.tries.RowTried.{RowTried}

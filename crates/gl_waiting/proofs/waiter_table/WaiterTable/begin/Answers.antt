@@ -4,7 +4,7 @@ use Rattle.gl_slots.specs.declared.slots.Slots.{Slots}
 use Rattle.gl_steps.specs.declared.command.Answer.{Answer}
 use Rattle.gl_steps.specs.declared.command.Answer.TheVariants as answer
 use Rattle.gl_catalog.specs.Manager.{state_of}
-use Rattle.gl_registry.specs.Serving.{Applies}
+use Rattle.gl_rows.specs.Serving.{Applies}
 use Rattle.gl_waiting.specs.Asking.{Begins, Serves, begin_of, begin_said}
 use Rattle.gl_steps.specs.declared.command.Command.{Command}
 use Rattle.gl_waiting.specs.Delivering.{Carries, DeliveryView, registry_in}

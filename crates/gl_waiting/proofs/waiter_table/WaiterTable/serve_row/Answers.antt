@@ -1,6 +1,6 @@
 use Rattle.std.proofs.Common.{refl, subst, sym}
 use Rattle.gl_slots.specs.declared.slots.Slots.{Slots}
-use Rattle.gl_registry.specs.Applying.{naming, own_command}
+use Rattle.gl_rows.specs.Applying.{naming, own_command}
 use Rattle.gl_waiting.specs.Delivering.{Carries}
 use Rattle.gl_waiting.specs.Ends.{NoneAwaits}
 use Rattle.gl_catalog.specs.Manager.{state_of}

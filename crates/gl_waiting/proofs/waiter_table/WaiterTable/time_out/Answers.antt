@@ -12,7 +12,7 @@ use Rattle.gl_waiting.specs.Asking.{TimesOut, is_done}
 use Rattle.gl_waiting.specs.Delivering.{Carries, registry_in}
 use Rattle.gl_slots.specs.declared.slots.Slots.{Slots}
 use Rattle.gl_waiting.specs.Ends.{Cancels, EndsBetween, EndsLate, GoesOn, PlaceGoes, PlaceGoesOn}
-use Rattle.gl_registry.specs.Serving.{ServesBy, touches_rows}
+use Rattle.gl_rows.specs.Serving.{ServesBy, touches_rows}
 use Rattle.gl_steps.specs.declared.command.Command.TheVariants as command
 use Rattle.gl_waiting.specs.Waiters.{AwaitBut, HasWaiter, place_at}
 use Rattle.gl_waiting.specs.Waiting.{WaitingView}

@@ -2,7 +2,7 @@ use Rattle.std.proofs.Common.{refl, subst, sym}
 use Rattle.gl_slots.specs.declared.slots.Slots.{Slots}
 use Rattle.gl_waiting.specs.RowTries.{TriesRow}
 use Rattle.gl_catalog.specs.Manager.{state_of}
-use Rattle.gl_registry.specs.Locking.{Wish}
+use Rattle.gl_rows.specs.Locking.{Wish}
 use Rattle.gl_waiting.specs.Asking.{TriesRowThere}
 use Rattle.gl_waiting.specs.Ends.{NoneAwaits}
 use Rattle.gl_waiting.specs.Waiting.{WaitingView}

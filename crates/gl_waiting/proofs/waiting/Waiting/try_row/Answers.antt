@@ -1,5 +1,5 @@
 use Rattle.std.proofs.Common.{subst}
-use Rattle.gl_registry.specs.Locking.{Wish}
+use Rattle.gl_rows.specs.Locking.{Wish}
 use Rattle.gl_waiting.specs.Asking.{InTurn, TriesRowThere}
 use Rattle.gl_waiting.specs.Waiting.{WaitingView}
 use Rattle.gl_waiting.proofs.Turns.{in_turn}

@@ -1,6 +1,6 @@
 use Rattle.std.proofs.Common.{ap, refl, ◌∙◌}
 use Rattle.gl_catalog.specs.Manager.{state_of}
-use Rattle.gl_registry.specs.Rows.{RegistryView, has_asked, has_rows, name_of}
+use Rattle.gl_rows.specs.Rows.{RegistryView, has_asked, has_rows, name_of}
 use Rattle.gl_waiting.specs.Delivering.{DeliveryView, registry_in}
 use Rattle.gl_c.proofs.managers.guarded.Guarded.new.Goals as goal
 

@@ -4,7 +4,7 @@ use Rattle.gl_slots.specs.declared.slots.Slots.{Slots}
 use Rattle.gl_model.specs.Tellings.{Told}
 use Rattle.gl_steps.specs.declared.command.Answer.{Answer}
 use Rattle.gl_steps.specs.declared.command.Command.{Command}
-use Rattle.gl_registry.specs.declared.call.RowCall.{RowCall}
+use Rattle.gl_rows.specs.declared.call.RowCall.{RowCall}
 use Rattle.gl_c.specs.managers.Carries.{Performs}
 use Rattle.gl_c.specs.managers.Guarded.{GuardedView, with_waiting}
 use Rattle.gl_c.specs.managers.Serving.{known_after}
@@ -14,7 +14,7 @@ use Rattle.gl_c.proofs.serving.Serving.{counted_as, leaves_counted, leaves_idle,
 use Rattle.gl_c.proofs.serving.Known.{row_knows}
 use Rattle.gl_waiting.proofs.TurnRuns.{row_run, turn_alone, turn_run}
 use Rattle.gl_c.specs.managers.Carries.{spared_by}
-use Rattle.gl_registry.specs.Applying.{answer_in, own_command, unnamed}
+use Rattle.gl_rows.specs.Applying.{answer_in, own_command, unnamed}
 use Rattle.gl_c.specs.locks.Rows.{row_call}
 use Rattle.gl_c.proofs.managers.guarded.Guarded.serve_row.Goals as goal
 

@@ -1,6 +1,6 @@
 use Rattle.std.specs.Prelude.{Some}
 use Rattle.std.proofs.Common.{rules, ◌≡◌}
-use Rattle.gl_registry.specs.Locking.{Wish}
+use Rattle.gl_rows.specs.Locking.{Wish}
 use Rattle.gl_c.specs.locks.Tries.{tried_row_call}
 use Rattle.gl_c.specs.managers.Handle.{guarded_in}
 use Rattle.gl_c.proofs.Carrying.{carried}

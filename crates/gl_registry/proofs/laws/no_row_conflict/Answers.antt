@@ -1,9 +1,0 @@
-use Rattle.gl_registry.proofs.NodeRows.{no_row_of_two_law}
-use Rattle.gl_registry.proofs.RowEffects.{no_row_conflict}
-use Rattle.gl_registry.proofs.laws.no_row_conflict.Goals as goal
-
-pub returns-clause-above : goal.returns-clause-above
-returns-clause-above c = no_row_conflict
-
-pub returns-clause-all : goal.returns-clause-all
-returns-clause-all c = no_row_of_two_law

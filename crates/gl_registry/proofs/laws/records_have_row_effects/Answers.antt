@@ -1,5 +1,0 @@
-use Rattle.gl_registry.proofs.StandingRows.{records_have_row_effects}
-use Rattle.gl_registry.proofs.laws.records_have_row_effects.Goals as goal
-
-pub returns : goal.returns
-returns c = records_have_row_effects

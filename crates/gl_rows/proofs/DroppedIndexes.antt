@@ -1,0 +1,102 @@
+-- A node is dropped: a file keeps its other indexes, and if a file and its keys are a row before and after, its parents are the same nodes.
+use Rattle.std.specs.Prelude.{◌≡◌, ℕ, suc, ◌<◌, ◌≤◌, Bool, true, false, not, ◌||◌, List, [], ◌∷◌, ◌++◌, length, Some, nat_le, if◌then◌else◌}
+use Rattle.std.specs.List.{filter, list_all, list_any}
+use Rattle.std.proofs.Common.{refl, sym, ap, subst, ◌∙◌, arith}
+use Rattle.std.proofs.lemmas.List.Elements.{filter-append}
+use Rattle.std.proofs.lemmas.List.Sums.{count_by-le-length}
+use Rattle.gl_modes.proofs.Words.{and_both, clash, no, not_true, split}
+use Rattle.gl_modes.proofs.NodeLemmas.{same_node-equal}
+use Rattle.gl_modes.specs.declared.node.NodeId.{NodeId}
+use Rattle.gl_modes.specs.Nodes.{same_node}
+use Rattle.gl_graph.specs.Changes.{without_branch}
+use Rattle.gl_graph.specs.Graph.{Graph, indexes_of, interval, interval_of, interval_place, nodes, record_parents, shape_in, shape_of}
+use Rattle.gl_graph.specs.Lawful.{IsLawfulGraph}
+use Rattle.gl_graph.specs.Refusals.{is_in_use}
+use Rattle.gl_graph.specs.Shapes.{Index, Shape, bounds_in, is_index_of_shape, is_index_shape, is_movable_shape}
+use Rattle.gl_graph.proofs.Branch.{children_are, indexes_left, interval_stays, is_interval_shape, live, stays_left}
+use Rattle.gl_graph.proofs.Distinct.{index_listed}
+use Rattle.gl_graph.proofs.KindRules.{index_of, index_plain, plain_live}
+use Rattle.gl_graph.proofs.Look.{all_filter}
+use Rattle.gl_graph.proofs.RecordParents.{index_of_index}
+use Rattle.gl_rows.specs.Promises.{IsRow}
+use Rattle.gl_rows.proofs.KeptIndexes.{KeepsIndexes, index_still, keeps_itself, same_parents}
+
+-- a filter that each element passes
+all_pass : (q p : NodeId → Bool) (xs : List NodeId) → list_all q xs ≡ true → ((x : NodeId) → q x ≡ true → p x ≡ true) → filter p xs ≡ xs
+all_pass q p [] all each = refl
+all_pass q p (x ∷ xs) all each =
+    let t = and_both (q x) (list_all q xs) all in
+    ap (λ b. if b then x ∷ filter p xs else filter p xs) (each x t.0) ∙ ap (λ ys. x ∷ ys) (all_pass q p xs t.1 each)
+
+-- without an element a list is no longer than before, and shorter if it had the element
+not_longer : (n : NodeId) (xs : List NodeId) → length (filter (λ i. not (same_node n i)) xs) ≤ length xs
+not_longer n [] = omega arith
+not_longer n (x ∷ xs) =
+    let rest = not_longer n xs in
+    split (same_node n x)
+    (λ t. subst (λ b. length (if not b then x ∷ filter (λ i. not (same_node n i)) xs else filter (λ i. not (same_node n i)) xs) ≤ suc (length xs)) (sym t)
+    (omega arith))
+    (λ t. subst (λ b. length (if not b then x ∷ filter (λ i. not (same_node n i)) xs else filter (λ i. not (same_node n i)) xs) ≤ suc (length xs)) (sym t)
+    (omega arith))
+
+shorter : (n : NodeId) (xs : List NodeId) → list_any (same_node n) xs ≡ true → length (filter (λ i. not (same_node n i)) xs) < length xs
+shorter n [] h = absurd (no h)
+shorter n (x ∷ xs) h =
+    split (same_node n x)
+    (λ t.
+    let rest = not_longer n xs in
+    subst (λ b. length (if not b then x ∷ filter (λ i. not (same_node n i)) xs else filter (λ i. not (same_node n i)) xs) < suc (length xs)) (sym t)
+    (omega arith))
+    (λ t.
+    let rest = shorter n xs (sym (ap (λ b. b || list_any (same_node n) xs) t) ∙ h) in
+    subst (λ b. length (if not b then x ∷ filter (λ i. not (same_node n i)) xs else filter (λ i. not (same_node n i)) xs) < suc (length xs)) (sym t)
+    (omega arith))
+
+module _ (m : Graph) (law : IsLawfulGraph m) (n : NodeId) (movable : is_movable_shape (shape_of m n) ≡ true) (free : is_in_use m n ≡ false) where
+  abbrev left : Graph
+  left = without_branch m n
+
+  no_interval : (o : Shape) → is_index_shape (Some o) ≡ true → is_interval_shape (Some o) ≡ false
+  no_interval (Index f bs) h = refl
+  no_interval o h = absurd (no h)
+
+  -- the intervals of another index
+  pub others_stay : (f i : NodeId) (key : ℕ) → is_index_of_shape f (shape_of m i) ≡ true → same_node n i ≡ false → interval_of left i key ≡ interval_of m i key
+  others_stay f i key h other =
+      let it = index_of f (shape_of m i) h in
+      let on = plain_live m i (index_plain (shape_of m i) (index_of_index f (shape_of m i) h)) in
+      let apart = not_true _ (λ c. clash (children_are m law n movable free i c).1 (ap is_interval_shape it.2)) in
+      let low : interval_place (bounds_in (shape_of m i)) key ≤ length (bounds_in (shape_of m i)) =
+      count_by-le-length (λ b. nat_le b key) (bounds_in (shape_of m i)) in
+      let few : length (bounds_in (shape_of m i)) ≡ length it.1 = ap (λ o. length (bounds_in o)) it.2 in
+      ap (λ o. interval left i (interval_place (bounds_in (shape_in o)) key)) (stays_left m n (live m law n movable free) i on other apart)
+      ∙ (interval_stays m law n movable free i it.0 it.1 it.2 other (interval_place (bounds_in (shape_of m i)) key) (omega arith)).1
+
+  -- for a file that kept its indexes since g, if this node was none of them
+  pub dropped_keeps : (g : Graph) (f : NodeId) → IsLawfulGraph g → KeepsIndexes g m f → is_index_of_shape f (shape_of g n) ≡ false → KeepsIndexes g left f
+  dropped_keeps g f law' kept none = record {
+    indexes = (
+      filter (λ i. not (same_node n i)) kept.indexes.0,
+      indexes_left m law n movable free f ∙ ap (filter (λ i. not (same_node n i))) kept.indexes.1
+          ∙ filter-append (λ i. not (same_node n i)) (indexes_of g f) kept.indexes.0
+          ∙ ap (λ xs. xs ++ filter (λ i. not (same_node n i)) kept.indexes.0)
+          (all_pass (λ i. is_index_of_shape f (shape_of g i)) (λ i. not (same_node n i)) (indexes_of g f)
+          (all_filter (λ i. is_index_of_shape f (shape_of g i)) (nodes g)) (λ x h. ap not (other x h))),
+    );
+    intervals = λ i key h. others_stay f i key (index_still g m f law' kept i h) (other i h) ∙ kept.intervals i key h;
+  }
+    where
+      other : (i : NodeId) → is_index_of_shape f (shape_of g i) ≡ true → same_node n i ≡ false
+      other i h = not_true (same_node n i) (λ t. clash h (sym (ap (λ q. is_index_of_shape f (shape_of g q)) (same_node-equal n i t)) ∙ none))
+
+  -- whichever index is dropped
+  pub dropped_parents : (f : NodeId) (keys : List ℕ) → IsRow m f keys → IsRow left f keys → record_parents left f keys ≡ record_parents m f keys
+  dropped_parents f keys row row' =
+      split (is_index_of_shape f (shape_of m n))
+      (λ one.
+      let fewer = shorter n (indexes_of m f) (index_listed m law f n (live m law n movable free) one) in
+      let same : length (indexes_of left f) ≡ length (filter (λ i. not (same_node n i)) (indexes_of m f)) = ap length (indexes_left m law n movable free f) in
+      let was = row.a_key_each in
+      let is = row'.a_key_each in
+      absurd (omega arith))
+      (λ none. same_parents m left f (dropped_keeps m f law (keeps_itself m f) none) keys row row')

@@ -1,0 +1,127 @@
+-- The indexes of a file stay, with their intervals: changes of the graph keep them, and a new index is added after those of the file.
+use Rattle.std.specs.Prelude.{◌≡◌, ℕ, ◌+◌, ◌||◌, true, List, [], ◌∷◌, ◌++◌, length, Some, is_some}
+use Rattle.std.specs.List.{list_all, list_any}
+use Rattle.std.proofs.Common.{refl, sym, ap, ap₂, ◌∙◌, arith}
+use Rattle.std.proofs.lemmas.List.{append-nil, append_assoc, length-append, nil_from_length}
+use Rattle.std.proofs.lemmas.List.Folds.{list_any-append}
+use Rattle.gl_modes.proofs.Words.{and_both}
+use Rattle.gl_modes.proofs.NodeLemmas.{node_is}
+use Rattle.gl_modes.specs.Nodes.{same_node}
+use Rattle.gl_modes.specs.declared.node.NodeId.{NodeId}
+use Rattle.gl_graph.specs.Changes.{born_nodes, marked, with_node, without_node}
+use Rattle.gl_graph.specs.Graph.{Graph, Node, indexes_of, interval, interval_of, interval_place, intervals_of, key_or_zero, node_at, nodes, record_parents}
+use Rattle.gl_graph.specs.Graph.{shape_in, shape_of}
+use Rattle.gl_graph.specs.Lawful.{IsLawfulGraph}
+use Rattle.gl_graph.specs.Shapes.{Interval, bounds_in, is_index_of_shape, is_record_shape}
+use Rattle.gl_graph.proofs.Born.{indexes_grown, new_indexes, old_same}
+use Rattle.gl_graph.proofs.Changed.{IsAlike, changed_frames, indexes_same}
+use Rattle.gl_graph.proofs.Distinct.{index_listed}
+use Rattle.gl_graph.proofs.KindRules.{AreAlike, Frames, index_plain, interval_is, is_plain, one_shape, plain_live}
+use Rattle.gl_graph.proofs.Look.{all_at, all_filter, found_at}
+use Rattle.gl_graph.proofs.Marked.{marked_indexes, marked_interval_of}
+use Rattle.gl_graph.proofs.RecordParents.{index_of_index}
+use Rattle.gl_graph.proofs.Removed.{indexes_left, removed_frames}
+use Rattle.gl_rows.specs.Promises.{IsRow}
+
+-- the file keeps its indexes, first among those that it has, and each key keeps its interval
+pub record KeepsIndexes (g g' : Graph) (f : NodeId) : Type 0 where
+  pub indexes : (more : List NodeId) × (indexes_of g' f ≡ indexes_of g f ++ more)
+  pub intervals : (i : NodeId) (key : ℕ) → is_index_of_shape f (shape_of g i) ≡ true → interval_of g' i key ≡ interval_of g i key
+
+pub keeps_itself : (g : Graph) (f : NodeId) → KeepsIndexes g g f
+keeps_itself g f = record { indexes = ([], sym (append-nil (indexes_of g f))); intervals = λ i key h. refl }
+
+-- each of these is still an index
+pub index_still : (g m : Graph) (f : NodeId) → IsLawfulGraph g → KeepsIndexes g m f → (i : NodeId) → is_index_of_shape f (shape_of g i) ≡ true
+    → is_index_of_shape f (shape_of m i) ≡ true
+index_still g m f law kept i h =
+    let live = plain_live g i (index_plain (shape_of g i) (index_of_index f (shape_of g i) h)) in
+    all_at (λ q. is_index_of_shape f (shape_of m q)) (indexes_of m f) i
+    (ap (list_any (same_node i)) kept.indexes.1 ∙ list_any-append (same_node i) (indexes_of g f) kept.indexes.0
+    ∙ ap (λ b. b || list_any (same_node i) kept.indexes.0) (index_listed g law f i live h))
+    (all_filter (λ q. is_index_of_shape f (shape_of m q)) (nodes m))
+
+pub keeps_trans : (g m g' : Graph) (f : NodeId) → IsLawfulGraph g → KeepsIndexes g m f → KeepsIndexes m g' f → KeepsIndexes g g' f
+keeps_trans g m g' f law a b = record {
+  indexes =
+      let first = a.indexes in
+      let then = b.indexes in
+      (first.0 ++ then.0, then.1 ∙ ap (λ xs. xs ++ then.0) first.1 ∙ append_assoc (indexes_of g f) first.0 then.0);
+  intervals = λ i key h. b.intervals i key (index_still g m f law a i h) ∙ a.intervals i key h;
+}
+
+-- a node that is no record keeps its shape, and an interval stays as it was
+pub record LooksSame (g g' : Graph) : Type 0 where
+  pub shapes : (q : NodeId) → is_plain (shape_of g q) ≡ true → AreAlike (shape_of g' q) (shape_of g q)
+  pub intervals : (q : NodeId) (place : ℕ) (node : Node) → node_at g q ≡ Some node → node.shape ≡ Interval place → node_at g' q ≡ Some node
+
+frames_same : (g g' : Graph) → Frames g g' → LooksSame g g'
+frames_same g g' frames = record { shapes = frames.shapes; intervals = frames.intervals }
+
+module _ (g g' : Graph) (law : IsLawfulGraph g) (same : LooksSame g g') (f : NodeId) where
+  interval_stays : (i : NodeId) (key : ℕ) → is_index_of_shape f (shape_of g i) ≡ true → interval_of g' i key ≡ interval_of g i key
+  interval_stays i key h =
+      let it = interval_is g law f i key h in
+      let place : ℕ = interval_place (bounds_in (shape_of g i)) key in
+      let was = found_at g (interval_of g i key) _ it in
+      let is = found_at g' (interval_of g i key) _ (same.intervals (interval_of g i key) place _ it refl) in
+      ap (λ bs. interval g' i (interval_place bs key)) (same.shapes i (index_plain _ (index_of_index f _ h))).bounds
+      ∙ node_is (interval g' i place) (interval g i place) (ap key_or_zero (is.0 ∙ sym was.0)) refl
+
+  looks_keeps : (more : List NodeId) → indexes_of g' f ≡ indexes_of g f ++ more → KeepsIndexes g g' f
+  looks_keeps more indexes = record { indexes = (more, indexes); intervals = interval_stays }
+
+  -- no index is new
+  stays_keeps : indexes_of g' f ≡ indexes_of g f → KeepsIndexes g g' f
+  stays_keeps indexes = looks_keeps [] (indexes ∙ sym (append-nil (indexes_of g f)))
+
+-- nodes are born
+pub born_keeps : (g : Graph) → IsLawfulGraph g → (ns : List Node) (f : NodeId) → KeepsIndexes g (born_nodes g ns) f
+born_keeps g law ns f = looks_keeps g (born_nodes g ns) law by f (new_indexes g law ns f) (indexes_grown g law ns f)
+  where
+    by : LooksSame g (born_nodes g ns)
+    by = record {
+      shapes = λ q h. one_shape _ _ (ap shape_in (old_same g law ns q (plain_live g q h)));
+      intervals = λ q place node e shape. old_same g law ns q (ap is_some e) ∙ e;
+    }
+
+-- a file is marked as one of which rows were adopted
+pub marked_keeps : (g : Graph) (x f : NodeId) → KeepsIndexes g (marked g x) f
+marked_keeps g x f = record {
+  indexes = ([], marked_indexes g x f ∙ sym (append-nil (indexes_of g f)));
+  intervals = λ i key h. marked_interval_of g x i key;
+}
+
+-- a record is removed
+pub removed_keeps : (g : Graph) → IsLawfulGraph g → (r : NodeId) → is_record_shape (shape_of g r) ≡ true → (f : NodeId) → KeepsIndexes g (without_node g r) f
+removed_keeps g law r rec f =
+    stays_keeps g (without_node g r) law (frames_same g (without_node g r) (removed_frames g law r rec)) f (indexes_left g law r rec f)
+
+-- a node has other parents, a record other keys
+pub changed_keeps : (g : Graph) → IsLawfulGraph g → (n : NodeId) (was is : Node) → node_at g n ≡ Some was → is.key ≡ was.key → IsAlike was.shape is.shape
+    → (f : NodeId) → KeepsIndexes g (with_node g n.birth is) f
+changed_keeps g law n was is there key alike f =
+    stays_keeps g (with_node g n.birth is) law (frames_same g (with_node g n.birth is) (changed_frames g n was is there key alike)) f
+    (indexes_same g n was is there key alike f)
+
+-- a file and its keys that are a row before and after have the same parents
+module _ (g g' : Graph) (f : NodeId) (kept : KeepsIndexes g g' f) where
+  same_intervals : (is : List NodeId) (keys : List ℕ) → list_all (λ i. is_index_of_shape f (shape_of g i)) is ≡ true
+      → intervals_of g' is keys ≡ intervals_of g is keys
+  same_intervals [] keys h = refl
+  same_intervals (i ∷ is) [] h = refl
+  same_intervals (i ∷ is) (key ∷ keys) h =
+      let t = and_both _ _ h in ap₂ (λ x xs. x ∷ xs) (kept.intervals i key t.0) (same_intervals is keys t.1)
+
+  same_indexes : (keys : List ℕ) → IsRow g f keys → IsRow g' f keys → indexes_of g' f ≡ indexes_of g f
+  same_indexes keys row row' =
+      let grown = kept.indexes in
+      let size : length (indexes_of g' f) ≡ length (indexes_of g f) + length grown.0 = ap length grown.1 ∙ length-append (indexes_of g f) grown.0 in
+      let was = row.a_key_each in
+      let is = row'.a_key_each in
+      grown.1 ∙ ap (λ xs. indexes_of g f ++ xs) (nil_from_length grown.0 (omega arith)) ∙ append-nil (indexes_of g f)
+
+  pub same_parents : (keys : List ℕ) → IsRow g f keys → IsRow g' f keys → record_parents g' f keys ≡ record_parents g f keys
+  same_parents keys row row' =
+      ap (λ is. f ∷ intervals_of g' is keys) (same_indexes keys row row')
+      ∙ ap (λ is. f ∷ is) (same_intervals (indexes_of g f) keys (all_filter (λ i. is_index_of_shape f (shape_of g i)) (nodes g)))

@@ -1,0 +1,259 @@
+-- What a registry serves keeps the effective modes on rows of transactions that it does not name.
+use Rattle.std.specs.Prelude.{◌≡◌, ◌||◌, ℕ, zero, suc, Bool, true, false, List, [], ◌∷◌, Option, Some, None, Result, Ok, Err, OnErr, map}
+use Rattle.std.specs.List.{list_all, list_any}
+use Rattle.std.specs.Map.{lookup}
+use Rattle.std.proofs.Common.{refl, sym, ap, subst, ◌∙◌, inl, inr}
+use Rattle.gl_modes.proofs.Words.{and_both, no as never}
+use Rattle.gl_modes.specs.declared.node.NodeId.{NodeId}
+use Rattle.gl_modes.specs.declared.refusal.Refusal.{Refusal}
+use Rattle.gl_graph.specs.Graph.{Graph}
+use Rattle.gl_graph.proofs.Unrefused.{or_no}
+use Rattle.gl_model.specs.declared.txn.TxnId.{TxnId}
+use Rattle.gl_model.specs.Lawful.{IsLawful}
+use Rattle.gl_model.specs.State.{State, lives}
+use Rattle.gl_model.specs.Tellings.{Told}
+use Rattle.gl_steps.specs.declared.command.Answer.{Answer}
+use Rattle.gl_steps.specs.declared.command.Command.{Command}
+use Rattle.gl_steps.specs.declared.command.Command.TheVariants as command
+use Rattle.gl_catalog.specs.declared.manager.paths.Reached.{Reached}
+use Rattle.gl_catalog.specs.Manager.{ManagerView, state_of}
+use Rattle.gl_catalog.specs.Paths.{Ask, IsPath, lock_of, reaching}
+use Rattle.gl_steps.specs.Promises.{names, same_txn, told_granted}
+use Rattle.gl_catalog.specs.Replies.{Says, said}
+use Rattle.gl_steps.specs.Step.{Goes, Run, Step}
+use Rattle.gl_steps.specs.Tests.{refusal_of}
+use Rattle.gl_steps.proofs.OthersKeep.{KeepsOver, over_trans, run_keeps}
+use Rattle.gl_catalog.proofs.PathRuns.{told_nobody}
+use Rattle.gl_steps.proofs.StepsKeepLaw.{runs_keep_law, steps_keep_law}
+use Rattle.gl_rows.specs.declared.call.RowCall.{RowCall}
+use Rattle.gl_rows.specs.declared.call.RowCall.TheVariants as call
+use Rattle.gl_rows.specs.Applying.{CarriesOut, Stays, StepsAmid, Upkeep, answer_in, is_upkeep, naming, own_command}
+use Rattle.gl_rows.specs.Locking.{Line, Runs}
+use Rattle.gl_rows.specs.Promises.{CallsKeepOnRows, CommandsKeepOnRows, IsRegistry, KeepsOnRows, PathsKeepOnRows, drops_index_of, is_granted, names_in}
+use Rattle.gl_rows.specs.Names.{NamesHold}
+use Rattle.gl_rows.specs.Rows.{RegistryView, RowsView, name_of, same_row}
+use Rattle.gl_rows.specs.Serving.{ServesBy, dropped_by, touches_rows}
+use Rattle.gl_rows.proofs.CallsKeep.{call_keeps, path_keeps}
+use Rattle.gl_rows.proofs.CarriedOut.{carried_out}
+use Rattle.gl_rows.proofs.Dropped.{left_hold, left_names}
+use Rattle.gl_rows.proofs.KeptIndexes.{keeps_trans, same_parents}
+use Rattle.gl_rows.proofs.KeptOnRows.{keeps_on_rows}
+use Rattle.gl_rows.proofs.KeptRows.{SameParents}
+use Rattle.gl_rows.proofs.NameChanges.{same_names}
+use Rattle.gl_rows.proofs.NamesStay.{call_stays}
+use Rattle.gl_rows.proofs.NodeRows.{or_off}
+use Rattle.gl_rows.proofs.RunsKeepIndexes.{KeepsAll, is_drop, run_keeps as run_keeps_indexes, step_parents}
+
+-- what commands keep that do not name t and drop nothing: the law of a state, what t keeps, and indexes
+pub record Over (s s' : State) (t : TxnId) (granted : Bool) : Type 0 where
+  pub law : IsLawful s'
+  pub keeps : KeepsOver s s' t granted
+  pub indexes : KeepsAll s.graph s'.graph
+
+pub over_as : (s s' : State) (t : TxnId) {g h : Bool} → g ≡ h → Over s s' t g → Over s s' t h
+over_as s s' t e over = subst (Over s s' t) e over
+
+pub over_then : (s mid s' : State) (t : TxnId) (g h : Bool) → IsLawful s → Over s mid t g → Over mid s' t h → Over s s' t (g || h)
+over_then s mid s' t g h law a b = record {
+  law = b.law;
+  keeps = over_trans s mid s' t g h law a.keeps b.keeps;
+  indexes = λ f. keeps_trans s.graph mid.graph s'.graph f law.graph (a.indexes f) (b.indexes f);
+}
+
+-- if nothing is dropped, no index is
+no_index_dropped : (g : Graph) (f : NodeId) (cs : List Command) → list_any is_drop cs ≡ false → list_any (drops_index_of g f) cs ≡ false
+no_index_dropped g f [] stay = refl
+no_index_dropped g f (c ∷ cs) stay =
+    let each = or_no (is_drop c) (list_any is_drop cs) stay in
+    ap (λ b. b || list_any (drops_index_of g f) cs) (one c each.0) ∙ no_index_dropped g f cs each.1
+  where
+    one : (c : Command) → is_drop c ≡ false → drops_index_of g f c ≡ false
+    one (command.Drop t n) stays = absurd (never (sym stays))
+    one c stays = refl
+
+pub over_run : (s s' : State) (cs : List Command) (rs : List (Answer × Told)) (t : TxnId) → IsLawful s → Run s cs rs s' → lives s t ≡ true
+    → list_any (names t) cs ≡ false → list_any is_drop cs ≡ false → Over s s' t (told_granted t rs)
+over_run s s' cs rs t law run alive apart stay = record {
+  law = runs_keep_law s s' cs rs law run;
+  keeps = run_keeps cs rs s s' t law run alive apart;
+  indexes = λ f. run_keeps_indexes cs rs s s' f law (no_index_dropped s.graph f cs stay) run;
+}
+
+-- one step
+pub over_step : (s s' : State) (c : Command) (a : Answer) (told : Told) (t : TxnId) → IsLawful s → Step s c a told s' → lives s t ≡ true → names t c ≡ false
+    → is_drop c ≡ false → Over s s' t (is_granted t told)
+over_step s s' c a told t law step alive apart stays =
+    over_as s s' t (or_off (is_granted t told))
+    (over_run s s' (c ∷ []) ((a, told) ∷ []) t law (s', step, refl) alive (or_off (names t c) ∙ apart) (or_off (is_drop c) ∙ stays))
+
+-- no step
+pub over_same : (s s' : State) (t : TxnId) → IsLawful s → s' ≡ s → lives s t ≡ true → Over s s' t false
+over_same s s' t law same alive = over_run s s' [] [] t law same alive refl refl
+
+-- rows keep their parents
+pub over_parents : (s s' : State) (t : TxnId) (granted : Bool) → Over s s' t granted → (f : NodeId) → SameParents s s' f
+over_parents s s' t granted over f = same_parents s.graph s'.graph f (over.indexes f)
+
+-- a path's steps, of which only the last one tells anybody
+over_path : (k : ℕ) (u : TxnId) (ask : Ask) (m : ManagerView) (last : Ask) (r : Says) (m' : ManagerView) (t : TxnId) → IsLawful (state_of m)
+    → IsPath k u ask m last r m' → lives (state_of m) t ≡ true → same_txn t u ≡ false → Over (state_of m) (state_of m') t (is_granted t r.1)
+over_path zero u ask m last r m' t law path alive apart =
+    over_step (state_of m) (state_of m') (lock_of u last) r.0 r.1 t law path.0.step alive apart refl
+over_path (suc k) u ask m last r m' t law path alive apart =
+    let mid : ManagerView = path.2 in
+    let first = over_as (state_of m) (state_of mid) t (ap (is_granted t) (told_nobody ask.0 path.0.0 path.1 path.4))
+    (over_step (state_of m) (state_of mid) (lock_of u path.0) path.1.0 path.1.1 t law path.3.step alive apart refl) in
+    over_then (state_of m) (state_of mid) (state_of m') t false (is_granted t r.1) law first
+    (over_path k u ask mid last r m' t first.law path.5 first.keeps.alive apart)
+
+-- the same rows afterwards
+pub same_rows : (v v' : RegistryView) (t : TxnId) (granted : Bool) → IsRegistry v → Over (state_of v.manager) (state_of v'.manager) t granted
+    → NamesHold v.rows (state_of v'.manager).graph → v'.rows ≡ v.rows → KeepsOnRows v v' t granted
+same_rows v v' t granted is over holds rows =
+    keeps_on_rows v v' t granted is (record { law = over.law; names = subst (λ (x : RowsView). NamesHold x (state_of v'.manager).graph) (sym rows) holds })
+    over.keeps (over_parents (state_of v.manager) (state_of v'.manager) t granted over)
+    (same_names (name_of v.rows) (name_of v'.rows) (state_of v.manager).graph (state_of v'.manager).graph (λ q. ap (λ (x : RowsView). name_of x q) rows))
+
+-- a command by its node
+pub commands_keep_on_rows : CommandsKeepOnRows
+commands_keep_on_rows v v' c result told t is serves alive apart = by (touches_rows v c) refl serves
+  where
+    by : (b : Bool) → touches_rows v c ≡ b → ServesBy b v c result told v' → KeepsOnRows v v' t (is_granted t told)
+    by true e h =
+        let manager : state_of v'.manager ≡ state_of v.manager = ap (λ (x : RegistryView). state_of x.manager) h.2 in
+        let over = over_same (state_of v.manager) (state_of v'.manager) t is.law manager alive in
+        same_rows v v' t (is_granted t told) is (over_as (state_of v.manager) (state_of v'.manager) t (sym (ap (is_granted t) h.1)) over)
+        (subst (λ (x : State). NamesHold v.rows x.graph) (sym manager) is.names) (ap (λ (x : RegistryView). x.rows) h.2)
+    by false e h =
+        let s = state_of v.manager in
+        let s' = state_of v'.manager in
+        let step = h.2.step in
+        keeps_on_rows v v' t (is_granted t told) is
+        (record { law = steps_keep_law s s' c h.0 told is.law step; names = left_hold v is.law s' c h.0 told v'.rows e step is.names h.3 })
+        (subst (KeepsOver s s' t) (or_off (is_granted t told))
+        (run_keeps (c ∷ []) ((h.0, told) ∷ []) s s' t is.law (s', step, refl) alive (or_off (names t c) ∙ apart)))
+        (step_parents s s' c h.0 told is.law step)
+        (same_names (name_of v.rows) (name_of v'.rows) s.graph s'.graph (λ q. ap (lookup (same_row q)) (left_names (dropped_by c h.0) v.rows v'.rows h.3)))
+
+-- a path
+pub paths_keep_on_rows : PathsKeepOnRows
+paths_keep_on_rows v v' u ask result told t is h alive apart =
+    let path = h.path in
+    same_rows v v' t (is_granted t told) is
+    (over_as (state_of v.manager) (state_of v'.manager) t (ap (is_granted t) (told_of result h.untold))
+    (over_path path.0 u ask v.manager path.1 (said (reaching told) result) v'.manager t is.law path.2 alive apart))
+    (path_keeps u ask v.manager told result v'.manager v.rows path is.names) h.rows
+  where
+    told_of : (result : Result Reached Refusal) → OnErr result (told ≡ []) → (said (reaching told) result).1 ≡ told
+    told_of (Ok x) h = refl
+    told_of (Err r) h = sym h
+
+-- Calls about rows.
+
+-- records that are adopted and forgotten name no transaction
+unnamed_one : (t : TxnId) (c : Command) → is_upkeep c ≡ true → names t c ≡ false
+unnamed_one t (command.Adopt f keys) is = refl
+unnamed_one t (command.Forget r) is = refl
+unnamed_one t c is = absurd (never is)
+
+unnamed_all : (t : TxnId) (lines : List Line) → list_all (λ l. is_upkeep l.0) lines ≡ true → list_any (names t) (map (λ (l : Line). l.0) lines) ≡ false
+unnamed_all t [] is = refl
+unnamed_all t (l ∷ lines) is =
+    let b = and_both (is_upkeep l.0) (list_all (λ (x : Line). is_upkeep x.0) lines) is in
+    ap (λ x. x || list_any (names t) (map (λ (k : Line). k.0) lines)) (unnamed_one t l.0 b.0) ∙ unnamed_all t lines b.1
+
+-- and tell nobody
+tells_none : (s : State) (c : Command) (a : Answer) (told : Told) (s' : State) → is_upkeep c ≡ true → Step s c a told s' → told ≡ []
+tells_none s c a told s' is (inr lack) = lack.1.nobody_told
+tells_none s c a told s' is (inl goes) = by (refusal_of s c) goes
+  where
+    accepted : (c : Command) → is_upkeep c ≡ true → Goes s c None a told s' → told ≡ []
+    accepted (command.Adopt f keys) is goes = goes.1.3
+    accepted (command.Forget r) is goes = goes.1.1
+    accepted c is goes = absurd (never is)
+
+    by : (o : Option Refusal) → Goes s c o a told s' → told ≡ []
+    by (Some r) same = same.nobody_told
+    by None goes = accepted c is goes
+
+quiet_all : (t : TxnId) (s s' : State) (lines : List Line) → list_all (λ l. is_upkeep l.0) lines ≡ true → Runs s lines s'
+    → told_granted t (map (λ (l : Line). l.1) lines) ≡ false
+quiet_all t s s' [] is run = refl
+quiet_all t s s' (l ∷ lines) is run =
+    let b = and_both (is_upkeep l.0) (list_all (λ (x : Line). is_upkeep x.0) lines) is in
+    ap (λ told. is_granted t told || told_granted t (map (λ (k : Line). k.1) lines)) (tells_none s l.0 l.1.0 l.1.1 run.0 b.0 run.1)
+    ∙ quiet_all t run.0 s' lines b.1 run.2
+
+no_drop_one : (c : Command) → is_upkeep c ≡ true → is_drop c ≡ false
+no_drop_one (command.Drop t n) is = absurd (never is)
+no_drop_one c is = refl
+
+no_drop_all : (lines : List Line) → list_all (λ l. is_upkeep l.0) lines ≡ true → list_any is_drop (map (λ (l : Line). l.0) lines) ≡ false
+no_drop_all [] is = refl
+no_drop_all (l ∷ lines) is =
+    let b = and_both (is_upkeep l.0) (list_all (λ (x : Line). is_upkeep x.0) lines) is in
+    ap (λ x. x || list_any is_drop (map (λ (k : Line). k.0) lines)) (no_drop_one l.0 b.0) ∙ no_drop_all lines b.1
+
+pub over_upkeep : (s s' : State) (t : TxnId) → IsLawful s → Upkeep s s' → lives s t ≡ true → Over s s' t false
+over_upkeep s s' t law h alive =
+    over_as s s' t (quiet_all t s s' h.lines h.kept h.run)
+    (over_run s s' (map (λ (l : Line). l.0) h.lines) (map (λ (l : Line). l.1) h.lines) t law h.run alive (unnamed_all t h.lines h.kept)
+    (no_drop_all h.lines h.kept))
+
+-- a call that carries out a command
+module _ (m : ManagerView) (c : Command) (told : Told) (m' : ManagerView) (t : TxnId) (law : IsLawful (state_of m)) (alive : lives (state_of m) t ≡ true)
+    (apart : names t c ≡ false) (stays : is_drop c ≡ false) where
+  abbrev Out : Type 0
+  Out = Over (state_of m) (state_of m') t (is_granted t told)
+
+  over_stays : Stays m told m' → Out
+  over_stays h =
+      over_as (state_of m) (state_of m') t (sym (ap (is_granted t) h.0)) (over_same (state_of m) (state_of m') t law (ap state_of h.1) alive)
+
+  over_amid : (a : Answer) → StepsAmid m c a told m' → Out
+  over_amid a h =
+      let before = over_upkeep (state_of m) h.ahead t law h.before alive in
+      let step = over_step h.ahead h.behind c a told t before.law h.step before.keeps.alive apart stays in
+      let after = over_upkeep h.behind (state_of m') t step.law h.after step.keeps.alive in
+      over_as (state_of m) (state_of m') t (or_off (is_granted t told))
+      (over_then (state_of m) h.behind (state_of m') t (is_granted t told) false law
+      (over_then (state_of m) h.ahead h.behind t false (is_granted t told) law before step) after)
+
+  over_carried : (o : Option Answer) → CarriesOut m c o told m' → Out
+  over_carried None h = over_stays h
+  over_carried (Some a) (inl h) = over_amid a h
+  over_carried (Some a) (inr h) = over_stays h.1
+
+-- the transaction of a call's own command is the same on every node
+own_named : (t : TxnId) (v : RowsView) (c : RowCall) → names t (own_command v c) ≡ names_in t c
+own_named t v (call.File ps) = refl
+own_named t v (call.Lock u row keys m) = refl
+own_named t v (call.Unlock u row) = refl
+own_named t v (call.Rekey u row index key) = refl
+own_named t v (call.Commit u) = refl
+own_named t v (call.Abort u) = refl
+own_named t v (call.Cancel u) = refl
+own_named t v (call.Escalate u n) = refl
+
+-- and it drops nothing
+own_stays : (v : RowsView) (c : RowCall) → is_drop (own_command v c) ≡ false
+own_stays v (call.File ps) = refl
+own_stays v (call.Lock u row keys m) = refl
+own_stays v (call.Unlock u row) = refl
+own_stays v (call.Rekey u row index key) = refl
+own_stays v (call.Commit u) = refl
+own_stays v (call.Abort u) = refl
+own_stays v (call.Cancel u) = refl
+own_stays v (call.Escalate u n) = refl
+
+-- a call about rows
+pub calls_keep_on_rows : CallsKeepOnRows
+calls_keep_on_rows v v' c a told t is h alive apart =
+    let own : Command = own_command (naming c v.rows v'.rows) c in
+    let over = over_carried v.manager own told v'.manager t is.law alive (own_named t (naming c v.rows v'.rows) c ∙ apart)
+    (own_stays (naming c v.rows v'.rows) c) (answer_in a)
+    (carried_out v.manager v.rows c a told v'.manager v'.rows is.law h) in
+    keeps_on_rows v v' t (is_granted t told) is
+    (record { law = over.law; names = call_keeps v.manager v'.manager v.rows v'.rows is.law is.names c a told h }) over.keeps
+    (over_parents (state_of v.manager) (state_of v'.manager) t (is_granted t told) over)
+    (call_stays v.manager v'.manager v.rows v'.rows is.law is.names over.keeps.kinds c a told h)

@@ -1,0 +1,140 @@
+//! Releasing and rekeying rows. Rows that nobody holds or waits for any more lose their nodes.
+//!
+//! A row keeps its node if the manager would refuse to forget it: a transaction still holds it or
+//! waits for it, or no command can be counted any more. `told` must be empty before each call. A
+//! refused call changes nothing.
+
+ghost use Rattle.std.specs.Prelude.{◌≡◌, []};
+ghost use Rattle.gl_steps.specs.declared.command.Command.TheVariants as command;
+ghost use Rattle.gl_catalog.specs.Replies.{doing, rising};
+ghost use Rattle.gl_rows.specs.Releasing.{EndsTxn, GivesBack, GoesBackTo, RekeysRow, UnlocksRow};
+
+use super::Rows;
+use crate::answer::RowRefusal;
+use crate::names::{let_each_go, let_go};
+use crate::row::Row;
+use crate::sets::{clear, rows_in, take};
+use gl_catalog::{Escalated, Manager};
+use gl_modes::{NodeId, Refusal};
+use gl_table::{Told, TxnId};
+
+impl Rows {
+    /// Releases a row's node, and grants waiters from the front of its queue. A row without a node
+    /// counts as `NodeId::NONE`. Refused with `NotRows`, and then as `Manager::unlock_telling`.
+    pub(crate) fn unlock(
+        &mut self,
+        manager: &mut Manager,
+        t: TxnId,
+        row: Row,
+        told: &mut Told,
+    ) -> Result<(), RowRefusal>
+        requires empty { told.old.items ≡ [] }
+        ensures { UnlocksRow manager.old self.old t row result told.new.items manager.new self.new }
+    {
+        let node = self.node_for(row)?;
+        manager.unlock_telling(t, node, told)?;
+        let _ = let_go(&mut self.names, manager, row);
+        take(&mut self.asked, t.slot, row);
+        Ok(())
+    }
+
+    /// Gives a row's node another key for one index of its file. A row without a node counts as
+    /// `NodeId::NONE`. Refused with `NotRows`, and then as `Manager::rekey_telling`.
+    pub(crate) fn rekey(
+        &mut self,
+        manager: &mut Manager,
+        t: TxnId,
+        row: Row,
+        index: NodeId,
+        key: u64,
+        told: &mut Told,
+    ) -> Result<(), RowRefusal>
+        requires empty { told.old.items ≡ [] }
+        ensures { RekeysRow manager.old self.old t row index key result told.new.items manager.new self.new }
+    {
+        let node = self.node_for(row)?;
+        manager.rekey_telling(t, node, index, key, told)?;
+        Ok(())
+    }
+
+    /// Ends an active transaction and releases everything. Refused as `Manager::commit_telling`.
+    pub(crate) fn commit(
+        &mut self,
+        manager: &mut Manager,
+        t: TxnId,
+        told: &mut Told,
+    ) -> Result<(), Refusal>
+        requires empty { told.old.items ≡ [] }
+        ensures { EndsTxn (command.Commit t) manager.old self.old t.slot result told.new.items manager.new self.new }
+    {
+        manager.commit_telling(t, told)?;
+        let_each_go(&mut self.names, manager, rows_in(&self.asked, t.slot));
+        clear(&mut self.asked, t.slot);
+        Ok(())
+    }
+
+    /// Ends a transaction of any status, and releases everything. Refused as `Manager::abort_telling`.
+    pub(crate) fn abort(
+        &mut self,
+        manager: &mut Manager,
+        t: TxnId,
+        told: &mut Told,
+    ) -> Result<(), Refusal>
+        requires empty { told.old.items ≡ [] }
+        ensures { EndsTxn (command.Abort t) manager.old self.old t.slot result told.new.items manager.new self.new }
+    {
+        manager.abort_telling(t, told)?;
+        let_each_go(&mut self.names, manager, rows_in(&self.asked, t.slot));
+        clear(&mut self.asked, t.slot);
+        Ok(())
+    }
+
+    /// Cancels a transaction's wait. Refused as `Manager::cancel_telling`.
+    pub(crate) fn cancel(
+        &mut self,
+        manager: &mut Manager,
+        t: TxnId,
+        told: &mut Told,
+    ) -> Result<(), Refusal>
+        requires empty { told.old.items ≡ [] }
+        ensures { GivesBack (doing told.new.items) (command.Cancel t) manager.old self.old t.slot result told.new.items manager.new self.new }
+    {
+        manager.cancel_telling(t, told)?;
+        let_each_go(&mut self.names, manager, rows_in(&self.asked, t.slot));
+        Ok(())
+    }
+
+    /// Raises the lock on a node, and releases the children whose locks it then implies. Refused as
+    /// `Manager::escalate_telling`.
+    pub(crate) fn escalate(
+        &mut self,
+        manager: &mut Manager,
+        t: TxnId,
+        node: NodeId,
+        told: &mut Told,
+    ) -> Result<Escalated, Refusal>
+        requires empty { told.old.items ≡ [] }
+        ensures { GivesBack (rising told.new.items) (command.Escalate t node) manager.old self.old t.slot result told.new.items manager.new self.new }
+    {
+        let escalated = manager.escalate_telling(t, node, told)?;
+        let_each_go(&mut self.names, manager, rows_in(&self.asked, t.slot));
+        Ok(escalated)
+    }
+
+    /// Rolls back to a savepoint: unlocks what the transaction locked since it had `mark` locks.
+    /// Refused as `Manager::release_since_telling`.
+    pub(crate) fn release_since(
+        &mut self,
+        manager: &mut Manager,
+        t: TxnId,
+        mark: usize,
+        told: &mut Told,
+    ) -> Result<usize, Refusal>
+        requires empty { told.old.items ≡ [] }
+        ensures { GoesBackTo t mark manager.old self.old result told.new.items manager.new self.new }
+    {
+        let released = manager.release_since_telling(t, mark, told)?;
+        let_each_go(&mut self.names, manager, rows_in(&self.asked, t.slot));
+        Ok(released)
+    }
+}
