@@ -1,10 +1,10 @@
 /*
  * burlapslate_inside.h: what the sources of a table share: what a table notes of its waits, with the calls by which
- * burlapslate_shared.c tells of them, and what burlapslate_running.c needs of that source. Programs do not use it, and
- * it is not installed.
+ * burlapslate_shared.c tells of them, the commands of a traced table, and what burlapslate_running.c and
+ * burlapslate_trace.c need of that source. Programs do not use it, and it is not installed.
  *
- * All of this is used with the table's latch held, unless a comment says otherwise. These calls see each wait of a
- * table once as it begins and once as it ends, in the order of the commands.
+ * All of this is used with the table's latch held, unless a comment says otherwise. The calls about waits see each wait
+ * of a table once as it begins and once as it ends, in the order of the commands.
  */
 #ifndef BURLAPSLATE_INSIDE_H
 #define BURLAPSLATE_INSIDE_H
@@ -89,11 +89,70 @@ uint64_t bs_call_queued(const bs_manager *manager);
 /* Whether this thread may sleep in a call of a table. No latch is needed. */
 bool bs_call_may_sleep(void);
 
+/* Gives the begins that the library has handed on to the threads that sleep for them. */
+void bs_call_hand_on(bs_table *table);
+
 /* Starts a thread that takes no signals of the process; whether it could be started. */
 bool bs_call_start(pthread_t *thread, void *(*run)(void *), void *place);
 
 /* Without the latch: calls a function of the engine under the rules of a callback. Ends of asks that its calls set off
  * are told after it. */
 void bs_call_engine(void (*function)(void *place), void *place);
+
+/* ------------------------------------------------------------------------------------------------
+ * Of burlapslate_trace.c: a trace of a table.
+ */
+
+typedef struct bs_trace bs_trace;
+
+/* Begins a trace of this table into a file, and writes the pointer to it. Refused with BS_TOO_LATE, BS_BAD_NUMBER,
+ * BS_NO_MEMORY. */
+bs_reply bs_call_trace(bs_table *table, bs_manager *manager, int file, bs_trace **trace);
+
+/* Without the latch, after the table has let go of its trace: ends it as bs_table_trace_end says. */
+bs_reply bs_call_trace_end(bs_trace *trace);
+
+/* A begin that waited for a slot was handed on, and answered so. */
+void bs_traced_begun(bs_trace *trace, bs_reply begun, uint64_t since);
+
+/* The commands of a traced table: each makes the call of the manager that has its name, and says what that did. */
+bs_reply bs_traced_add_inner(bs_trace *trace, const bs_node *parents, size_t count);
+bs_reply bs_traced_add_file(bs_trace *trace, const bs_node *parents, size_t count);
+bs_reply bs_traced_add_row_file(bs_trace *trace, const bs_node *parents, size_t count);
+bs_reply bs_traced_add_index(bs_trace *trace, const bs_node *parents, size_t count, bs_node file,
+                             const uint64_t *bounds, size_t bound_count);
+bs_reply bs_traced_begin(bs_trace *trace);
+bs_reply bs_traced_begin_again(bs_trace *trace, uint64_t since);
+bs_reply bs_traced_call_begin_in_turn(bs_trace *trace, uint64_t since, uint64_t word, uint64_t until);
+bs_reply bs_traced_renew(bs_trace *trace, bs_txn txn, uint64_t since);
+bs_reply bs_traced_lock(bs_trace *trace, bs_txn txn, bs_node node, bs_mode mode, bs_notices *told);
+bs_reply bs_traced_lock_path(bs_trace *trace, bs_txn txn, bs_node node, bs_mode mode, bs_notices *told);
+bs_reply bs_traced_try(bs_trace *trace, bs_txn txn, bs_node node, bs_mode mode);
+bs_reply bs_traced_call_try_path(bs_trace *trace, bs_txn txn, bs_node node, bs_mode mode, uint32_t keep,
+                                 bs_notices *told);
+bs_reply bs_traced_unlock(bs_trace *trace, bs_txn txn, bs_node node, bs_notices *told);
+bs_reply bs_traced_release_since(bs_trace *trace, bs_txn txn, uint64_t savepoint, bs_notices *told);
+bs_reply bs_traced_escalate(bs_trace *trace, bs_txn txn, bs_node node, bs_notices *told);
+bs_reply bs_traced_cancel(bs_trace *trace, bs_txn txn, bs_notices *told);
+bs_reply bs_traced_commit(bs_trace *trace, bs_txn txn, bs_notices *told);
+bs_reply bs_traced_abort(bs_trace *trace, bs_txn txn, bs_notices *told);
+bs_reply bs_traced_settle(bs_trace *trace, bs_txn txn, bs_notices *told);
+bs_reply bs_traced_insert(bs_trace *trace, bs_txn txn, bs_node file, const uint64_t *keys, size_t count);
+bs_reply bs_traced_delete(bs_trace *trace, bs_txn txn, bs_node record, bs_notices *told);
+bs_reply bs_traced_adopt(bs_trace *trace, bs_node file, const uint64_t *keys, size_t count);
+bs_reply bs_traced_forget(bs_trace *trace, bs_node record);
+bs_reply bs_traced_rekey(bs_trace *trace, bs_txn txn, bs_node record, bs_node index, uint64_t key, bs_notices *told);
+bs_reply bs_traced_move(bs_trace *trace, bs_txn txn, bs_node node, const bs_node *parents, size_t count,
+                        bs_notices *told);
+bs_reply bs_traced_drop(bs_trace *trace, bs_txn txn, bs_node node, bs_notices *told);
+bs_reply bs_traced_index_by(bs_trace *trace, bs_txn txn, const bs_node *parents, size_t count, bs_node file,
+                            const uint64_t *bounds, size_t bound_count);
+bs_reply bs_traced_lock_row(bs_trace *trace, bs_txn txn, bs_node file, uint64_t number, const uint64_t *keys,
+                            size_t count, bs_mode mode, bs_notices *told);
+bs_reply bs_traced_call_try_row(bs_trace *trace, bs_txn txn, bs_node file, uint64_t number, const uint64_t *keys,
+                                size_t count, bs_mode mode, bs_notices *told);
+bs_reply bs_traced_unlock_row(bs_trace *trace, bs_txn txn, bs_node file, uint64_t number, bs_notices *told);
+bs_reply bs_traced_rekey_row(bs_trace *trace, bs_txn txn, bs_node file, uint64_t number, bs_node index, uint64_t key,
+                             bs_notices *told);
 
 #endif

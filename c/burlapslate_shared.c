@@ -25,6 +25,7 @@
 
 /* A thread that sleeps for a slot, in its call's frame, whose address is the name of its begin. */
 typedef struct table_queued_begin {
+  uint64_t since;      /* the age since which its work was tried, or TABLE_NEW_WORK */
   bs_reply begun;      /* what it was answered; BS_WAITING: its turn has not come */
   pthread_cond_t came;
 } table_queued_begin;
@@ -115,6 +116,7 @@ struct bs_table {
   bs_manager manager;
   table_stage stage;
   bool is_due;                    /* this hold may have ended waits: waiters are woken or told as it ends */
+  bool is_traced;                 /* it has a trace */
   size_t queued;                  /* how many threads sleep for a slot */
   bs_notices told;                /* by the last command whose caller wanted no list */
   table_asks *asks;               /* null if nobody can ask without a sleep */
@@ -138,10 +140,20 @@ struct bs_table {
   pthread_cond_t over;            /* the table ends */
   bs_call_namer namer;            /* how the engine names nodes, in dumps */
   bs_running running;             /* the times of its waits */
+  bs_trace *trace;                /* null if it has none */
 };
 
 /* Rare code is not inlined, so that the path of each call is short. */
 #define TABLE_APART __attribute__((noinline))
+
+/* Makes a command. All commands are made by this: a trace says each. */
+#define TABLE_DO(table, call, ...)                                                         \
+  (__builtin_expect((table)->is_traced, 0) ? bs_traced_##call((table)->trace, __VA_ARGS__) \
+                                           : bs_##call(&(table)->manager, __VA_ARGS__))
+
+static inline bs_reply table_begin_now(bs_table *table) {
+  return __builtin_expect(table->is_traced, 0) ? bs_traced_begin(table->trace) : bs_begin(&table->manager);
+}
 
 /* ------------------------------------------------------------------------------------------------
  * The latch and the wake-ups.
@@ -293,7 +305,7 @@ static TABLE_APART void table_give_instants_back(bs_table *table, bs_slots *gran
     bs_notices more;
     if (held.status != BS_DONE || held.mode == BS_NL) continue; /* its wait has ended in another way */
     own->came = held.mode;
-    if (bs_unlock(&table->manager, own->txn, own->node, &more).status == BS_DONE && more.count > 0) {
+    if (TABLE_DO(table, unlock, own->txn, own->node, &more).status == BS_DONE && more.count > 0) {
       table_note_ended(table, granted, &more);
       table_tell_too(told, &more);
     }
@@ -361,7 +373,7 @@ static void table_woken(bs_table *table) {
 
 /* Cancels the wait of a transaction whose time is over, and answers so. */
 static bs_reply table_time_out(bs_table *table, bs_txn txn) {
-  bs_reply reply = bs_cancel(&table->manager, txn, &table->told);
+  bs_reply reply = TABLE_DO(table, cancel, txn, &table->told);
   if (reply.status == BS_DONE) bs_call_wait_late(&table->running, txn.slot);
   table_wake(table, reply.status, &table->told, true);
   if (reply.status == BS_DONE) reply.status = BS_TIMED_OUT;
@@ -461,6 +473,7 @@ static TABLE_APART void table_take_all_begun(bs_table *table) {
     table_queued_begin *own = table_begin_named(begun.count);
     own->begun = begun;
     own->begun.count = 0;
+    if (table->is_traced) bs_traced_begun(table->trace, own->begun, own->since);
     table->queued--;
     pthread_cond_signal(&own->came);
   }
@@ -662,7 +675,16 @@ static void table_end_asks(bs_table *table) {
   }
 }
 
+/* Takes the trace from a table; null if it has none. */
+static bs_trace *table_take_trace(bs_table *table) {
+  bs_trace *trace = table->trace;
+  table->trace = NULL;
+  table->is_traced = false;
+  return trace;
+}
+
 bs_reply bs_table_end(bs_table *table) {
+  bs_trace *trace;
   bs_reply reply;
   int state;
   if (table != NULL && !table_may_sleep()) return bs_call_only(BS_IN_USE);
@@ -676,9 +698,11 @@ bs_reply bs_table_end(bs_table *table) {
   bs_call_run_join(&table->running);
   table_take(table);
   while (table->sleepers + table->to_tell > 0) table_doze(table, &table->left, NULL);
+  trace = table_take_trace(table);
   reply = bs_end(&table->manager);
   table->stage = TABLE_ENDED;
   pthread_mutex_unlock(&table->latch);
+  if (trace != NULL) bs_call_trace_end(trace);
   pthread_setcancelstate(state, &state);
   return reply;
 }
@@ -701,20 +725,20 @@ bs_reply bs_table_free(bs_table **table) {
  */
 
 bs_reply bs_table_add_inner(bs_table *table, const bs_node *parents, size_t count) {
-  TABLE_ASK(table, bs_add_inner(&table->manager, parents, count));
+  TABLE_ASK(table, TABLE_DO(table, add_inner, parents, count));
 }
 
 bs_reply bs_table_add_file(bs_table *table, const bs_node *parents, size_t count) {
-  TABLE_ASK(table, bs_add_file(&table->manager, parents, count));
+  TABLE_ASK(table, TABLE_DO(table, add_file, parents, count));
 }
 
 bs_reply bs_table_add_row_file(bs_table *table, const bs_node *parents, size_t count) {
-  TABLE_ASK(table, bs_add_row_file(&table->manager, parents, count));
+  TABLE_ASK(table, TABLE_DO(table, add_row_file, parents, count));
 }
 
 bs_reply bs_table_add_index(bs_table *table, const bs_node *parents, size_t count, bs_node file, const uint64_t *bounds,
                             size_t bound_count) {
-  TABLE_ASK(table, bs_add_index(&table->manager, parents, count, file, bounds, bound_count));
+  TABLE_ASK(table, TABLE_DO(table, add_index, parents, count, file, bounds, bound_count));
 }
 
 /* ------------------------------------------------------------------------------------------------
@@ -722,18 +746,19 @@ bs_reply bs_table_add_index(bs_table *table, const bs_node *parents, size_t coun
  */
 
 bs_reply bs_table_begin(bs_table *table) {
-  TABLE_ASK(table, bs_begin(&table->manager));
+  TABLE_ASK(table, table_begin_now(table));
 }
 
 bs_reply bs_table_begin_again(bs_table *table, uint64_t since) {
-  TABLE_ASK(table, bs_begin_again(&table->manager, since));
+  TABLE_ASK(table, TABLE_DO(table, begin_again, since));
 }
 
 bs_reply bs_table_begin_again_in_turn(bs_table *table, uint64_t since, const struct timespec *until) {
   table_queued_begin own;
   bs_reply reply;
   if (!table_enter_to_sleep(table, until)) return table_no_sleep(table);
-  reply = bs_call_begin_in_turn(&table->manager, since, (uint64_t)(uintptr_t)&own, UINT64_MAX);
+  own.since = since;
+  reply = TABLE_DO(table, call_begin_in_turn, since, (uint64_t)(uintptr_t)&own, UINT64_MAX);
   if (reply.status == BS_WAITING) reply = table_sleep_in_begin_queue(table, &own, until);
   table_release(table);
   return reply;
@@ -757,7 +782,7 @@ bs_reply bs_table_deadline(bs_table *table, bs_txn txn, const struct timespec *u
  * victim was chosen for it, others may wait after it. */
 static TABLE_APART void table_give_back_at_once(bs_table *table, bs_txn txn, bs_node node, bs_notices *told) {
   bs_notices more;
-  bs_reply reply = bs_unlock(&table->manager, txn, node, &more);
+  bs_reply reply = TABLE_DO(table, unlock, txn, node, &more);
   table_wake(table, reply.status, &more, false);
   table_tell_too(told, &more);
 }
@@ -778,7 +803,7 @@ static inline bool table_is_instant(const bs_table *table, bs_txn txn, bs_node n
 /* Makes the call bs_lock with the latch held. */
 static TABLE_IN_LINE bs_reply table_lock_by(bs_table *table, bs_txn txn, bs_node node, bs_mode mode, bool is_instant,
                                             bs_notices *told) {
-  bs_reply reply = bs_lock(&table->manager, txn, node, mode, told);
+  bs_reply reply = TABLE_DO(table, lock, txn, node, mode, told);
   if (reply.status == BS_WAITING) table_register(table, txn, node, is_instant);
   table_wake(table, reply.status, told, false);
   if (is_instant && reply.status == BS_DONE) table_give_back_at_once(table, txn, node, told);
@@ -801,7 +826,7 @@ static inline bs_reply table_lock_now(bs_table *table, bs_txn txn, bs_node node,
  * with the wait, which may be over when others are woken. */
 static TABLE_IN_LINE bs_reply table_path_by(bs_table *table, bs_txn txn, bs_node node, bs_mode mode, bool is_instant,
                                             bs_notices *told, table_wait *wait) {
-  bs_reply reply = bs_lock_path(&table->manager, txn, node, mode, told);
+  bs_reply reply = TABLE_DO(table, lock_path, txn, node, mode, told);
   if (reply.status == BS_WAITING) {
     wait->node = reply.node;
     wait->mode = bs_call_doing(&table->manager, txn).mode;
@@ -828,7 +853,7 @@ static inline bs_reply table_path_now(bs_table *table, bs_txn txn, bs_node node,
 /* Makes the call bs_try with the latch held. */
 static inline bs_reply table_try_now(bs_table *table, bs_txn txn, bs_node node, bs_mode asked) {
   bool is_instant = table_is_instant(table, txn, node, asked);
-  bs_reply reply = bs_try(&table->manager, txn, node, table_mode_of(asked));
+  bs_reply reply = TABLE_DO(table, try, txn, node, table_mode_of(asked));
   if (is_instant && reply.status == BS_DONE) table_give_back_at_once(table, txn, node, &table->told);
   return reply;
 }
@@ -860,11 +885,11 @@ bs_reply bs_table_mark(bs_table *table, bs_txn txn) {
 }
 
 bs_reply bs_table_release_since(bs_table *table, bs_txn txn, uint64_t savepoint, bs_notices *told) {
-  TABLE_TELL(table, told, false, bs_release_since(&table->manager, txn, savepoint, list));
+  TABLE_TELL(table, told, false, TABLE_DO(table, release_since, txn, savepoint, list));
 }
 
 bs_reply bs_table_unlock(bs_table *table, bs_txn txn, bs_node node, bs_notices *told) {
-  TABLE_TELL(table, told, false, bs_unlock(&table->manager, txn, node, list));
+  TABLE_TELL(table, told, false, TABLE_DO(table, unlock, txn, node, list));
 }
 
 /* After a cancel: if the wait was over by then, but its sleeper would wake to wait for the next node of its path, the
@@ -881,27 +906,27 @@ static bs_reply table_cancel_path(bs_table *table, bs_txn txn, bs_reply cancelle
 }
 
 bs_reply bs_table_cancel(bs_table *table, bs_txn txn, bs_notices *told) {
-  TABLE_TELL(table, told, true, table_cancel_path(table, txn, bs_cancel(&table->manager, txn, list)));
+  TABLE_TELL(table, told, true, table_cancel_path(table, txn, TABLE_DO(table, cancel, txn, list)));
 }
 
 bs_reply bs_table_commit(bs_table *table, bs_txn txn, bs_notices *told) {
-  TABLE_TELL(table, told, false, bs_commit(&table->manager, txn, list));
+  TABLE_TELL(table, told, false, TABLE_DO(table, commit, txn, list));
 }
 
 bs_reply bs_table_renew(bs_table *table, bs_txn txn, uint64_t since) {
-  TABLE_ASK(table, bs_renew(&table->manager, txn, since));
+  TABLE_ASK(table, TABLE_DO(table, renew, txn, since));
 }
 
 bs_reply bs_table_abort(bs_table *table, bs_txn txn, bs_notices *told) {
-  TABLE_TELL(table, told, true, bs_abort(&table->manager, txn, list));
+  TABLE_TELL(table, told, true, TABLE_DO(table, abort, txn, list));
 }
 
 bs_reply bs_table_settle(bs_table *table, bs_txn txn, bs_notices *told) {
-  TABLE_TELL(table, told, false, bs_settle(&table->manager, txn, list));
+  TABLE_TELL(table, told, false, TABLE_DO(table, settle, txn, list));
 }
 
 bs_reply bs_table_escalate(bs_table *table, bs_txn txn, bs_node node, bs_notices *told) {
-  TABLE_TELL(table, told, false, bs_escalate(&table->manager, txn, node, list));
+  TABLE_TELL(table, told, false, TABLE_DO(table, escalate, txn, node, list));
 }
 
 /* Makes the call bs_lock_path with the latch held, and sleeps if that waits. */
@@ -941,7 +966,7 @@ static inline bs_reply table_tried(bs_table *table, bs_reply reply) {
 
 /* Tries a path with the latch held. */
 static TABLE_APART bs_reply table_path_tried(bs_table *table, bs_txn txn, bs_node node, bs_mode mode, uint32_t keep) {
-  return table_tried(table, bs_call_try_path(&table->manager, txn, node, mode, keep, &table->told));
+  return table_tried(table, TABLE_DO(table, call_try_path, txn, node, mode, keep, &table->told));
 }
 
 bs_reply bs_table_try_path(bs_table *table, bs_txn txn, bs_node node, bs_mode mode, uint32_t keep) {
@@ -953,37 +978,37 @@ bs_reply bs_table_try_path(bs_table *table, bs_txn txn, bs_node node, bs_mode mo
  */
 
 bs_reply bs_table_insert(bs_table *table, bs_txn txn, bs_node file, const uint64_t *keys, size_t count) {
-  TABLE_ASK(table, bs_insert(&table->manager, txn, file, keys, count));
+  TABLE_ASK(table, TABLE_DO(table, insert, txn, file, keys, count));
 }
 
 bs_reply bs_table_delete(bs_table *table, bs_txn txn, bs_node record, bs_notices *told) {
-  TABLE_TELL(table, told, false, bs_delete(&table->manager, txn, record, list));
+  TABLE_TELL(table, told, false, TABLE_DO(table, delete, txn, record, list));
 }
 
 bs_reply bs_table_adopt(bs_table *table, bs_node file, const uint64_t *keys, size_t count) {
-  TABLE_ASK(table, bs_adopt(&table->manager, file, keys, count));
+  TABLE_ASK(table, TABLE_DO(table, adopt, file, keys, count));
 }
 
 bs_reply bs_table_forget(bs_table *table, bs_node record) {
-  TABLE_ASK(table, bs_forget(&table->manager, record));
+  TABLE_ASK(table, TABLE_DO(table, forget, record));
 }
 
 bs_reply bs_table_rekey(bs_table *table, bs_txn txn, bs_node record, bs_node index, uint64_t key, bs_notices *told) {
-  TABLE_TELL(table, told, false, bs_rekey(&table->manager, txn, record, index, key, list));
+  TABLE_TELL(table, told, false, TABLE_DO(table, rekey, txn, record, index, key, list));
 }
 
 bs_reply bs_table_move(bs_table *table, bs_txn txn, bs_node node, const bs_node *parents, size_t count,
                        bs_notices *told) {
-  TABLE_TELL(table, told, false, bs_move(&table->manager, txn, node, parents, count, list));
+  TABLE_TELL(table, told, false, TABLE_DO(table, move, txn, node, parents, count, list));
 }
 
 bs_reply bs_table_drop(bs_table *table, bs_txn txn, bs_node node, bs_notices *told) {
-  TABLE_TELL(table, told, false, bs_drop(&table->manager, txn, node, list));
+  TABLE_TELL(table, told, false, TABLE_DO(table, drop, txn, node, list));
 }
 
 bs_reply bs_table_index_by(bs_table *table, bs_txn txn, const bs_node *parents, size_t count, bs_node file,
                            const uint64_t *bounds, size_t bound_count) {
-  TABLE_ASK(table, bs_index_by(&table->manager, txn, parents, count, file, bounds, bound_count));
+  TABLE_ASK(table, TABLE_DO(table, index_by, txn, parents, count, file, bounds, bound_count));
 }
 
 /* ------------------------------------------------------------------------------------------------
@@ -993,7 +1018,7 @@ bs_reply bs_table_index_by(bs_table *table, bs_txn txn, const bs_node *parents, 
 /* Requests a row with the latch held, for a caller that may wait. */
 static bs_reply table_ask_row(bs_table *table, bs_txn txn, const table_row *row, bs_mode mode) {
   bs_reply reply =
-    bs_lock_row(&table->manager, txn, row->file, row->number, row->keys, row->count, mode, &table->told);
+    TABLE_DO(table, lock_row, txn, row->file, row->number, row->keys, row->count, mode, &table->told);
   if (reply.status == BS_WAITING) table_register(table, txn, reply.node, false);
   table_wake(table, reply.status, &table->told, false);
   return reply;
@@ -1041,7 +1066,7 @@ bs_reply bs_table_lock_row(bs_table *table, bs_txn txn, bs_node file, uint64_t n
 static TABLE_APART bs_reply table_row_tried(bs_table *table, bs_txn txn, const table_row *row, bs_mode mode) {
   const uint64_t *keys = bs_call_numbers(row->keys);
   if (row->keys == NULL && row->count != 0) return bs_call_null();
-  return table_tried(table, bs_call_try_row(&table->manager, txn, row->file, row->number, keys, row->count, mode,
+  return table_tried(table, TABLE_DO(table, call_try_row, txn, row->file, row->number, keys, row->count, mode,
                                             &table->told));
 }
 
@@ -1052,12 +1077,12 @@ bs_reply bs_table_try_row(bs_table *table, bs_txn txn, bs_node file, uint64_t nu
 }
 
 bs_reply bs_table_unlock_row(bs_table *table, bs_txn txn, bs_node file, uint64_t number, bs_notices *told) {
-  TABLE_TELL(table, told, false, bs_unlock_row(&table->manager, txn, file, number, list));
+  TABLE_TELL(table, told, false, TABLE_DO(table, unlock_row, txn, file, number, list));
 }
 
 bs_reply bs_table_rekey_row(bs_table *table, bs_txn txn, bs_node file, uint64_t number, bs_node index, uint64_t key,
                             bs_notices *told) {
-  TABLE_TELL(table, told, false, bs_rekey_row(&table->manager, txn, file, number, index, key, list));
+  TABLE_TELL(table, told, false, TABLE_DO(table, rekey_row, txn, file, number, index, key, list));
 }
 
 /* ------------------------------------------------------------------------------------------------
@@ -1400,7 +1425,7 @@ static bs_reply table_path_made(bs_table *table, const bs_command *c, bs_txn txn
 
 /* A lock in a list. The waits that it has ended are noted after it, except for a lock for an instant. */
 static inline bs_reply table_lock_made(bs_table *table, const bs_command *c, bs_txn txn, bs_notices *told) {
-  if ((c->mode & BS_INSTANT) == 0) return bs_lock(&table->manager, txn, c->node, c->mode, told);
+  if ((c->mode & BS_INSTANT) == 0) return TABLE_DO(table, lock, txn, c->node, c->mode, told);
   return table_lock_now(table, txn, c->node, c->mode, told);
 }
 
@@ -1412,46 +1437,47 @@ static bs_reply table_row_made(bs_table *table, const bs_command *c, bs_txn txn)
 
 /* Makes a command that begins, or that requests or releases locks, except the most frequent. */
 static TABLE_APART bs_reply table_other_made(bs_table *table, const bs_command *c, bs_txn txn, bs_notices *told) {
-  bs_manager *m = &table->manager;
   switch (c->kind) {
     case BS_DO_LOCK_PATH: return table_path_made(table, c, txn, told);
     case BS_DO_TRY: return table_try_now(table, txn, c->node, c->mode);
-    case BS_DO_RELEASE_SINCE: return bs_release_since(m, txn, c->number, told);
-    case BS_DO_UNLOCK: return bs_unlock(m, txn, c->node, told);
-    case BS_DO_ESCALATE: return bs_escalate(m, txn, c->node, told);
-    case BS_DO_CANCEL: return table_cancel_path(table, txn, bs_cancel(m, txn, told));
-    case BS_DO_ABORT: return bs_abort(m, txn, told);
-    case BS_DO_SETTLE: return bs_settle(m, txn, told);
-    case BS_DO_RENEW: return bs_renew(m, txn, c->number);
-    case BS_DO_LOCK_ROW: return bs_lock_row(m, txn, c->file, c->number, c->keys, c->key_count, c->mode, told);
-    case BS_DO_UNLOCK_ROW: return bs_unlock_row(m, txn, c->file, c->number, told);
+    case BS_DO_RELEASE_SINCE: return TABLE_DO(table, release_since, txn, c->number, told);
+    case BS_DO_UNLOCK: return TABLE_DO(table, unlock, txn, c->node, told);
+    case BS_DO_ESCALATE: return TABLE_DO(table, escalate, txn, c->node, told);
+    case BS_DO_CANCEL: return table_cancel_path(table, txn, TABLE_DO(table, cancel, txn, told));
+    case BS_DO_ABORT: return TABLE_DO(table, abort, txn, told);
+    case BS_DO_SETTLE: return TABLE_DO(table, settle, txn, told);
+    case BS_DO_RENEW: return TABLE_DO(table, renew, txn, c->number);
+    case BS_DO_LOCK_ROW:
+      return TABLE_DO(table, lock_row, txn, c->file, c->number, c->keys, c->key_count, c->mode, told);
+    case BS_DO_UNLOCK_ROW: return TABLE_DO(table, unlock_row, txn, c->file, c->number, told);
     case BS_DO_TRY_PATH: return table_path_tried(table, txn, c->node, c->mode, c->keep);
     case BS_DO_TRY_ROW: return table_row_made(table, c, txn);
-    case BS_DO_BEGIN_AGAIN: return bs_begin_again(m, c->number);
+    case BS_DO_BEGIN_AGAIN: return TABLE_DO(table, begin_again, c->number);
     default: return bs_call_only(BS_BAD_NUMBER);
   }
 }
 
 /* Makes a command. */
 static inline bs_reply table_made(bs_table *table, const bs_command *c, bs_txn txn, bs_notices *told) {
-  bs_manager *m = &table->manager;
   switch (c->kind) {
-    case BS_DO_BEGIN: return bs_begin(m);
+    case BS_DO_BEGIN: return table_begin_now(table);
     case BS_DO_LOCK: return table_lock_made(table, c, txn, told);
-    case BS_DO_COMMIT: return bs_commit(m, txn, told);
-    case BS_DO_INSERT: return bs_insert(m, txn, c->file, c->keys, c->key_count);
-    case BS_DO_DELETE: return bs_delete(m, txn, c->node, told);
-    case BS_DO_ADOPT: return bs_adopt(m, c->file, c->keys, c->key_count);
-    case BS_DO_FORGET: return bs_forget(m, c->node);
-    case BS_DO_REKEY: return bs_rekey(m, txn, c->node, c->index, c->key, told);
-    case BS_DO_REKEY_ROW: return bs_rekey_row(m, txn, c->file, c->number, c->index, c->key, told);
-    case BS_DO_MOVE: return bs_move(m, txn, c->node, c->parents, c->parent_count, told);
-    case BS_DO_DROP: return bs_drop(m, txn, c->node, told);
-    case BS_DO_ADD_INNER: return bs_add_inner(m, c->parents, c->parent_count);
-    case BS_DO_ADD_FILE: return bs_add_file(m, c->parents, c->parent_count);
-    case BS_DO_ADD_ROW_FILE: return bs_add_row_file(m, c->parents, c->parent_count);
-    case BS_DO_ADD_INDEX: return bs_add_index(m, c->parents, c->parent_count, c->file, c->bounds, c->bound_count);
-    case BS_DO_INDEX_BY: return bs_index_by(m, txn, c->parents, c->parent_count, c->file, c->bounds, c->bound_count);
+    case BS_DO_COMMIT: return TABLE_DO(table, commit, txn, told);
+    case BS_DO_INSERT: return TABLE_DO(table, insert, txn, c->file, c->keys, c->key_count);
+    case BS_DO_DELETE: return TABLE_DO(table, delete, txn, c->node, told);
+    case BS_DO_ADOPT: return TABLE_DO(table, adopt, c->file, c->keys, c->key_count);
+    case BS_DO_FORGET: return TABLE_DO(table, forget, c->node);
+    case BS_DO_REKEY: return TABLE_DO(table, rekey, txn, c->node, c->index, c->key, told);
+    case BS_DO_REKEY_ROW: return TABLE_DO(table, rekey_row, txn, c->file, c->number, c->index, c->key, told);
+    case BS_DO_MOVE: return TABLE_DO(table, move, txn, c->node, c->parents, c->parent_count, told);
+    case BS_DO_DROP: return TABLE_DO(table, drop, txn, c->node, told);
+    case BS_DO_ADD_INNER: return TABLE_DO(table, add_inner, c->parents, c->parent_count);
+    case BS_DO_ADD_FILE: return TABLE_DO(table, add_file, c->parents, c->parent_count);
+    case BS_DO_ADD_ROW_FILE: return TABLE_DO(table, add_row_file, c->parents, c->parent_count);
+    case BS_DO_ADD_INDEX:
+      return TABLE_DO(table, add_index, c->parents, c->parent_count, c->file, c->bounds, c->bound_count);
+    case BS_DO_INDEX_BY:
+      return TABLE_DO(table, index_by, txn, c->parents, c->parent_count, c->file, c->bounds, c->bound_count);
     default: return table_other_made(table, c, txn, told);
   }
 }
@@ -1646,7 +1672,7 @@ static void table_settle_one(bs_table *table, bs_board *board, uint32_t slot) {
   size_t i;
   suspect.slot = slot;
   suspect.age = board->ages[slot];
-  table_wake(table, bs_settle(&table->manager, suspect, &table->told).status, &table->told, false);
+  table_wake(table, TABLE_DO(table, settle, suspect, &table->told).status, &table->told, false);
   board->rows[slot] = none;
   for (i = 0; i < table->told.count; i++) board->rows[table->told.at[i].txn.slot] = none;
 }
@@ -1722,7 +1748,7 @@ bs_reply bs_table_watch_thread(bs_table *table, uint64_t pace) {
 }
 
 /* ------------------------------------------------------------------------------------------------
- * What burlapslate_running.c needs.
+ * What burlapslate_running.c and burlapslate_trace.c need.
  */
 
 /* The table that this thread holds with this manager; null if it is no table's. */
@@ -1753,6 +1779,31 @@ void bs_call_engine(void (*function)(void *place), void *place) {
   while (table_held != NULL) bs_table_let_go(table_held);
   table_telling = NULL;
   if (over.first != NULL) table_tell(&over);
+}
+
+void bs_call_hand_on(bs_table *table) {
+  table_hand_on(table);
+}
+
+/* ------------------------------------------------------------------------------------------------
+ * A trace.
+ */
+
+bs_reply bs_table_trace(bs_table *table, int file) {
+  bs_reply reply;
+  if (!table_enter(table)) return table_no_table(table);
+  if (table->is_traced) return table_leave(table, bs_call_only(BS_IN_USE));
+  reply = bs_call_trace(table, &table->manager, file, &table->trace);
+  table->is_traced = reply.status == BS_DONE;
+  return table_leave(table, reply);
+}
+
+bs_reply bs_table_trace_end(bs_table *table) {
+  bs_trace *trace;
+  if (!table_enter_to_sleep(table, NULL)) return table_no_sleep(table);
+  trace = table_take_trace(table);
+  table_release(table);
+  return bs_call_trace_end(trace);
 }
 
 /* ------------------------------------------------------------------------------------------------

@@ -76,7 +76,7 @@ extern "C" {
 /* How many parents a node can have, and how many watchers a manager can have at once. */
 enum { BS_MOST_PARENTS = 8, BS_MOST_WATCHERS = 8 };
 
-/* The outcome of a call. Refusals are 1 to 24, of the manager, and 64 to 75, of this library. */
+/* The outcome of a call. Refusals are 1 to 24, of the manager, and 64 to 77, of this library. */
 typedef uint32_t bs_status;
 enum bs_statuses {
   BS_DONE = 0,
@@ -123,7 +123,9 @@ enum bs_statuses {
   BS_NOT_ROWS = 72,       /* the file is not a file of rows */
   BS_OTHER_SLOTS = 73,    /* the library was built for a number of slots other than BS_SLOTS */
   BS_OTHER_VERSION = 74,  /* the library's version differs from that of the program's headers */
-  BS_NOT_WRITTEN = 75     /* not answered here: the function that was to write a text has failed */
+  BS_NOT_WRITTEN = 75,    /* not answered here: what was to be written could not be */
+  BS_TOO_LATE = 76,       /* not answered here: the table has had a transaction or a record, and cannot be traced */
+  BS_NO_TRACE = 77        /* not answered here: the table has no trace */
 };
 
 /* Lock modes, from none to exclusive. Between different transactions on one node, BS_IS is compatible with all but
@@ -962,6 +964,8 @@ static inline const char *bs_text(bs_status status) {
     case BS_OTHER_SLOTS: return "OtherSlots";
     case BS_OTHER_VERSION: return "OtherVersion";
     case BS_NOT_WRITTEN: return "NotWritten";
+    case BS_TOO_LATE: return "TooLate";
+    case BS_NO_TRACE: return "NoTrace";
     default: return "?";
   }
 }

@@ -148,6 +148,35 @@ bs_reply bs_table_on_long_wait(bs_table *table, uint64_t milliseconds,
 bs_reply bs_table_metrics(bs_table *table, bool (*write)(void *context, const char *text, size_t length),
                           void *context);
 
+/* ------------------------------------------------------------------------------------------------
+ * A trace: what a table has done, as a script.
+ */
+
+/* Begins a trace: writes each command that the table accepts as a line of a script (docs/SCRIPT.md), and in comments
+ * after it its answer and the notices, each with the seconds since the trace began. gltool plays the script and answers
+ * the same; the trace says with which words. `file` is a descriptor to write to. The table makes a copy of it, so the
+ * caller may close it.
+ *   - All commands are there, whoever made them: each lock of a path, the request of a row after its grant, the cancel
+ *     of a wait whose time is over, the begin of a thread that slept for a slot. Nodes that were made before come first.
+ *     Refused commands and questions are not there.
+ *   - A thread of the table's own writes; it takes no signals. If it is late by more than eight megabytes, further lines
+ *     are dropped until there is room, and a comment says how many. Only bs_table_trace_end and bs_table_end await it.
+ *   - A transaction is named t and its slot, a node n and its birth; an interval is its index and its place.
+ *   - The trace cannot be played beyond dropped lines, an index whose bounds make a line of more than 256 bytes, or more
+ *     than 128 transactions at once. A comment says so, and all later lines are comments too. gltool reads the first 16
+ *     megabytes of a script.
+ * Each command of a traced table reads a clock and makes some look-ups. Refused with BS_IN_USE also if the table has a
+ * trace; with BS_TOO_LATE if a transaction has begun in it or a record was made; with BS_BAD_NUMBER if the file cannot
+ * be written to; and with BS_NO_MEMORY also if no thread can be started. Takes memory, some eight megabytes, and more
+ * for many rows that are locked at once. */
+bs_reply bs_table_trace(bs_table *table, int file);
+
+/* Ends the trace, after all lines are written; so it may sleep. `count` is how many lines were dropped, also because a
+ * write has failed: after a first failure no more is written. bs_table_end ends a trace too. Refused with BS_NO_TRACE if
+ * the table has none, and with BS_IN_USE as a call that may sleep. Answers BS_NOT_WRITTEN, with that count, if a write
+ * has failed; the trace has ended then too. */
+bs_reply bs_table_trace_end(bs_table *table);
+
 #ifdef __cplusplus
 }
 #endif
