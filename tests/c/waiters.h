@@ -191,6 +191,9 @@ static inline bs_reply lock_row(bs_txn txn, uint64_t key, bs_mode mode, const st
   return bs_table_lock_row(table, txn, rows, ROW, &key, 1, mode, until);
 }
 
+/* If it is not negative, the table of a story is traced into this file: from its first transaction on. */
+static __attribute__((unused)) int traced_into = -1;
+
 /* A table with the store, whose callback hears. */
 static inline void set_up(uint32_t detect) {
   static const uint64_t bound = 100, keys[2] = { LOW_KEY, HIGH_KEY };
@@ -207,6 +210,7 @@ static inline void set_up(uint32_t detect) {
   by_row_key = DONE(bs_table_add_index(table, &root, 1, rows, &bound, 1)).node;
   rows_below = DONE(ASK(table, bs_interval, by_row_key, 0)).node;
   rows_above = DONE(ASK(table, bs_interval, by_row_key, 1)).node;
+  if (traced_into >= 0) DONE(bs_table_trace(table, traced_into));
   t = begin();
   intend(t, file, below, above);
   low = DONE(bs_table_insert(table, t, file, &keys[0], 1)).node;
