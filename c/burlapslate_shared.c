@@ -146,12 +146,57 @@ struct bs_table {
 /* Rare code is not inlined, so that the path of each call is short. */
 #define TABLE_APART __attribute__((noinline))
 
-/* Makes a command. All commands are made by this: a trace says each. */
-#define TABLE_DO(table, call, ...)                                                         \
-  (__builtin_expect((table)->is_traced, 0) ? bs_traced_##call((table)->trace, __VA_ARGS__) \
-                                           : bs_##call(&(table)->manager, __VA_ARGS__))
+/* Each command of the manager is made by a function table_make_*: by the manager's call of that name, or, of a traced
+ * table, by that of the trace, which makes the call and says it. */
+#define TABLE_MAKES(call, parameters, ...)                                                          \
+  static inline bs_reply table_make_##call parameters {                                             \
+    if (__builtin_expect(table->is_traced, 0)) return bs_traced_##call(table->trace, __VA_ARGS__);  \
+    return bs_##call(&table->manager, __VA_ARGS__);                                                 \
+  }
 
-static inline bs_reply table_begin_now(bs_table *table) {
+TABLE_MAKES(add_inner, (bs_table *table, const bs_node *parents, size_t count), parents, count)
+TABLE_MAKES(add_file, (bs_table *table, const bs_node *parents, size_t count), parents, count)
+TABLE_MAKES(add_row_file, (bs_table *table, const bs_node *parents, size_t count), parents, count)
+TABLE_MAKES(add_index, (bs_table *table, const bs_node *parents, size_t count, bs_node file, const uint64_t *bounds,
+            size_t bound_count), parents, count, file, bounds, bound_count)
+TABLE_MAKES(index_by, (bs_table *table, bs_txn txn, const bs_node *parents, size_t count, bs_node file,
+            const uint64_t *bounds, size_t bound_count), txn, parents, count, file, bounds, bound_count)
+TABLE_MAKES(begin_again, (bs_table *table, uint64_t since), since)
+TABLE_MAKES(call_begin_in_turn, (bs_table *table, uint64_t since, uint64_t word, uint64_t until), since, word, until)
+TABLE_MAKES(renew, (bs_table *table, bs_txn txn, uint64_t since), txn, since)
+TABLE_MAKES(lock, (bs_table *table, bs_txn txn, bs_node node, bs_mode mode, bs_notices *told), txn, node, mode, told)
+TABLE_MAKES(lock_path, (bs_table *table, bs_txn txn, bs_node node, bs_mode mode, bs_notices *told),
+            txn, node, mode, told)
+TABLE_MAKES(try, (bs_table *table, bs_txn txn, bs_node node, bs_mode mode), txn, node, mode)
+TABLE_MAKES(call_try_path, (bs_table *table, bs_txn txn, bs_node node, bs_mode mode, uint32_t keep, bs_notices *told),
+            txn, node, mode, keep, told)
+TABLE_MAKES(unlock, (bs_table *table, bs_txn txn, bs_node node, bs_notices *told), txn, node, told)
+TABLE_MAKES(release_since, (bs_table *table, bs_txn txn, uint64_t savepoint, bs_notices *told), txn, savepoint, told)
+TABLE_MAKES(escalate, (bs_table *table, bs_txn txn, bs_node node, bs_notices *told), txn, node, told)
+TABLE_MAKES(cancel, (bs_table *table, bs_txn txn, bs_notices *told), txn, told)
+TABLE_MAKES(commit, (bs_table *table, bs_txn txn, bs_notices *told), txn, told)
+TABLE_MAKES(abort, (bs_table *table, bs_txn txn, bs_notices *told), txn, told)
+TABLE_MAKES(settle, (bs_table *table, bs_txn txn, bs_notices *told), txn, told)
+TABLE_MAKES(insert, (bs_table *table, bs_txn txn, bs_node file, const uint64_t *keys, size_t count),
+            txn, file, keys, count)
+TABLE_MAKES(delete, (bs_table *table, bs_txn txn, bs_node record, bs_notices *told), txn, record, told)
+TABLE_MAKES(adopt, (bs_table *table, bs_node file, const uint64_t *keys, size_t count), file, keys, count)
+TABLE_MAKES(forget, (bs_table *table, bs_node record), record)
+TABLE_MAKES(rekey, (bs_table *table, bs_txn txn, bs_node record, bs_node index, uint64_t key, bs_notices *told),
+            txn, record, index, key, told)
+TABLE_MAKES(move, (bs_table *table, bs_txn txn, bs_node node, const bs_node *parents, size_t count, bs_notices *told),
+            txn, node, parents, count, told)
+TABLE_MAKES(drop, (bs_table *table, bs_txn txn, bs_node node, bs_notices *told), txn, node, told)
+TABLE_MAKES(lock_row, (bs_table *table, bs_txn txn, bs_node file, uint64_t number, const uint64_t *keys, size_t count,
+            bs_mode mode, bs_notices *told), txn, file, number, keys, count, mode, told)
+TABLE_MAKES(call_try_row, (bs_table *table, bs_txn txn, bs_node file, uint64_t number, const uint64_t *keys,
+            size_t count, bs_mode mode, bs_notices *told), txn, file, number, keys, count, mode, told)
+TABLE_MAKES(unlock_row, (bs_table *table, bs_txn txn, bs_node file, uint64_t number, bs_notices *told),
+            txn, file, number, told)
+TABLE_MAKES(rekey_row, (bs_table *table, bs_txn txn, bs_node file, uint64_t number, bs_node index, uint64_t key,
+            bs_notices *told), txn, file, number, index, key, told)
+
+static inline bs_reply table_make_begin(bs_table *table) {
   return __builtin_expect(table->is_traced, 0) ? bs_traced_begin(table->trace) : bs_begin(&table->manager);
 }
 
@@ -305,7 +350,7 @@ static TABLE_APART void table_give_instants_back(bs_table *table, bs_slots *gran
     bs_notices more;
     if (held.status != BS_DONE || held.mode == BS_NL) continue; /* its wait has ended in another way */
     own->came = held.mode;
-    if (TABLE_DO(table, unlock, own->txn, own->node, &more).status == BS_DONE && more.count > 0) {
+    if (table_make_unlock(table, own->txn, own->node, &more).status == BS_DONE && more.count > 0) {
       table_note_ended(table, granted, &more);
       table_tell_too(told, &more);
     }
@@ -373,7 +418,7 @@ static void table_woken(bs_table *table) {
 
 /* Cancels the wait of a transaction whose time is over, and answers so. */
 static bs_reply table_time_out(bs_table *table, bs_txn txn) {
-  bs_reply reply = TABLE_DO(table, cancel, txn, &table->told);
+  bs_reply reply = table_make_cancel(table, txn, &table->told);
   if (reply.status == BS_DONE) bs_call_wait_late(&table->running, txn.slot);
   table_wake(table, reply.status, &table->told, true);
   if (reply.status == BS_DONE) reply.status = BS_TIMED_OUT;
@@ -725,20 +770,20 @@ bs_reply bs_table_free(bs_table **table) {
  */
 
 bs_reply bs_table_add_inner(bs_table *table, const bs_node *parents, size_t count) {
-  TABLE_ASK(table, TABLE_DO(table, add_inner, parents, count));
+  TABLE_ASK(table, table_make_add_inner(table, parents, count));
 }
 
 bs_reply bs_table_add_file(bs_table *table, const bs_node *parents, size_t count) {
-  TABLE_ASK(table, TABLE_DO(table, add_file, parents, count));
+  TABLE_ASK(table, table_make_add_file(table, parents, count));
 }
 
 bs_reply bs_table_add_row_file(bs_table *table, const bs_node *parents, size_t count) {
-  TABLE_ASK(table, TABLE_DO(table, add_row_file, parents, count));
+  TABLE_ASK(table, table_make_add_row_file(table, parents, count));
 }
 
 bs_reply bs_table_add_index(bs_table *table, const bs_node *parents, size_t count, bs_node file, const uint64_t *bounds,
                             size_t bound_count) {
-  TABLE_ASK(table, TABLE_DO(table, add_index, parents, count, file, bounds, bound_count));
+  TABLE_ASK(table, table_make_add_index(table, parents, count, file, bounds, bound_count));
 }
 
 /* ------------------------------------------------------------------------------------------------
@@ -746,11 +791,11 @@ bs_reply bs_table_add_index(bs_table *table, const bs_node *parents, size_t coun
  */
 
 bs_reply bs_table_begin(bs_table *table) {
-  TABLE_ASK(table, table_begin_now(table));
+  TABLE_ASK(table, table_make_begin(table));
 }
 
 bs_reply bs_table_begin_again(bs_table *table, uint64_t since) {
-  TABLE_ASK(table, TABLE_DO(table, begin_again, since));
+  TABLE_ASK(table, table_make_begin_again(table, since));
 }
 
 bs_reply bs_table_begin_again_in_turn(bs_table *table, uint64_t since, const struct timespec *until) {
@@ -758,7 +803,7 @@ bs_reply bs_table_begin_again_in_turn(bs_table *table, uint64_t since, const str
   bs_reply reply;
   if (!table_enter_to_sleep(table, until)) return table_no_sleep(table);
   own.since = since;
-  reply = TABLE_DO(table, call_begin_in_turn, since, (uint64_t)(uintptr_t)&own, UINT64_MAX);
+  reply = table_make_call_begin_in_turn(table, since, (uint64_t)(uintptr_t)&own, UINT64_MAX);
   if (reply.status == BS_WAITING) reply = table_sleep_in_begin_queue(table, &own, until);
   table_release(table);
   return reply;
@@ -782,7 +827,7 @@ bs_reply bs_table_deadline(bs_table *table, bs_txn txn, const struct timespec *u
  * victim was chosen for it, others may wait after it. */
 static TABLE_APART void table_give_back_at_once(bs_table *table, bs_txn txn, bs_node node, bs_notices *told) {
   bs_notices more;
-  bs_reply reply = TABLE_DO(table, unlock, txn, node, &more);
+  bs_reply reply = table_make_unlock(table, txn, node, &more);
   table_wake(table, reply.status, &more, false);
   table_tell_too(told, &more);
 }
@@ -803,7 +848,7 @@ static inline bool table_is_instant(const bs_table *table, bs_txn txn, bs_node n
 /* Makes the call bs_lock with the latch held. */
 static TABLE_IN_LINE bs_reply table_lock_by(bs_table *table, bs_txn txn, bs_node node, bs_mode mode, bool is_instant,
                                             bs_notices *told) {
-  bs_reply reply = TABLE_DO(table, lock, txn, node, mode, told);
+  bs_reply reply = table_make_lock(table, txn, node, mode, told);
   if (reply.status == BS_WAITING) table_register(table, txn, node, is_instant);
   table_wake(table, reply.status, told, false);
   if (is_instant && reply.status == BS_DONE) table_give_back_at_once(table, txn, node, told);
@@ -817,7 +862,7 @@ static TABLE_APART bs_reply table_lock_instantly(bs_table *table, bs_txn txn, bs
 }
 
 /* The same, of a mode as it was requested. */
-static inline bs_reply table_lock_now(bs_table *table, bs_txn txn, bs_node node, bs_mode asked, bs_notices *told) {
+static TABLE_IN_LINE bs_reply table_lock_now(bs_table *table, bs_txn txn, bs_node node, bs_mode asked, bs_notices *told) {
   if ((asked & BS_INSTANT) != 0) return table_lock_instantly(table, txn, node, asked, told);
   return table_lock_by(table, txn, node, asked, false, told);
 }
@@ -826,7 +871,7 @@ static inline bs_reply table_lock_now(bs_table *table, bs_txn txn, bs_node node,
  * with the wait, which may be over when others are woken. */
 static TABLE_IN_LINE bs_reply table_path_by(bs_table *table, bs_txn txn, bs_node node, bs_mode mode, bool is_instant,
                                             bs_notices *told, table_wait *wait) {
-  bs_reply reply = TABLE_DO(table, lock_path, txn, node, mode, told);
+  bs_reply reply = table_make_lock_path(table, txn, node, mode, told);
   if (reply.status == BS_WAITING) {
     wait->node = reply.node;
     wait->mode = bs_call_doing(&table->manager, txn).mode;
@@ -853,7 +898,7 @@ static inline bs_reply table_path_now(bs_table *table, bs_txn txn, bs_node node,
 /* Makes the call bs_try with the latch held. */
 static inline bs_reply table_try_now(bs_table *table, bs_txn txn, bs_node node, bs_mode asked) {
   bool is_instant = table_is_instant(table, txn, node, asked);
-  bs_reply reply = TABLE_DO(table, try, txn, node, table_mode_of(asked));
+  bs_reply reply = table_make_try(table, txn, node, table_mode_of(asked));
   if (is_instant && reply.status == BS_DONE) table_give_back_at_once(table, txn, node, &table->told);
   return reply;
 }
@@ -885,11 +930,11 @@ bs_reply bs_table_mark(bs_table *table, bs_txn txn) {
 }
 
 bs_reply bs_table_release_since(bs_table *table, bs_txn txn, uint64_t savepoint, bs_notices *told) {
-  TABLE_TELL(table, told, false, TABLE_DO(table, release_since, txn, savepoint, list));
+  TABLE_TELL(table, told, false, table_make_release_since(table, txn, savepoint, list));
 }
 
 bs_reply bs_table_unlock(bs_table *table, bs_txn txn, bs_node node, bs_notices *told) {
-  TABLE_TELL(table, told, false, TABLE_DO(table, unlock, txn, node, list));
+  TABLE_TELL(table, told, false, table_make_unlock(table, txn, node, list));
 }
 
 /* After a cancel: if the wait was over by then, but its sleeper would wake to wait for the next node of its path, the
@@ -906,27 +951,27 @@ static bs_reply table_cancel_path(bs_table *table, bs_txn txn, bs_reply cancelle
 }
 
 bs_reply bs_table_cancel(bs_table *table, bs_txn txn, bs_notices *told) {
-  TABLE_TELL(table, told, true, table_cancel_path(table, txn, TABLE_DO(table, cancel, txn, list)));
+  TABLE_TELL(table, told, true, table_cancel_path(table, txn, table_make_cancel(table, txn, list)));
 }
 
 bs_reply bs_table_commit(bs_table *table, bs_txn txn, bs_notices *told) {
-  TABLE_TELL(table, told, false, TABLE_DO(table, commit, txn, list));
+  TABLE_TELL(table, told, false, table_make_commit(table, txn, list));
 }
 
 bs_reply bs_table_renew(bs_table *table, bs_txn txn, uint64_t since) {
-  TABLE_ASK(table, TABLE_DO(table, renew, txn, since));
+  TABLE_ASK(table, table_make_renew(table, txn, since));
 }
 
 bs_reply bs_table_abort(bs_table *table, bs_txn txn, bs_notices *told) {
-  TABLE_TELL(table, told, true, TABLE_DO(table, abort, txn, list));
+  TABLE_TELL(table, told, true, table_make_abort(table, txn, list));
 }
 
 bs_reply bs_table_settle(bs_table *table, bs_txn txn, bs_notices *told) {
-  TABLE_TELL(table, told, false, TABLE_DO(table, settle, txn, list));
+  TABLE_TELL(table, told, false, table_make_settle(table, txn, list));
 }
 
 bs_reply bs_table_escalate(bs_table *table, bs_txn txn, bs_node node, bs_notices *told) {
-  TABLE_TELL(table, told, false, TABLE_DO(table, escalate, txn, node, list));
+  TABLE_TELL(table, told, false, table_make_escalate(table, txn, node, list));
 }
 
 /* Makes the call bs_lock_path with the latch held, and sleeps if that waits. */
@@ -966,7 +1011,7 @@ static inline bs_reply table_tried(bs_table *table, bs_reply reply) {
 
 /* Tries a path with the latch held. */
 static TABLE_APART bs_reply table_path_tried(bs_table *table, bs_txn txn, bs_node node, bs_mode mode, uint32_t keep) {
-  return table_tried(table, TABLE_DO(table, call_try_path, txn, node, mode, keep, &table->told));
+  return table_tried(table, table_make_call_try_path(table, txn, node, mode, keep, &table->told));
 }
 
 bs_reply bs_table_try_path(bs_table *table, bs_txn txn, bs_node node, bs_mode mode, uint32_t keep) {
@@ -978,37 +1023,37 @@ bs_reply bs_table_try_path(bs_table *table, bs_txn txn, bs_node node, bs_mode mo
  */
 
 bs_reply bs_table_insert(bs_table *table, bs_txn txn, bs_node file, const uint64_t *keys, size_t count) {
-  TABLE_ASK(table, TABLE_DO(table, insert, txn, file, keys, count));
+  TABLE_ASK(table, table_make_insert(table, txn, file, keys, count));
 }
 
 bs_reply bs_table_delete(bs_table *table, bs_txn txn, bs_node record, bs_notices *told) {
-  TABLE_TELL(table, told, false, TABLE_DO(table, delete, txn, record, list));
+  TABLE_TELL(table, told, false, table_make_delete(table, txn, record, list));
 }
 
 bs_reply bs_table_adopt(bs_table *table, bs_node file, const uint64_t *keys, size_t count) {
-  TABLE_ASK(table, TABLE_DO(table, adopt, file, keys, count));
+  TABLE_ASK(table, table_make_adopt(table, file, keys, count));
 }
 
 bs_reply bs_table_forget(bs_table *table, bs_node record) {
-  TABLE_ASK(table, TABLE_DO(table, forget, record));
+  TABLE_ASK(table, table_make_forget(table, record));
 }
 
 bs_reply bs_table_rekey(bs_table *table, bs_txn txn, bs_node record, bs_node index, uint64_t key, bs_notices *told) {
-  TABLE_TELL(table, told, false, TABLE_DO(table, rekey, txn, record, index, key, list));
+  TABLE_TELL(table, told, false, table_make_rekey(table, txn, record, index, key, list));
 }
 
 bs_reply bs_table_move(bs_table *table, bs_txn txn, bs_node node, const bs_node *parents, size_t count,
                        bs_notices *told) {
-  TABLE_TELL(table, told, false, TABLE_DO(table, move, txn, node, parents, count, list));
+  TABLE_TELL(table, told, false, table_make_move(table, txn, node, parents, count, list));
 }
 
 bs_reply bs_table_drop(bs_table *table, bs_txn txn, bs_node node, bs_notices *told) {
-  TABLE_TELL(table, told, false, TABLE_DO(table, drop, txn, node, list));
+  TABLE_TELL(table, told, false, table_make_drop(table, txn, node, list));
 }
 
 bs_reply bs_table_index_by(bs_table *table, bs_txn txn, const bs_node *parents, size_t count, bs_node file,
                            const uint64_t *bounds, size_t bound_count) {
-  TABLE_ASK(table, TABLE_DO(table, index_by, txn, parents, count, file, bounds, bound_count));
+  TABLE_ASK(table, table_make_index_by(table, txn, parents, count, file, bounds, bound_count));
 }
 
 /* ------------------------------------------------------------------------------------------------
@@ -1018,7 +1063,7 @@ bs_reply bs_table_index_by(bs_table *table, bs_txn txn, const bs_node *parents, 
 /* Requests a row with the latch held, for a caller that may wait. */
 static bs_reply table_ask_row(bs_table *table, bs_txn txn, const table_row *row, bs_mode mode) {
   bs_reply reply =
-    TABLE_DO(table, lock_row, txn, row->file, row->number, row->keys, row->count, mode, &table->told);
+    table_make_lock_row(table, txn, row->file, row->number, row->keys, row->count, mode, &table->told);
   if (reply.status == BS_WAITING) table_register(table, txn, reply.node, false);
   table_wake(table, reply.status, &table->told, false);
   return reply;
@@ -1066,7 +1111,7 @@ bs_reply bs_table_lock_row(bs_table *table, bs_txn txn, bs_node file, uint64_t n
 static TABLE_APART bs_reply table_row_tried(bs_table *table, bs_txn txn, const table_row *row, bs_mode mode) {
   const uint64_t *keys = bs_call_numbers(row->keys);
   if (row->keys == NULL && row->count != 0) return bs_call_null();
-  return table_tried(table, TABLE_DO(table, call_try_row, txn, row->file, row->number, keys, row->count, mode,
+  return table_tried(table, table_make_call_try_row(table, txn, row->file, row->number, keys, row->count, mode,
                                             &table->told));
 }
 
@@ -1077,12 +1122,12 @@ bs_reply bs_table_try_row(bs_table *table, bs_txn txn, bs_node file, uint64_t nu
 }
 
 bs_reply bs_table_unlock_row(bs_table *table, bs_txn txn, bs_node file, uint64_t number, bs_notices *told) {
-  TABLE_TELL(table, told, false, TABLE_DO(table, unlock_row, txn, file, number, list));
+  TABLE_TELL(table, told, false, table_make_unlock_row(table, txn, file, number, list));
 }
 
 bs_reply bs_table_rekey_row(bs_table *table, bs_txn txn, bs_node file, uint64_t number, bs_node index, uint64_t key,
                             bs_notices *told) {
-  TABLE_TELL(table, told, false, TABLE_DO(table, rekey_row, txn, file, number, index, key, list));
+  TABLE_TELL(table, told, false, table_make_rekey_row(table, txn, file, number, index, key, list));
 }
 
 /* ------------------------------------------------------------------------------------------------
@@ -1425,7 +1470,7 @@ static bs_reply table_path_made(bs_table *table, const bs_command *c, bs_txn txn
 
 /* A lock in a list. The waits that it has ended are noted after it, except for a lock for an instant. */
 static inline bs_reply table_lock_made(bs_table *table, const bs_command *c, bs_txn txn, bs_notices *told) {
-  if ((c->mode & BS_INSTANT) == 0) return TABLE_DO(table, lock, txn, c->node, c->mode, told);
+  if ((c->mode & BS_INSTANT) == 0) return table_make_lock(table, txn, c->node, c->mode, told);
   return table_lock_now(table, txn, c->node, c->mode, told);
 }
 
@@ -1440,19 +1485,19 @@ static TABLE_APART bs_reply table_other_made(bs_table *table, const bs_command *
   switch (c->kind) {
     case BS_DO_LOCK_PATH: return table_path_made(table, c, txn, told);
     case BS_DO_TRY: return table_try_now(table, txn, c->node, c->mode);
-    case BS_DO_RELEASE_SINCE: return TABLE_DO(table, release_since, txn, c->number, told);
-    case BS_DO_UNLOCK: return TABLE_DO(table, unlock, txn, c->node, told);
-    case BS_DO_ESCALATE: return TABLE_DO(table, escalate, txn, c->node, told);
-    case BS_DO_CANCEL: return table_cancel_path(table, txn, TABLE_DO(table, cancel, txn, told));
-    case BS_DO_ABORT: return TABLE_DO(table, abort, txn, told);
-    case BS_DO_SETTLE: return TABLE_DO(table, settle, txn, told);
-    case BS_DO_RENEW: return TABLE_DO(table, renew, txn, c->number);
+    case BS_DO_RELEASE_SINCE: return table_make_release_since(table, txn, c->number, told);
+    case BS_DO_UNLOCK: return table_make_unlock(table, txn, c->node, told);
+    case BS_DO_ESCALATE: return table_make_escalate(table, txn, c->node, told);
+    case BS_DO_CANCEL: return table_cancel_path(table, txn, table_make_cancel(table, txn, told));
+    case BS_DO_ABORT: return table_make_abort(table, txn, told);
+    case BS_DO_SETTLE: return table_make_settle(table, txn, told);
+    case BS_DO_RENEW: return table_make_renew(table, txn, c->number);
     case BS_DO_LOCK_ROW:
-      return TABLE_DO(table, lock_row, txn, c->file, c->number, c->keys, c->key_count, c->mode, told);
-    case BS_DO_UNLOCK_ROW: return TABLE_DO(table, unlock_row, txn, c->file, c->number, told);
+      return table_make_lock_row(table, txn, c->file, c->number, c->keys, c->key_count, c->mode, told);
+    case BS_DO_UNLOCK_ROW: return table_make_unlock_row(table, txn, c->file, c->number, told);
     case BS_DO_TRY_PATH: return table_path_tried(table, txn, c->node, c->mode, c->keep);
     case BS_DO_TRY_ROW: return table_row_made(table, c, txn);
-    case BS_DO_BEGIN_AGAIN: return TABLE_DO(table, begin_again, c->number);
+    case BS_DO_BEGIN_AGAIN: return table_make_begin_again(table, c->number);
     default: return bs_call_only(BS_BAD_NUMBER);
   }
 }
@@ -1460,24 +1505,24 @@ static TABLE_APART bs_reply table_other_made(bs_table *table, const bs_command *
 /* Makes a command. */
 static inline bs_reply table_made(bs_table *table, const bs_command *c, bs_txn txn, bs_notices *told) {
   switch (c->kind) {
-    case BS_DO_BEGIN: return table_begin_now(table);
+    case BS_DO_BEGIN: return table_make_begin(table);
     case BS_DO_LOCK: return table_lock_made(table, c, txn, told);
-    case BS_DO_COMMIT: return TABLE_DO(table, commit, txn, told);
-    case BS_DO_INSERT: return TABLE_DO(table, insert, txn, c->file, c->keys, c->key_count);
-    case BS_DO_DELETE: return TABLE_DO(table, delete, txn, c->node, told);
-    case BS_DO_ADOPT: return TABLE_DO(table, adopt, c->file, c->keys, c->key_count);
-    case BS_DO_FORGET: return TABLE_DO(table, forget, c->node);
-    case BS_DO_REKEY: return TABLE_DO(table, rekey, txn, c->node, c->index, c->key, told);
-    case BS_DO_REKEY_ROW: return TABLE_DO(table, rekey_row, txn, c->file, c->number, c->index, c->key, told);
-    case BS_DO_MOVE: return TABLE_DO(table, move, txn, c->node, c->parents, c->parent_count, told);
-    case BS_DO_DROP: return TABLE_DO(table, drop, txn, c->node, told);
-    case BS_DO_ADD_INNER: return TABLE_DO(table, add_inner, c->parents, c->parent_count);
-    case BS_DO_ADD_FILE: return TABLE_DO(table, add_file, c->parents, c->parent_count);
-    case BS_DO_ADD_ROW_FILE: return TABLE_DO(table, add_row_file, c->parents, c->parent_count);
+    case BS_DO_COMMIT: return table_make_commit(table, txn, told);
+    case BS_DO_INSERT: return table_make_insert(table, txn, c->file, c->keys, c->key_count);
+    case BS_DO_DELETE: return table_make_delete(table, txn, c->node, told);
+    case BS_DO_ADOPT: return table_make_adopt(table, c->file, c->keys, c->key_count);
+    case BS_DO_FORGET: return table_make_forget(table, c->node);
+    case BS_DO_REKEY: return table_make_rekey(table, txn, c->node, c->index, c->key, told);
+    case BS_DO_REKEY_ROW: return table_make_rekey_row(table, txn, c->file, c->number, c->index, c->key, told);
+    case BS_DO_MOVE: return table_make_move(table, txn, c->node, c->parents, c->parent_count, told);
+    case BS_DO_DROP: return table_make_drop(table, txn, c->node, told);
+    case BS_DO_ADD_INNER: return table_make_add_inner(table, c->parents, c->parent_count);
+    case BS_DO_ADD_FILE: return table_make_add_file(table, c->parents, c->parent_count);
+    case BS_DO_ADD_ROW_FILE: return table_make_add_row_file(table, c->parents, c->parent_count);
     case BS_DO_ADD_INDEX:
-      return TABLE_DO(table, add_index, c->parents, c->parent_count, c->file, c->bounds, c->bound_count);
+      return table_make_add_index(table, c->parents, c->parent_count, c->file, c->bounds, c->bound_count);
     case BS_DO_INDEX_BY:
-      return TABLE_DO(table, index_by, txn, c->parents, c->parent_count, c->file, c->bounds, c->bound_count);
+      return table_make_index_by(table, txn, c->parents, c->parent_count, c->file, c->bounds, c->bound_count);
     default: return table_other_made(table, c, txn, told);
   }
 }
@@ -1672,7 +1717,7 @@ static void table_settle_one(bs_table *table, bs_board *board, uint32_t slot) {
   size_t i;
   suspect.slot = slot;
   suspect.age = board->ages[slot];
-  table_wake(table, TABLE_DO(table, settle, suspect, &table->told).status, &table->told, false);
+  table_wake(table, table_make_settle(table, suspect, &table->told).status, &table->told, false);
   board->rows[slot] = none;
   for (i = 0; i < table->told.count; i++) board->rows[table->told.at[i].txn.slot] = none;
 }

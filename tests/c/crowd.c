@@ -2,14 +2,17 @@
  * A crowd over one shared table: 128 threads, or 1,000 if there are slots for them, make random commands of every kind,
  * with both ways of detection and both choices of victims, and over fewer slots than there are threads.
  *
- *   crowd [ROUNDS [SECONDS]]   how many transactions each thread begins, 4 if none is given; and the time that a
- *                              setting may take before it is said to hang, 20 if none is given
+ *   crowd [ROUNDS [SECONDS [FOLDER]]]   how many transactions each thread begins, 4 if none is given; the time that a
+ *                                       setting may take before it is said to hang, 20 if none is given; and a folder
+ *                                       for traces
  *
  * Each call that the table makes with its manager is logged with its answer, under the latch. In the end a manager of
  * one thread is asked the same in the same order, and must answer the same. The answer of each thread must be the
  * logged one, or, if it slept, the end of its wait. A transaction that holds BS_X on an account, or on a row that it
  * inserts or deletes, adds to it; only the lock protects that, and no addition may be lost. Listings of one moment
  * agree with each other.
+ *
+ * With a folder each table is traced, for traces.sh. Its calls are then made by the trace, and not logged.
  */
 #include "burlapslate.h"
 #include "same.h"
@@ -365,6 +368,9 @@ enum { AREAS = 2, FILES = 4, INTERVALS = 3, RECORDS = 24, ROWS = 10, ACCOUNTS = 
 
 static bs_table *table;
 
+/* Where traces are written; null if the tables are not traced. */
+static const char *folder;
+
 static void take_handed_on(void) {
   if (table != NULL) table_hand_on(table);
 }
@@ -430,6 +436,16 @@ static void make_file(size_t i) {
   DONE(bs_table_commit(table, t, NULL));
 }
 
+static void begin_trace(void) {
+  char name[300];
+  FILE *file;
+  snprintf(name, sizeof name, "%s/%s.script", folder, story);
+  file = fopen(name, "w");
+  WANT(file != NULL);
+  DONE(bs_table_trace(table, fileno(file)));
+  fclose(file);
+}
+
 static void set_up(uint32_t detect, uint32_t victims, uint32_t most) {
   size_t i;
   log_count = 0;
@@ -438,6 +454,7 @@ static void set_up(uint32_t detect, uint32_t victims, uint32_t most) {
   memset(free_game, 0, sizeof free_game);
   is_over = false;
   DONE(make_table(&table, detect, victims, most));
+  if (folder != NULL) begin_trace();
   root = DONE(bs_table_add_inner(table, NULL, 0)).node;
   for (i = 0; i < AREAS; i++) areas[i] = DONE(bs_table_add_inner(table, &root, 1)).node;
   for (i = 0; i < FILES; i++) make_file(i);
@@ -492,6 +509,7 @@ static bool same_reply(bs_reply a, bs_reply b) {
 
 /* The answer of a call that cannot sleep is the logged one. */
 static bs_reply as_served(bs_reply reply) {
+  if (folder != NULL) return reply;
   pthread_mutex_lock(&table->latch);
   WANT(same_reply(reply, log_of_calls[my_last].reply));
   pthread_mutex_unlock(&table->latch);
@@ -501,6 +519,7 @@ static bs_reply as_served(bs_reply reply) {
 /* A cancel that finds no wait may still end a path. */
 static bs_reply as_cancelled(bs_reply reply) {
   bs_reply served = reply;
+  if (folder != NULL) return reply;
   pthread_mutex_lock(&table->latch);
   if (log_of_calls[my_last].reply.status == BS_NOT_WAITING && reply.status == BS_DONE) served.status = BS_NOT_WAITING;
   pthread_mutex_unlock(&table->latch);
@@ -515,6 +534,7 @@ static bool is_begin(const struct call *call) {
 /* A begin may have been served in another thread. */
 static bs_reply as_begun(bs_reply reply) {
   size_t i;
+  if (folder != NULL) return reply;
   pthread_mutex_lock(&table->latch);
   i = log_count;
   while (i > 0 && !(is_begin(&log_of_calls[i - 1].call) && same_reply(reply, log_of_calls[i - 1].reply))) i--;
@@ -526,6 +546,7 @@ static bs_reply as_begun(bs_reply reply) {
 /* The same of a lock. If it slept, its end is noted; a wait that was given up has the cancel as its last call. */
 static bs_reply as_slept(struct session *s, bs_reply reply) {
   struct served *last;
+  if (folder != NULL) return reply;
   pthread_mutex_lock(&table->latch);
   last = &log_of_calls[my_last];
   if (reply.status == BS_TIMED_OUT) {
@@ -553,6 +574,7 @@ static bool is_asked_again(const struct served *slept, const struct served *last
 /* The same of a row's lock: the answer after a grant is that of the call that requests it again. */
 static bs_reply as_row_slept(struct session *s, bs_reply reply) {
   struct served *slept;
+  if (folder != NULL) return reply;
   pthread_mutex_lock(&table->latch);
   slept = &log_of_calls[my_last_but_one];
   if (is_asked_again(slept, &log_of_calls[my_last])) {
@@ -1051,8 +1073,9 @@ static void crowd(const char *name, uint32_t detect, uint32_t victims, uint32_t 
     others += sessions[i].others;
     changed_indexes += sessions[i].indexes;
   }
-  replay(detect, victims, most);
+  if (folder == NULL) replay(detect, victims, most);
   compare_additions(sessions);
+  if (folder != NULL) WANT(DONE(bs_table_trace_end(table)).count == 0);
   DONE(bs_table_end(table));
   DONE(bs_table_free(&table));
   fprintf(stderr, "%s: %lu calls, %ld sleeps, %ld too late, %ld victims, %ld other keys, %ld new indexes, %ld looks\n",
@@ -1064,6 +1087,7 @@ int main(int count, char **words) {
   unsigned patience = count > 2 ? (unsigned)atoi(words[2]) : 20;
   setvbuf(stdout, NULL, _IONBF, 0);
   if (count > 1) rounds = atol(words[1]);
+  if (count > 3) folder = words[3];
   crowd("a_crowd_at_block_the_youngest", BS_AT_BLOCK, BS_YOUNGEST, BS_SLOTS, patience);
   crowd("a_crowd_at_block_the_fewest", BS_AT_BLOCK, BS_FEWEST, BS_SLOTS, patience);
   crowd("a_crowd_by_watcher_the_youngest", BS_BY_WATCHER, BS_YOUNGEST, BS_SLOTS, patience);

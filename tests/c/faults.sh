@@ -1,6 +1,6 @@
 #!/usr/bin/env bash
-# faults.sh [--tenth] [NAME..] [LIBRARY LIBRARY]: plants faults in a copy of the C sources, the shared table, its dump and
-# what times its waits, one at a time. The stories or the crowd must find each: by a check that fails, or because they hang. `all` means every
+# faults.sh [--tenth] [NAME..] [LIBRARY LIBRARY]: plants faults in a copy of the C sources, the shared table, its dump, its
+# trace and what times its waits, one at a time. The stories or the crowd must find each: by a check that fails, or because they hang. `all` means every
 # fault there is, --tenth each tenth, by turns: which one is chosen by the sum of the folder c. The libraries are the proved
 # one and the calls for memory; without them they are the last two that tools/c_library.sh prints. Ends with status 1 if a
 # fault is not found. CC names another compiler than cc.
@@ -47,9 +47,9 @@ skip-keeps-replies	s/  if (place < count) table_not_made(.*//
 other-keys-wake-nobody	s/^ *status == BS_OTHER_KEYS;/false;/
 run-forgets-to-wake	s/  table_wake(table, next->reply.status, told, by_name);//
 run-forgets-names	s/  by_name = next->kind .*/  by_name = false;/
-savepoint-is-of-nobody	s/    case BS_DO_RELEASE_SINCE: return bs_release_since(m, txn, c->number, told);/    case BS_DO_RELEASE_SINCE: return bs_release_since(m, txn, c->key, told);/
+savepoint-is-of-nobody	s/    case BS_DO_RELEASE_SINCE: return table_make_release_since(table, txn, c->number, told);/    case BS_DO_RELEASE_SINCE: return table_make_release_since(table, txn, c->key, told);/
 instant-stays-held	s/^  table_give_instants_back(table, &granted, told);//
-instant-at-once-forgets-the-victims	/ table_give_back_at_once(bs_table/,/^}/{s/bs_unlock(&table->manager, txn, node, &more)/bs_unlock(\&table->manager, txn, node, told)/;/table_tell_too/d}
+instant-at-once-forgets-the-victims	/ table_give_back_at_once(bs_table/,/^}/{s/table_make_unlock(table, txn, node, &more)/table_make_unlock(table, txn, node, told)/;/table_tell_too/d}
 asked-path-answers-where-it-was	s/^    reply.node = own->at;.*//
 instant-stays-held-at-once	s/  if (is_instant \&\& reply.status == BS_DONE) table_give_back_at_once(.*//
 instant-gives-back-what-was-held	/ table_is_instant(const/,/^}/s/ \&\& bs_held(&table->manager, txn, node).mode == BS_NL;/;/
@@ -92,7 +92,7 @@ release-wakes-nobody	s/^  table_wake_sleepers(table, &to_wake);//
 release-wakes-one	s/^    for (; word != 0; word \&= word - 1) pthread_cond_broadcast/    if (word != 0) pthread_cond_broadcast/
 release-wakes-the-first-word	/table_wake_sleepers(/,/^}/s/  for (i = 0; i < BS_SLOTS \/ 64; i++) {/  for (i = 0; i < 1; i++) {/
 watch-is-not-woken	s/^  pthread_cond_signal(&table->began);//
-watch-forgets-to-wake	s/  table_wake(table, \(bs_settle(.*\)\.status, &table->told, false);/  \1;/
+watch-forgets-to-wake	s/  table_wake(table, \(table_make_settle(.*\)\.status, &table->told, false);/  \1;/
 path-forgets-a-cancel	s/  path->is_cancelled = true;//
 early-return	s/    reply = table_verdict(.*/    reply.status = BS_DONE, reply.mode = mode;/
 time-before-grant	s/    reply = table_verdict(/    if (late == 0) &/
@@ -115,9 +115,9 @@ section-is-nobodys	s/^  table_held = table;//
 section-is-anybodys	s/^static __thread [^ ]* bs_table/static bs_table/
 section-forgets-the-one-before	s/^  table->held_before = table_held;/  table->held_before = NULL;/
 let-go-holds-on	s/^  \*at = table->held_before;//
-listed-work-is-new	s/bs_begin_again(m, c->number);/bs_begin(m);/
-work-in-turn-is-new	s/begin_in_turn(&table->manager, since,/begin_in_turn(\&table->manager, TABLE_NEW_WORK,/
-work-again-is-new	s/  TABLE_ASK(table, bs_begin_again(&table->manager, since));/  TABLE_ASK(table, bs_begin(\&table->manager));/
+listed-work-is-new	s/table_make_begin_again(table, c->number);/table_make_begin(table);/
+work-in-turn-is-new	s/make_call_begin_in_turn(table, since,/make_call_begin_in_turn(table, TABLE_NEW_WORK,/
+work-again-is-new	s/  TABLE_ASK(table, table_make_begin_again(table, since));/  TABLE_ASK(table, table_make_begin(table));/
 call-keeps-the-slot	s/  table_hand_on(table);  *\\$/ \\/
 run-keeps-the-slot	/^size_t bs_table_run(/,/^}/s/^  table_hand_on(table);$//
 section-keeps-the-slot	/^bs_reply bs_table_let_go(/,/^}/s/^  table_hand_on(table);$//
@@ -213,7 +213,7 @@ instant-is-of-its-slot	s/  if (own->came == BS_NL || own->txn.age != txn.age || 
 instant-is-of-any-node	s/ || own->txn.age != txn.age || !table_is_same_node(own->node, node)) return reply;/ || own->txn.age != txn.age) return reply;/
 asked-row-keeps-its-first-key	/^static void table_keep_keys(/,/^}/s/own->row.count \* sizeof own->keys\[0\]/sizeof own->keys[0]/
 asked-row-is-for-an-instant	/^bs_reply bs_table_ask_row(/,/^}/s/table_ask_row(table, txn, &own->row, mode)/table_ask_row(table, txn, \&own->row, table_mode_of(mode))/
-listed-row-is-for-an-instant	s/bs_lock_row(m, txn, c->file, c->number, c->keys, c->key_count, c->mode, told)/bs_lock_row(m, txn, c->file, c->number, c->keys, c->key_count, table_mode_of(c->mode), told)/
+listed-row-is-for-an-instant	s/make_lock_row(table, txn, c->file, c->number, c->keys, c->key_count, c->mode, told)/make_lock_row(table, txn, c->file, c->number, c->keys, c->key_count, table_mode_of(c->mode), told)/
 end-of-a-table-is-cancelled	/^bs_reply bs_table_end(/,/^}/s/  pthread_setcancelstate(PTHREAD_CANCEL_DISABLE, &state);/  pthread_setcancelstate(PTHREAD_CANCEL_ENABLE, \&state);/
 end-of-a-table-keeps-cancels-off	/^bs_reply bs_table_end(/,/^}/s/^  pthread_setcancelstate(state, &state);//
 dump-prints-names-as-they-are	s/(unsigned char)text\[i\] < ' ' ? '?' : text\[i\]/text[i]/
@@ -277,6 +277,40 @@ metrics-hide-a-failure	s/to.has_failed ? BS_NOT_WRITTEN : BS_DONE/BS_DONE/
 metrics-buckets-do-not-add-up	/^static void metrics_put_histogram(/,/^}/s/^    count += histogram->buckets\[i\];/    count = histogram->buckets[i];/
 metrics-are-cancelled	/^bs_reply bs_table_metrics(/,/^}/s/PTHREAD_CANCEL_DISABLE/PTHREAD_CANCEL_ENABLE/
 metrics-are-written-under-the-latch	/^bs_reply bs_table_metrics(/,/^}/{s/^  bs_table_let_go(table);//;s/^  metrics_flush(&to);/&\n  bs_table_let_go(table);/}
+trace-tells-nobody	/^static void trace_say_many(/,/^}/s/told == NULL ? 0 : told->count/0/
+trace-leaves-one-notice-out	/^static void trace_say_many(/,/^}/s/told == NULL ? 0 : told->count/told == NULL || told->count == 0 ? 0 : told->count - 1/
+trace-says-a-command-twice	/^static bs_reply trace_end(/,/^}/s/^  if (trace_is_accepted(reply.status)) trace_say(.*/&\n&/
+trace-says-what-was-refused	/^static bs_reply trace_end(/,/^}/s/^  if (trace_is_accepted(reply.status)) trace_say(/  trace_say(/
+trace-does-not-count-what-it-drops	/^static void trace_end_put(/,/^}/s/^    trace->lost += lines;//
+trace-counts-no-notices-it-drops	s/^  trace_end_put(trace, 1 + line->head.told_count);/  trace_end_put(trace, 1);/
+trace-forgets-a-gap	/^static void trace_begin_put(/,/^}/s/^  if (trace->lost > 0) .*//
+trace-plays-on-after-a-gap	/^static void trace_cut(/,/^}/s/^  trace->is_cut = true;//
+trace-waits-for-its-writer	/^static void trace_put(/,/^}/s/^  if (trace->next + count - .*/  while (trace->next + count - __atomic_load_n(\&trace->tail, __ATOMIC_ACQUIRE) > TRACE_WORDS) continue;/
+trace-does-not-hand-on	s/^  bs_call_hand_on(trace->table);//
+trace-says-no-begin-in-turn	s/^    if (table->is_traced) bs_traced_begun(.*//
+trace-forgets-since-when	s/^  own.since = since;//
+trace-says-no-forgotten-rows	s/^  if (trace->said < accepted) trace_say_forgotten(.*//
+trace-says-no-adopted-rows	/^static void trace_say_row(/,/^}/s/^    trace_say(trace, &adopted, .*//
+trace-hides-what-it-does-not-know	/^static bs_reply trace_end_call(/,/^}/s/^  if (trace->said == accepted) return reply;/  trace->said = accepted;\n&/
+trace-path-is-one-lock	/^bs_reply bs_traced_lock_path(/,/^}/s/^  if (made <= steps) trace_say_steps(trace, TRACE_LOCK, txn, (size_t)made, /  if (made <= steps) trace_say_steps(trace, TRACE_LOCK, txn, 1, /
+trace-path-reads-as-it-writes	/^static bool trace_find_above(/,/^}/s/bool writes = trace_is_to_write(mode)/bool writes = true/
+trace-path-waits-at-its-first	/^static void trace_say_steps(/,/^}/s/i + 1 == count \&\& trace_is_accepted(last) ? last/i == 0 \&\& trace_is_accepted(last) ? last/
+trace-try-gives-nothing-back	/^bs_reply bs_traced_call_try_path(/,/^}/s/^    trace_say_release(trace, txn, before, released, told);//
+trace-row-is-tried-and-not-locked	/^bs_reply bs_traced_call_try_row(/,/^}/s/^  if (is_held || !is_busy) trace_say_row(.*/  if (!is_busy) trace_say_row(trace, txn, file, keys, count, mode, before, reply, told);/
+trace-release-is-one-command	/^static void trace_say_release(/,/^}/s/told, released);/told, 1);/
+trace-settles-in-silence	/^static void table_settle_one(/,/^}/s/table_make_settle(table, /bs_settle(\&table->manager, /
+trace-is-not-ended-with-its-table	s/^  if (trace != NULL) bs_call_trace_end(trace);//
+trace-leaves-lines-in-its-ring	/^static void \*trace_write_on(/,/^}/s/^  trace_write_all(trace);//
+trace-hides-a-failure	s/trace->has_failed ? BS_NOT_WRITTEN : BS_DONE/BS_DONE/
+trace-does-not-count-what-fails	s/^  if (trace->has_failed) trace->dropped += trace->unwritten;//
+trace-gives-up-a-full-pipe	s/^    else if (written < 0 \&\& errno == EAGAIN) poll(.*//
+trace-begins-too-late	s/^  if (!trace_has_only_schema(manager)) return .*//
+trace-takes-records-for-schema	/^static bool trace_has_only_schema(/,/^}/s/kind.status != BS_DONE || kind.count == BS_RECORD/kind.status != BS_DONE/
+trace-reads-what-it-cannot-write	s/^  if (flags < 0 || (flags & O_ACCMODE) == O_RDONLY) return .*/  if (flags < 0) return bs_call_only(BS_BAD_NUMBER);/
+trace-finds-bounds-too-high	/^static uint64_t trace_lowest_key(/,/^}/s/>= place) high = key;/> place) high = key;/
+trace-is-begun-twice	/^bs_reply bs_table_trace(/,/^}/s/^  if (table->is_traced) return .*//
+trace-writes-long-lines	s/line->head.is_too_long || trace->length - start > TRACE_LONGEST/line->head.is_too_long/
+trace-keeps-its-memory	/^static void trace_free(/,/^}/s/^  free(trace->ring);//
 FAULTS
 }
 
@@ -284,6 +318,7 @@ FAULTS
 says() {
   local there=$1 program=$2 with=()
   [ "$program" = running ] || with+=("$there/burlapslate_running.c")
+  [ "$program" = traces ] || with+=("$there/burlapslate_trace.c")
   [ "$program" = crowd ] || with+=("-Wl,--wrap=malloc,--wrap=realloc,--wrap=free")
   # shellcheck disable=SC2086 # CC and FAULT_LINKS may have several words.
   ${CC:-cc} -std=c99 -D_POSIX_C_SOURCE=200809L -pthread -O1 -w -I"$top/include" -I"$there" -o "$there/$program" \
@@ -297,7 +332,7 @@ found() {
   mkdir -p "$there" && cp "$top"/c/*.[ch] "$there/" && sed -i "$2" "$there"/*.c || return 1
   ! diff -q "$top/c" "$there" -x out >/dev/null || { echo "faults.sh: $1 changes nothing"; return 1; }
   says "$there" shared 5 && says "$there" asks 5 100 && says "$there" waits 5 && says "$there" own_ends 5 && says "$there" running 5 &&
-    says "$there" crowd 4 4
+    says "$there" traces 5 && says "$there" crowd 4 4
   [ $? -eq 1 ] || { echo "faults.sh: $1 was not found"; return 1; }
   echo "$1: found: $(grep -E ': (hangs|not so|[a-z_]*: not so)' "$there/said" | tail -n 1 | sed 's/^[^ ]*\.[ch]:[0-9]*: //')"
 }

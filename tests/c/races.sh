@@ -18,6 +18,7 @@ read -r -a libraries <<<"${RACES_LIBS:-$("$top/tools/c_library.sh" | tr '\n' ' '
 compile() {
   local with=("${@:3}") compiler=${CC:-cc}
   [ "$2" = running ] || with+=("$top/c/burlapslate_running.c")
+  [ "$2" = traces ] || with+=("$top/c/burlapslate_trace.c")
   # shellcheck disable=SC2054 # The commas are of one word.
   [ "$2" = crowd ] || with+=(-Wl,--wrap=malloc,--wrap=realloc,--wrap=free)
   # shellcheck disable=SC2086 # CC may have words after the name.

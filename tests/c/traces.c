@@ -151,18 +151,37 @@ static bs_counts counts_by_now(void) {
   return counts;
 }
 
+/* Whether the trace has these lines one after the other, without what it says of itself. A `= ` is in place of the time
+ * of an answer and a notice. */
+static bool has_lines(const char *lines) {
+  static char line[TRACE_LINE], all[1 << 16];
+  size_t length = 0;
+  rewind(written);
+  while (fgets(line, sizeof line, written) != NULL && length + 2 * sizeof line < sizeof all) {
+    bool is_answer = begins_with(line, "# ") && is_digit(line[2]) && strchr(line, '.') != NULL;
+    if (line[0] == '#' && !is_answer) continue;
+    length += (size_t)sprintf(all + length, "%s%s", is_answer ? "= " : "", is_answer ? strchr(line + 2, ' ') + 1 : line);
+  }
+  return strstr(all, lines) != NULL;
+}
+
 /* A table with the store, which is traced. */
 static void begin_trace(uint32_t detect) {
   open_file();
   set_up(detect);
 }
 
-/* Ends the table, and so its trace. */
-static void end_trace(void) {
+/* Ends the table, and so its trace, which has these lines. */
+static void end_trace_with(const char *lines) {
   bs_counts counts = counts_by_now();
   close_table();
   says(&counts);
+  WANT(has_lines(lines));
   close_file();
+}
+
+static void end_trace(void) {
+  end_trace_with("");
 }
 
 /* ------------------------------------------------------------------------------------------------
@@ -181,9 +200,10 @@ static void waits_and_a_deadlock(void) {
   DONE(bs_table_abort(table, two, NULL));
   HEARD(&a, BS_DONE);
   ANSWERS(BS_NEED_PARENTS, bs_table_lock(table, begin(), low, BS_S, NULL)); /* refused: no line */
+  ANSWERS(BS_NO_SUCH_TXN, bs_table_commit(table, two, NULL));
   DONE(bs_table_unlock(table, one, high, &told));
   DONE(bs_table_commit(table, one, NULL));
-  end_trace();
+  end_trace_with("lock t0 X n11\n= wait\nlock t1 X n10\n= victim\nabort t1\n= ok\n= told t0 granted X n11\n");
 }
 
 /* A victim that waits, settled by a thread that watches, and one that is settled by its name. */
@@ -200,13 +220,16 @@ static void watched_deadlocks(void) {
   HEARD(&b, BS_VICTIM);
   DONE(bs_table_abort(table, two, NULL));
   HEARD(&a, BS_DONE);
+  DONE(bs_table_unlock(table, one, high, NULL));
   DONE(bs_table_watch_thread(table, 0));
   two = begin_writer();
+  DONE(bs_table_lock(table, two, high, BS_X, NULL));
   WAITS(ask(&b, two, low, BS_X));
-  DONE(bs_table_lock(table, one, root, BS_IX, NULL));
+  ask(&a, one, high, BS_X);
+  HEARD(&b, BS_VICTIM);
   DONE(bs_table_abort(table, two, NULL));
-  HEARD(&b, BS_NO_SUCH_TXN);
-  end_trace();
+  HEARD(&a, BS_DONE);
+  end_trace_with("= told t1 victim\nabort t1\n= ok\n= told t0 granted X n11\n");
 }
 
 /* Each lock of a path has its line, to write and to read, with one that waits above, and one for an instant. */
@@ -228,7 +251,12 @@ static void paths(void) {
   DONE(bs_table_commit(table, other, &told));
   HEARD(&h, BS_DONE);
   DONE(bs_table_commit(table, reader, NULL));
-  end_trace();
+  end_trace_with("lock t1 IX n1\n= ok IX\nlock t1 IX n2\n= wait\ncommit t0\n= ok\n= told t1 granted IX n2\n"
+                 "lock t1 IX n3\n= ok IX\nlock t1 IX n3.0\n= ok IX\nlock t1 X n10\n= ok X\n"
+                 "lock t2 IS n1\n= ok IS\nlock t2 IS n2\n= ok IS\nlock t2 S n11\n= ok S\n"
+                 "lock t2 IS n3\n= ok IS\nlock t2 IS n3.1\n= ok IS\nlock t2 S n10\n= wait\ncancel t2\n= ok\n"
+                 "lock t2 IX n1\n= ok IX\nlock t2 IX n7\n= ok IX\nlock t2 X n7.0\n= ok X\nunlock t2 n7.0\n= ok\n"
+                 "lock t2 S n10\n= wait\ncommit t1\n= ok\n= told t2 granted S n10\nunlock t2 n10\n= ok\n");
 }
 
 /* Tries of paths, which keep their way, or give it back. */
@@ -347,6 +375,12 @@ static void lists(void) {
   end_trace();
 }
 
+static void *begin_in_turn_again(void *arg) {
+  struct sleeper *s = (struct sleeper *)arg;
+  s->reply = bs_table_begin_again_in_turn(table, 1, NULL);
+  return NULL;
+}
+
 /* More threads than slots: each begins in its turn, within the call that frees a slot, before the list continues. */
 static void begins_in_turn(void) {
   struct sleeper s[2];
@@ -359,7 +393,7 @@ static void begins_in_turn(void) {
   for (i = 0; i < 4; i++) txns[i] = begin();
   for (i = 0; i < 2; i++) {
     s[i] = sleeper_of(BY_BEGIN, txns[0], root, BS_NL);
-    start(&s[i].thread, fall_asleep, &s[i]);
+    start(&s[i].thread, i == 0 ? fall_asleep : begin_in_turn_again, &s[i]);
     await_sleepers(i + 1);
   }
   list[0] = bs_do(BS_DO_COMMIT, txns[3]);
@@ -368,7 +402,7 @@ static void begins_in_turn(void) {
   WANT(bs_table_run(table, list, 3) == 3);
   for (i = 0; i < 2; i++) WANT(BACK(&s[i], BS_DONE).txn.age == 5 + i);
   WANT(s[0].reply.txn.slot == 3 && s[1].reply.txn.slot == 1);
-  end_trace();
+  end_trace_with("commit t3\n= ok\nbegin t3\n= ok\ninner n1\n= ok\nabort t1\n= ok\nbegin t1 again 1\n= ok\n");
 }
 
 /* What was told and written is what the calls answered: threads jostle for a few nodes. */
@@ -473,18 +507,38 @@ static bool is_ring_empty(void) {
   return __atomic_load_n(&trace->tail, __ATOMIC_ACQUIRE) == __atomic_load_n(&trace->head, __ATOMIC_ACQUIRE);
 }
 
+static uint64_t notices_heard;
+
+static void count_notice(void *context, bs_txn txn, bs_reply end, void *word) {
+  (void)context, (void)txn, (void)end, (void)word;
+  notices_heard++;
+}
+
+/* A wait that is granted: six answers and a notice. */
+static void wait_once(bs_node node) {
+  bs_txn one = begin(), two = begin();
+  DONE(bs_table_lock(table, one, node, BS_X, NULL));
+  WAITS(bs_table_ask(table, two, node, BS_X, NULL, NULL));
+  DONE(bs_table_commit(table, one, NULL));
+  DONE(bs_table_commit(table, two, NULL));
+}
+
 /* Nobody reads for a while: no call waits, and what was dropped is counted. */
 static void a_slow_reader_loses_lines(void) {
-  uint64_t lines = 1, lost;
+  uint64_t lines = 2, lost;
   pthread_t thread;
   struct said said;
   int ends[2];
   size_t i;
   WANT(pipe(ends) == 0);
   DONE(bs_table_make(&table, NULL));
+  DONE(bs_table_on_end(table, count_notice, NULL));
   DONE(bs_table_trace(table, ends[1]));
   WANT(close(ends[1]) == 0);
+  root = add_root();
   for (i = 0; i < 120000; i++, lines += 2) DONE(bs_table_commit(table, begin(), NULL));
+  for (i = 0; i < 10; i++, lines += 7) wait_once(root);
+  WANT(notices_heard == 10);
   start(&thread, drain, &ends[0]);
   while (!is_ring_empty()) nap();
   for (i = 0; i < 1000; i++, lines += 2) DONE(bs_table_commit(table, begin(), NULL));
