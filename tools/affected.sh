@@ -38,7 +38,7 @@ if has gltool || has glpicture || touches '^(glpicture|tests/pictures|docs/pictu
   echo "tests/pictures/run.sh"
 fi
 if has gl_c || touches '^(c|include|tests/c|tools/(c_library|install|package)|packaging)/?'; then
-  echo "tools/c_library.sh && for each in run plus install package metrics probes; do tests/c/\$each.sh; done && tests/c/races.sh short"
+  echo "tools/c_library.sh && for each in run plus install package metrics probes traces; do tests/c/\$each.sh; done && tests/c/races.sh short"
   echo "for each in engine guide cluster; do examples/\$each/run.sh; done"
 fi
 ! touches '^c/' || echo "tests/c/faults.sh all"

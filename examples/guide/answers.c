@@ -26,7 +26,7 @@ static enum action what_to_do(bs_status status) {
     case BS_WOULD_BLOCK: return DO_WITHOUT;
     case BS_NEED_RELEASE: return DO_WITHOUT; /* Without the renewal: commit, and begin. */
     case BS_RECORD_IN_USE: return ASK_LATER;
-    case BS_NOT_WRITTEN: return ASK_LATER; /* The metrics are not whole. */
+    case BS_NOT_WRITTEN: return ASK_LATER; /* The metrics are not whole, or a trace is not. */
     case BS_VICTIM: case BS_TXN_CONDEMNED: case BS_NO_MEMORY: case BS_TIMED_OUT: return ROLL_BACK;
     case BS_NO_SUCH_TXN: return LEAVE;
     case BS_TOO_MANY_TXNS: case BS_TOO_MANY_NODES: case BS_TOO_MANY_WATCHERS: return MAKE_ROOM;
@@ -37,6 +37,7 @@ static enum action what_to_do(bs_status status) {
     case BS_CYCLE: case BS_NULL_POINTER: case BS_NO_MANAGER: case BS_BAD_NUMBER: case BS_IN_USE: return MEND;
     case BS_NO_WATCHER: case BS_ROWS_BY_NUMBER: case BS_NOT_ROWS: return MEND;
     case BS_OTHER_SLOTS: case BS_OTHER_VERSION: return MEND;
+    case BS_TOO_LATE: case BS_NO_TRACE: return MEND; /* A trace begins before the first transaction. */
     case BS_NAME_TAKEN: case BS_BAD_LINE: return MEND; /* Not answered to C. */
   }
   return MEND;

@@ -127,6 +127,7 @@ _lock_row = _call("bs_table_lock_row", _T, _Txn, Node, c.c_uint64, _NUMBERS, c.c
 _try_row = _call("bs_table_try_row", _T, _Txn, Node, c.c_uint64, _NUMBERS, c.c_size_t, c.c_uint32)
 _unlock_row = _call("bs_table_unlock_row", _T, _Txn, Node, c.c_uint64, c.c_void_p)
 _watch_thread = _call("bs_table_watch_thread", _T, c.c_uint64)
+_trace, _trace_end = _call("bs_table_trace", _T, c.c_int), _call("bs_table_trace_end", _T)
 _let_go = _call("bs_table_let_go", _T)
 _library.bs_table_hold.restype, _library.bs_table_hold.argtypes = _T, [_T]
 _held, _group = _call("bs_held", _T, _Txn, Node), _call("bs_group", _T, Node)
@@ -252,6 +253,15 @@ class Table:
     def watch(self, pace=0.001):
         """Starts the thread that ends deadlocks of a table made with BY_WATCHER; it rests so many seconds each time."""
         _done(_watch_thread(self._at, int(pace * 1_000_000_000)))
+
+    def trace(self, file):
+        """Writes each command from now on as a line of a script, with its answer and the notices in comments, into a
+        file with a descriptor, which may then be closed. `gltool` plays it. Only before the first transaction."""
+        _done(_trace(self._at, file.fileno()))
+
+    def end_trace(self):
+        """Ends the trace, after all its lines are written. Answers how many were dropped."""
+        return _done(_trace_end(self._at)).count
 
     def group(self, node):
         """The supremum of the modes that are granted on a node."""

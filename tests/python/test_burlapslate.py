@@ -1,6 +1,7 @@
 """Tests of the module for Python: each call once, waits in two threads, and deadlocks."""
 import signal
 import sys
+import tempfile
 import threading
 import time
 import unittest
@@ -224,6 +225,18 @@ class Tables(unittest.TestCase):
         two.abort()
         self.assertEqual(waiter.ended().answer, bs.X)
         one.commit()
+
+    def test_a_trace_is_a_script(self):
+        with bs.Table() as table, tempfile.TemporaryFile("w+") as file:
+            db = table.add_inner()
+            table.trace(file)
+            with table.begin() as txn:
+                txn.lock(db, bs.X)
+            self.assertEqual(table.end_trace(), 0)
+            self.assertRaises(bs.Refused, table.end_trace)
+            file.seek(0)
+            lines = [line for line in file.read().splitlines() if not line.startswith("#")]
+        self.assertEqual(lines, ["granular 2", "inner n1", "begin t0", "lock t0 X n1", "commit t0"])
 
     def test_a_watching_thread_ends_deadlocks(self):
         with bs.Table(detect=bs.BY_WATCHER) as table:

@@ -30,7 +30,8 @@
 //! granted, and which is aborted if it is dropped without a commit. If there are more threads than slots
 //! they [begin in turn](Table::begin_in_turn). A task of a runtime awaits its locks, and no thread sleeps
 //! ([`Session::lock_async`]). A [`Watcher`] reads who waits for whom without the mutex. A table says how long waits last and
-//! where ([`Table::waits`], [`Table::awaited`], [`Table::metrics`]), and tells of long ones ([`Table::on_long_wait`]).
+//! where ([`Table::waits`], [`Table::awaited`], [`Table::metrics`]), and tells of long ones ([`Table::on_long_wait`]). What it
+//! does can be written as a script ([`Table::trace`]).
 //!
 //! ```
 //! use burlapslate::{Detect, Mode, Node, Stop, Table, SLOTS};

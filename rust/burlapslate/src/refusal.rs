@@ -70,8 +70,14 @@ pub enum Refusal {
     /// ([`Table::with`](crate::Table::with)); or any call of the table that the thread holds.
     InUse,
     /// More than 8 parents, or a manager for none or more than [`SLOTS`](crate::SLOTS) transactions. It
-    /// is answered before all other refusals.
+    /// is answered before all other refusals. Or a file that cannot be written to.
     BadNumber,
+    /// A transaction has begun in the table, or a record was made: it cannot be traced any more.
+    TooLate,
+    /// The table has no trace.
+    NoTrace,
+    /// A trace could not be written to its end.
+    NotWritten,
 }
 
 impl Refusal {
@@ -105,6 +111,9 @@ impl Refusal {
             sys::NOT_ROWS => Refusal::NotRows,
             sys::IN_USE => Refusal::InUse,
             sys::BAD_NUMBER => Refusal::BadNumber,
+            sys::TOO_LATE => Refusal::TooLate,
+            sys::NO_TRACE => Refusal::NoTrace,
+            sys::NOT_WRITTEN => Refusal::NotWritten,
             // Null pointers, places without a manager and the like cannot come from these types.
             status => unreachable!("the library answered with status {status}"),
         }
@@ -140,6 +149,9 @@ impl Refusal {
             Refusal::TooManyWatchers => "TooManyWatchers",
             Refusal::InUse => "InUse",
             Refusal::BadNumber => "BadNumber",
+            Refusal::TooLate => "TooLate",
+            Refusal::NoTrace => "NoTrace",
+            Refusal::NotWritten => "NotWritten",
         }
     }
 }

@@ -63,6 +63,9 @@ pub(crate) const NO_PLACE: u32 = 68;
 pub(crate) const TOO_MANY_WATCHERS: u32 = 70;
 pub(crate) const ROWS_BY_NUMBER: u32 = 71;
 pub(crate) const NOT_ROWS: u32 = 72;
+pub(crate) const NOT_WRITTEN: u32 = 75;
+pub(crate) const TOO_LATE: u32 = 76;
+pub(crate) const NO_TRACE: u32 = 77;
 
 pub(crate) const ACTIVE: u64 = 1;
 pub(crate) const WAITS: u64 = 2;

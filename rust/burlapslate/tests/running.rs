@@ -360,3 +360,32 @@ fn metrics_are_whole_or_an_error() {
     };
     table.write_metrics(whole).unwrap();
 }
+
+#[test]
+fn a_trace_is_a_script() {
+    let path = std::env::temp_dir().join(format!("burlapslate-{}.script", std::process::id()));
+    let file = std::fs::File::create(&path).unwrap();
+    let (table, db) = table();
+    assert_eq!(table.end_trace(), Err(Refusal::NoTrace));
+    table.trace(&file).unwrap();
+    assert_eq!(table.trace(&file), Err(Refusal::InUse));
+    drop(file);
+    let mut writer = table.begin().unwrap();
+    writer.lock(db, Mode::X).unwrap();
+    writer.commit().unwrap();
+    assert_eq!(table.end_trace(), Ok(0));
+    let read = std::fs::File::open(&path).unwrap();
+    assert_eq!(table.trace(&read), Err(Refusal::TooLate));
+    let script = std::fs::read_to_string(&path).unwrap();
+    std::fs::remove_file(&path).unwrap();
+    let lines: Vec<_> = script.lines().filter(|it| !it.starts_with('#')).collect();
+    let wanted = ["granular 2", "inner n1", "begin t0", "lock t0 X n1", "commit t0"];
+    assert_eq!(lines, wanted);
+    assert!(script.ends_with("\n# The trace has ended: 0 lines were dropped\n"));
+
+    let (table, _) = self::table();
+    assert_eq!(table.trace(&read), Err(Refusal::BadNumber));
+    let full = std::fs::OpenOptions::new().write(true).open("/dev/full").unwrap();
+    table.trace(&full).unwrap();
+    assert_eq!(table.end_trace(), Err(Refusal::NotWritten));
+}

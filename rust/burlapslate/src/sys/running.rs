@@ -9,6 +9,7 @@ use crate::SLOTS;
 use std::any::Any;
 use std::cell::UnsafeCell;
 use std::ffi::c_void;
+use std::os::fd::RawFd;
 use std::panic::{catch_unwind, resume_unwind, AssertUnwindSafe};
 use std::ptr::NonNull;
 use std::slice::from_raw_parts;
@@ -109,6 +110,8 @@ unsafe extern "C" {
         context: *const c_void,
     ) -> Reply;
     fn bs_table_metrics(table: &Shared, write: Write, context: *mut c_void) -> Reply;
+    pub(crate) safe fn bs_table_trace(table: &Shared, file: RawFd) -> Reply;
+    pub(crate) safe fn bs_table_trace_end(table: &Shared) -> Reply;
 
     safe fn bs_call_running(manager: &Place) -> Option<NonNull<Running>>;
     fn bs_call_waits_since(running: NonNull<Running>, slot: u32, since: &mut u64) -> bool;

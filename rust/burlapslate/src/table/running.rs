@@ -9,6 +9,7 @@ use crate::refusal::{accepted, Refusal};
 use crate::sys::running::{self, Told as Heard, BUCKETS, ENDS};
 use crate::sys::{self, Reply, DONE, WAITS};
 use std::io;
+use std::os::fd::{AsFd, AsRawFd};
 use std::sync::Arc;
 use std::time::Duration;
 
@@ -352,6 +353,28 @@ impl Table {
         let reply = running::metrics(&self.call(), &mut take);
         assert!(reply.status != sys::IN_USE, "this thread holds the table");
         end
+    }
+
+    /// Begins a trace: writes each command that the table accepts as a line of a script, and in comments after it its
+    /// answer and the notices, with their times. `gltool` plays the script and answers the same; the trace says with which
+    /// words. The table has its own copy of the file's descriptor. A thread of the table's own writes; if it is late by
+    /// more than eight megabytes, lines are dropped, and a comment says how many. The trace cannot be played beyond these.
+    ///
+    /// Refused with [`InUse`](Refusal::InUse) also if the table has a trace, with [`TooLate`](Refusal::TooLate) if a
+    /// transaction has begun in it or a record was made, with [`BadNumber`](Refusal::BadNumber) if the file cannot be written
+    /// to, and with [`NoMemory`](Refusal::NoMemory) also if no thread can be started.
+    pub fn trace(&self, file: impl AsFd) -> Result<(), Refusal> {
+        let file = file.as_fd().as_raw_fd();
+        accepted(running::bs_table_trace(&self.call(), file)).map(drop)
+    }
+
+    /// Ends the trace, after all its lines are written. Answers how many lines were dropped. A table that is dropped ends its
+    /// trace too.
+    ///
+    /// Refused with [`InUse`](Refusal::InUse) and [`NoTrace`](Refusal::NoTrace). [`NotWritten`](Refusal::NotWritten): the
+    /// trace has ended, but a write has failed.
+    pub fn end_trace(&self) -> Result<u64, Refusal> {
+        accepted(running::bs_table_trace_end(&self.call())).map(|reply| reply.count)
     }
 }
 
