@@ -3,7 +3,7 @@
  * longest, the thread that tells of long waits and deadlocks, and the metrics. Nothing here is proved.
  *
  * burlapslate_shared.c tells of each wait as it begins and as it ends (burlapslate_inside.h): running_end is the one
- * place where a wait ends, so that what records waits, as a trace, has its place there and in bs_call_wait_began.
+ * place where a wait ends.
  */
 #include "burlapslate_inside.h"
 
@@ -12,15 +12,15 @@
 #include <stdlib.h>
 
 /* Probes, if the header is there. Each has the table, then slot, age, node (key and birth) and mode of the waiter; at
- * an end also the nanoseconds of the wait. */
+ * an end also the nanoseconds of the wait, before the mode, since bpftrace reads only six arguments. */
 #if defined(__has_include)
 #if __has_include(<sys/sdt.h>)
 #include <sys/sdt.h>
 #define RUNNING_PROBE_BEGIN(running, txn, node, mode) \
   DTRACE_PROBE6(burlapslate, wait, (running)->table, (txn).slot, (txn).age, (node).key, (node).birth, mode)
 #define RUNNING_PROBE_END(name, running, txn, node, mode, nanoseconds) \
-  DTRACE_PROBE7(burlapslate, name, (running)->table, (txn).slot, (txn).age, (node).key, (node).birth, mode, \
-                nanoseconds)
+  DTRACE_PROBE7(burlapslate, name, (running)->table, (txn).slot, (txn).age, (node).key, (node).birth, nanoseconds, \
+                mode)
 #endif
 #endif
 #ifndef RUNNING_PROBE_BEGIN
