@@ -1,6 +1,6 @@
 /*
  * burlapslate_running.h: for whoever runs a table of locks: who waits, for whom, for how long, and how it was until
- * now; for C and C++.
+ * now, also as a script of all commands; for C and C++.
  *
  * A table times each wait by CLOCK_MONOTONIC, always: from the command that leaves a lock waiting to the command that
  * ends the wait, whatever its thread does meanwhile. A lock that does not wait reads no clock. A path or a row that
@@ -157,14 +157,15 @@ bs_reply bs_table_metrics(bs_table *table, bool (*write)(void *context, const ch
  * the same; the trace says with which words. `file` is a descriptor to write to. The table makes a copy of it, so the
  * caller may close it.
  *   - All commands are there, whoever made them: each lock of a path, the request of a row after its grant, the cancel
- *     of a wait whose time is over, the begin of a thread that slept for a slot. Nodes that were made before come first.
- *     Refused commands and questions are not there.
- *   - A thread of the table's own writes; it takes no signals. If it is late by more than eight megabytes, further lines
- *     are dropped until there is room, and a comment says how many. Only bs_table_trace_end and bs_table_end await it.
+ *     of a wait whose time is over, the begin of a thread that slept for a slot. Nodes that were made before come
+ *     first. Refused commands and questions are not there.
+ *   - A thread of the table's own writes; it takes no signals. If it is late by more than eight megabytes, further
+ *     lines are dropped until there is room, and a comment says how many. Only bs_table_trace_end and bs_table_end
+ *     await it.
  *   - A transaction is named t and its slot, a node n and its birth; an interval is its index and its place.
- *   - The trace cannot be played beyond dropped lines, an index whose bounds make a line of more than 256 bytes, or more
- *     than 128 transactions at once. A comment says so, and all later lines are comments too. gltool reads the first 16
- *     megabytes of a script.
+ *   - The trace cannot be played beyond dropped lines, an index whose bounds make a line of more than 256 bytes, or
+ *     more than 128 transactions at once. A comment says so, and all later lines are comments too. gltool reads the
+ *     first 16 megabytes of a script.
  * Each command of a traced table reads a clock and makes some look-ups. Refused with BS_IN_USE also if the table has a
  * trace; with BS_TOO_LATE if a transaction has begun in it or a record was made; with BS_BAD_NUMBER if the file cannot
  * be written to; and with BS_NO_MEMORY also if no thread can be started. Takes memory, some eight megabytes, and more
@@ -172,9 +173,9 @@ bs_reply bs_table_metrics(bs_table *table, bool (*write)(void *context, const ch
 bs_reply bs_table_trace(bs_table *table, int file);
 
 /* Ends the trace, after all lines are written; so it may sleep. `count` is how many lines were dropped, also because a
- * write has failed: after a first failure no more is written. bs_table_end ends a trace too. Refused with BS_NO_TRACE if
- * the table has none, and with BS_IN_USE as a call that may sleep. Answers BS_NOT_WRITTEN, with that count, if a write
- * has failed; the trace has ended then too. */
+ * write has failed: after a first failure no more is written. bs_table_end ends a trace too. Refused with BS_NO_TRACE
+ * if the table has none, and with BS_IN_USE as a call that may sleep. Answers BS_NOT_WRITTEN, with that count, if a
+ * write has failed; the trace has ended then too. */
 bs_reply bs_table_trace_end(bs_table *table);
 
 #ifdef __cplusplus

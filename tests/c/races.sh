@@ -1,11 +1,11 @@
 #!/usr/bin/env bash
 # races.sh [TOOL..]: runs the stories of a shared table, its asks, its waits and their times, and a small crowd under tools
-# that look for races: `tsan` (ThreadSanitizer, which sees what is compiled here: the table and the programs), `helgrind` and `drd`
-# (valgrind's, which see the library too); all three if none is named. `short` means all but the crowd, under the first of
-# them that is found, which takes seconds; if none is found, it ends with status 77, not tried. races.supp says what is no
-# race. Prints a line for each run. Ends with status 1 if one reports anything or a program fails; a tool that is not
-# found is skipped. RACES_LIBS names other archives than those of tools/c_library.sh, separated by a space. CC names
-# another compiler.
+# that look for races: `tsan` (ThreadSanitizer, which sees what is compiled here: the table and the programs), `helgrind`
+# and `drd` (valgrind's, which see the library too); all three if none is named. The first of them runs traces too, whose
+# atomic words the others do not know. `short` means all but the crowd, under the first of them that is found, which takes
+# seconds; if none is found, it ends with status 77, not tried. races.supp says what is no race. Prints a line for each
+# run. Ends with status 1 if one reports anything or a program fails; a tool that is not found is skipped. RACES_LIBS names
+# other archives than those of tools/c_library.sh, separated by a space. CC names another compiler.
 set -uo pipefail
 top=$(cd "$(dirname "$0")/../.." && pwd) || exit 2
 work=$(mktemp -d) || exit 2
@@ -53,10 +53,11 @@ for tool in "$@"; do
         compile asks-tsan asks -fsanitize=thread || exit 1
         quiet "tsan, the asks" "$work/asks-tsan" 60 60 || status=1
         compile waits-tsan waits -fsanitize=thread && compile own_ends-tsan own_ends -fsanitize=thread &&
-          compile running-tsan running -fsanitize=thread || exit 1
+          compile running-tsan running -fsanitize=thread && compile traces-tsan traces -fsanitize=thread || exit 1
         quiet "tsan, the waits" "$work/waits-tsan" 60 || status=1
         quiet "tsan, own ends" "$work/own_ends-tsan" 60 || status=1
         quiet "tsan, times" "$work/running-tsan" 60 || status=1
+        quiet "tsan, traces" "$work/traces-tsan" 60 || status=1
       elif command -v valgrind >/dev/null; then
         compile shared shared && compile asks asks && compile waits waits && compile own_ends own_ends &&
           compile running running || exit 1
@@ -74,7 +75,7 @@ for tool in "$@"; do
     tsan)
       if ! compile shared-tsan shared -fsanitize=thread || ! compile asks-tsan asks -fsanitize=thread ||
         ! compile waits-tsan waits -fsanitize=thread || ! compile own_ends-tsan own_ends -fsanitize=thread ||
-        ! compile running-tsan running -fsanitize=thread ||
+        ! compile running-tsan running -fsanitize=thread || ! compile traces-tsan traces -fsanitize=thread ||
         ! compile crowd-tsan crowd -fsanitize=thread; then
         echo "tsan: this compiler has none, so nothing was tried"
         continue
@@ -84,6 +85,7 @@ for tool in "$@"; do
       quiet "tsan, the waits" "$work/waits-tsan" 300 || status=1
       quiet "tsan, own ends" "$work/own_ends-tsan" 300 || status=1
       quiet "tsan, times" "$work/running-tsan" 300 || status=1
+      quiet "tsan, traces" "$work/traces-tsan" 300 || status=1
       quiet "tsan, the crowd" "$work/crowd-tsan" 4 300 || status=1
       ;;
     helgrind | drd)

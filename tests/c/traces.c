@@ -159,8 +159,9 @@ static bool has_lines(const char *lines) {
   rewind(written);
   while (fgets(line, sizeof line, written) != NULL && length + 2 * sizeof line < sizeof all) {
     bool is_answer = begins_with(line, "# ") && is_digit(line[2]) && strchr(line, '.') != NULL;
+    const char *text = is_answer ? strchr(line + 2, ' ') + 1 : line;
     if (line[0] == '#' && !is_answer) continue;
-    length += (size_t)sprintf(all + length, "%s%s", is_answer ? "= " : "", is_answer ? strchr(line + 2, ' ') + 1 : line);
+    length += (size_t)sprintf(all + length, "%s%s", is_answer ? "= " : "", text);
   }
   return strstr(all, lines) != NULL;
 }
@@ -246,8 +247,7 @@ static void paths(void) {
   DONE(bs_table_lock_path(table, reader, above, BS_IS, NULL));
   ANSWERS(BS_TIMED_OUT, bs_table_lock_path(table, reader, low, BS_S, &(struct timespec){ 1, 0 }));
   DONE(bs_table_lock_path(table, reader, rows_below, BS_X | BS_INSTANT, NULL));
-  WAITS(bs_table_ask(table, reader, low, BS_S | BS_INSTANT, NULL, begin_asking(&h, reader, NULL) == NULL ? &h : &h));
-  asking = NULL;
+  WAITS(ask(&h, reader, low, BS_S | BS_INSTANT));
   DONE(bs_table_commit(table, other, &told));
   HEARD(&h, BS_DONE);
   DONE(bs_table_commit(table, reader, NULL));
@@ -300,7 +300,8 @@ static void rows_come_and_go(void) {
   node = DONE(ASK(table, bs_row_node, rows, ROW + 1)).node;
   DONE(bs_table_unlock(table, one, node, NULL)); /* the row keeps its node */
   DONE(bs_table_try_row(table, two, rows, ROW + 1, &other_key, 1, BS_X)); /* and gets another */
-  WAITS(bs_table_ask_row(table, one, rows, ROW + 1, &key, 1, BS_S, NULL, begin_asking(&h, one, NULL) == NULL ? &h : &h));
+  begin_asking(&h, one, NULL);
+  WAITS(bs_table_ask_row(table, one, rows, ROW + 1, &key, 1, BS_S, NULL, &h));
   asking = NULL;
   DONE(bs_table_cancel(table, one, NULL));
   HEARD(&h, BS_NOT_WAITING);
@@ -419,13 +420,14 @@ static void *jostle(void *arg) {
     for (j = 0; j < 4 && last != BS_VICTIM; j++) {
       struct timespec until = moment_in(200);
       uint64_t key = roll(&dice, 2) * 150;
+      bs_node interval = key < 100 ? rows_below : rows_above;
       if (roll(&dice, 4) != 0) {
         bs_mode mode = roll(&dice, 2) == 0 ? BS_S : BS_X;
         last = bs_table_lock(table, txn, crowd_nodes[roll(&dice, CROWD_NODES)], mode, &until).status;
         continue;
       }
       last = bs_table_lock_path(table, txn, rows, BS_IX, &until).status;
-      if (last == BS_DONE) last = bs_table_lock_path(table, txn, key < 100 ? rows_below : rows_above, BS_IX, &until).status;
+      if (last == BS_DONE) last = bs_table_lock_path(table, txn, interval, BS_IX, &until).status;
       if (last == BS_DONE) last = bs_table_lock_row(table, txn, rows, roll(&dice, 3), &key, 1, BS_X, &until).status;
     }
     DONE(bs_table_abort(table, txn, NULL));
