@@ -12,7 +12,8 @@
  * which may be for an instant and is then released when it is granted. And so are asks, whose end comes by a
  * callback: table_go_on, at the end of each critical section that may have ended one, and table_tell, after it. All
  * else here makes calls of the library between these. burlapslate_running.c times the waits: table_register,
- * table_note_ended and table_time_out tell it of them.
+ * table_note_ended and table_time_out tell it of them. burlapslate_trace.c makes the commands of a traced table:
+ * table_make_* ask it.
  */
 #include "burlapslate_dump.h"
 #include "burlapslate_inside.h"

@@ -16,8 +16,8 @@
 #include <stdlib.h>
 #include <unistd.h>
 
-/* The ring has so many words; a text is written when it has so many bytes, or all lines, and nap is in nanoseconds. */
-enum { TRACE_WORDS = 1 << 20, TRACE_TEXT = 1 << 16, TRACE_NAP = 2000000 };
+/* The words of the ring, the bytes of the text, and the nanoseconds for which the thread waits for more lines. */
+enum { TRACE_WORDS = 1 << 20, TRACE_TEXT = 1 << 16, TRACE_NAP = 5000000 };
 
 /* A script has lines of so many bytes, and so many transactions at once. */
 enum { TRACE_LONGEST = 256, TRACE_TXNS = 128 };

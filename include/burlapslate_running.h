@@ -165,7 +165,7 @@ bs_reply bs_table_metrics(bs_table *table, bool (*write)(void *context, const ch
  *   - A transaction is named t and its slot, a node n and its birth; an interval is its index and its place.
  *   - The trace cannot be played beyond dropped lines, an index whose bounds make a line of more than 256 bytes, or
  *     more than 128 transactions at once. A comment says so, and all later lines are comments too. gltool reads the
- *     first 16 megabytes of a script.
+ *     first 16 megabytes of a script, and has at most 65,536 nodes.
  * Each command of a traced table reads a clock and makes some look-ups. Refused with BS_IN_USE also if the table has a
  * trace; with BS_TOO_LATE if a transaction has begun in it or a record was made; with BS_BAD_NUMBER if the file cannot
  * be written to; and with BS_NO_MEMORY also if no thread can be started. Takes memory, some eight megabytes, and more
