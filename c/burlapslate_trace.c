@@ -557,24 +557,26 @@ static bool trace_find_above(const bs_trace *trace, bs_txn txn, bs_node node, bs
   return !writes && has_parents;
 }
 
+/* Finds the lock that a path requests after these steps: that of the node, or an intention above it. */
+static trace_step trace_find_step(const bs_trace *trace, bs_txn txn, bs_node node, bs_mode mode, size_t steps) {
+  trace_step step = { node, mode, BS_NL, BS_NL };
+  bs_node above;
+  while (trace_find_above(trace, txn, step.node, step.mode, steps, &above)) {
+    step.node = above;
+    step.mode = trace_is_to_write(mode) ? BS_IX : BS_IS;
+  }
+  step.before = trace_held(trace, txn, step.node, steps);
+  step.after = trace_joined(step.before, step.mode);
+  return step;
+}
+
 /* Finds the locks of a path in their order, before it is locked; how many. */
 static size_t trace_find_steps(bs_trace *trace, bs_txn txn, bs_node node, bs_mode mode) {
   size_t count = 0;
-  bs_node at;
   do {
-    trace_step *step = &trace->steps[count];
-    bs_node above;
-    step->mode = mode;
-    at = node;
-    while (trace_find_above(trace, txn, at, step->mode, count, &above)) {
-      at = above;
-      step->mode = trace_is_to_write(mode) ? BS_IX : BS_IS;
-    }
-    step->node = at;
-    step->before = trace_held(trace, txn, at, count);
-    step->after = trace_joined(step->before, step->mode);
+    trace->steps[count] = trace_find_step(trace, txn, node, mode, count);
     count++;
-  } while (at.birth != node.birth && count < TRACE_STEPS);
+  } while (trace->steps[count - 1].node.birth != node.birth && count < TRACE_STEPS);
   return count;
 }
 
@@ -1065,23 +1067,24 @@ static void trace_say_indexes(bs_trace *trace, bs_node file) {
   }
 }
 
-/* Says the nodes that there are: each after its parents, and the indexes of a file in their order. */
+/* Says a node if it is an inner node or a file: intervals are said with their index. */
+static void trace_say_node(bs_trace *trace, bs_node node) {
+  uint64_t kind = bs_kind(trace->manager, node).count;
+  bool is_root = bs_parent(trace->manager, node, 0).status != BS_DONE;
+  trace_form form = kind == BS_FILE ? TRACE_FILE : is_root ? TRACE_ROOT : TRACE_INNER;
+  trace_line line = trace_line_of(form, trace_nobody, BS_NL);
+  if (kind != BS_FILE && kind != BS_INNER) return;
+  trace_add_name(trace, &line, node);
+  trace_say_made(trace, &line, node);
+}
+
+/* Says the nodes that there are, each after its parents, and then the indexes of each file in their order. */
 static void trace_say_schema(bs_trace *trace) {
   size_t place, count = (size_t)bs_len(trace->manager).count;
+  for (place = 0; place < count; place++) trace_say_node(trace, trace_node_made(place));
   for (place = 0; place < count; place++) {
     bs_node node = trace_node_made(place);
-    uint64_t kind = bs_kind(trace->manager, node).count;
-    bool is_root = bs_parent(trace->manager, node, 0).status != BS_DONE;
-    trace_form form = kind == BS_FILE ? TRACE_FILE : is_root ? TRACE_ROOT : TRACE_INNER;
-    trace_line line = trace_line_of(form, trace_nobody, BS_NL);
-    if (kind != BS_FILE && kind != BS_INNER) continue;
-    trace_add_name(trace, &line, node);
-    trace_say_made(trace, &line, node);
-  }
-  for (place = 0; place < count; place++) {
-    if (bs_kind(trace->manager, trace_node_made(place)).count == BS_FILE) {
-      trace_say_indexes(trace, trace_node_made(place));
-    }
+    if (bs_kind(trace->manager, node).count == BS_FILE) trace_say_indexes(trace, node);
   }
 }
 
