@@ -863,7 +863,8 @@ static TABLE_APART bs_reply table_lock_instantly(bs_table *table, bs_txn txn, bs
 }
 
 /* The same, of a mode as it was requested. */
-static TABLE_IN_LINE bs_reply table_lock_now(bs_table *table, bs_txn txn, bs_node node, bs_mode asked, bs_notices *told) {
+static TABLE_IN_LINE bs_reply table_lock_now(bs_table *table, bs_txn txn, bs_node node, bs_mode asked,
+                                             bs_notices *told) {
   if ((asked & BS_INSTANT) != 0) return table_lock_instantly(table, txn, node, asked, told);
   return table_lock_by(table, txn, node, asked, false, told);
 }
