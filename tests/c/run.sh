@@ -79,6 +79,7 @@ echo "what_is_lent_is_asked_alone"
 compile stories -Wl,--wrap=malloc,--wrap=realloc,--wrap=free || exit 1
 timeout 60 "$work/stories" || exit 1
 compile manager -Wl,--wrap=malloc,--wrap=realloc,--wrap=free && timeout 60 "$work/manager" || exit 1
+compile awaits && timeout 60 "$work/awaits" || exit 1
 compile schemas -Wl,--wrap=malloc,--wrap=realloc,--wrap=free || exit 1
 timeout 60 "$work/schemas" || exit 1
 compile twins || exit 1
