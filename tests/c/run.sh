@@ -58,7 +58,7 @@ done
 
 # The library allocates by malloc and realloc, frees by free, and exports only its own names.
 ! nm -u "${libraries[@]:0:2}" | grep -qw -e calloc -e aligned_alloc -e posix_memalign || fails "it has another allocator"
-! nm -g --defined-only "${libraries[0]}" | awk 'NF == 3 && $3 !~ /^bs_/' | grep -q . || fails "it shows other names"
+! nm -g --defined-only "${libraries[0]}" | awk 'NF == 3 && $3 !~ /^(bs_|_[.]stapsdt[.]base$)/' | grep -q . || fails "it shows other names"
 
 # lends CALL: whether a program compiles that makes this call with what a table lends.
 lends() {
