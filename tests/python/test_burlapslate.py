@@ -236,7 +236,7 @@ class Tables(unittest.TestCase):
             self.assertRaises(bs.Refused, table.end_trace)
             file.seek(0)
             lines = [line for line in file.read().splitlines() if not line.startswith("#")]
-        self.assertEqual(lines, ["granular 2", "inner n1", "begin t0", "lock t0 X n1", "commit t0"])
+        self.assertEqual(lines, ["granular 2", "inner n1", "begin t0", "try t0 X n1", "commit t0"])
 
     def test_a_watching_thread_ends_deadlocks(self):
         with bs.Table(detect=bs.BY_WATCHER) as table:
