@@ -41,11 +41,11 @@ plays() {
 
 compile traces -Wl,--wrap=malloc,--wrap=realloc,--wrap=free || exit 1
 compile crowd "$top/c/burlapslate_trace.c" || exit 1
-mkdir "$work/traces" || exit 1
-timeout 60 "$work/traces" 20 "$work/traces" >"$work/log" 2>&1 || { cat "$work/log" >&2; exit 1; }
-timeout 200 "$work/crowd" 4 20 "$work/traces" >"$work/log" 2>&1 || { cat "$work/log" >&2; exit 1; }
+mkdir "$work/written" || exit 1
+timeout 60 "$work/traces" 20 "$work/written" >"$work/log" 2>&1 || { cat "$work/log" >&2; exit 1; }
+timeout 200 "$work/crowd" 4 20 "$work/written" >"$work/log" 2>&1 || { cat "$work/log" >&2; exit 1; }
 status=0 count=0 lines=0
-for trace in "$work"/traces/*.script; do
+for trace in "$work"/written/*.script; do
   count=$((count + 1))
   lines=$((lines + $(says "$trace" | wc -l)))
   plays "$trace" && continue
@@ -53,7 +53,7 @@ for trace in "$work"/traces/*.script; do
   says "$trace" | diff - "$work/answers" | head -n 5 >&2
   status=1
 done
-sed 's/^\(# [0-9.]*\) told t0 granted X/\1 told t0 granted S/' "$work/traces/waits_and_a_deadlock.script" >"$work/changed"
+sed 's/^\(# [0-9.]*\) told t0 granted X/\1 told t0 granted S/' "$work/written/waits_and_a_deadlock.script" >"$work/changed"
 ! plays "$work/changed" || { echo "traces.sh: an answer that was changed is not found" >&2; status=1; }
 [ "$status" -eq 0 ] && echo "traces_are_played: $count with $lines answers"
 exit "$status"
