@@ -24,7 +24,7 @@ mapfile -t libraries < <("$top/tools/c_library.sh" 2>"$work/log")
 [ "${#libraries[@]}" -eq 3 ] || { cat "$work/log" >&2; exit 1; }
 # shellcheck disable=SC2086 # CC may have words after the name.
 $compiler -std=c99 -D_POSIX_C_SOURCE=200809L -pthread -O1 -I"$top/include" -I"$top/c" -o "$work/running" \
-  "$top/tests/c/running.c" "${libraries[@]:1}" -Wl,--wrap=malloc,--wrap=realloc,--wrap=free || exit 1
+  "$top/tests/c/running.c" "$top/c/burlapslate_trace.c" "${libraries[@]:1}" -Wl,--wrap=malloc,--wrap=realloc,--wrap=free || exit 1
 timeout 60 "$work/running" metrics >"$work/text" || exit 1
 "$python" "$top/tests/c/metrics.py" "$work/text" || exit 1
 # A text that is not whole is refused.
