@@ -1,22 +1,20 @@
--- A dropped file is no file of rows any more, and the law of names stays: no row of it has a node, since it has no record.
-use Rattle.std.specs.Prelude.{◌≡◌, Bool, true, false, not, ◌&&◌, ◌||◌, Option, Some, None}
+-- Commands by their nodes that touch no row. A dropped file is no file of rows any more, and no row of it has a node, since it has no record.
+use Rattle.std.specs.Prelude.{◌≡◌, false, not, ◌&&◌, ◌||◌, Some}
 use Rattle.std.specs.Map.{lookup}
-use Rattle.std.proofs.Common.{refl, sym, ap, ap₂, subst, ◌∙◌}
+use Rattle.std.proofs.Common.{refl, sym, ap, ap₂, ◌∙◌}
+use Rattle.std.proofs.Math.Bool.{and-false}
 use Rattle.gl_modes.proofs.NodeLemmas.{same_node-equal, same_node-refl}
 use Rattle.gl_modes.proofs.Words.{and_both, clash, no as never, not_true}
 use Rattle.gl_modes.specs.declared.node.NodeId.{NodeId}
 use Rattle.gl_modes.specs.Nodes.{same_node}
-use Rattle.gl_graph.specs.Graph.{Graph, first_parent, is_child, is_live, shape_of}
-use Rattle.gl_graph.specs.Lawful.{IsLawfulGraph}
-use Rattle.gl_graph.specs.Shapes.{is_record_shape}
+use Rattle.gl_graph.specs.Graph.{first_parent, is_child, is_live}
 use Rattle.gl_graph.proofs.Branch.{left_live, live}
-use Rattle.gl_graph.proofs.KindRules.{file_plain, plain_live}
-use Rattle.gl_graph.proofs.RecordParents.{its_file}
 use Rattle.gl_model.specs.Lawful.{IsLawful}
 use Rattle.gl_model.specs.State.{State}
 use Rattle.gl_model.specs.Tellings.{Told}
 use Rattle.gl_model.specs.declared.txn.TxnId.{TxnId}
 use Rattle.gl_steps.proofs.SchemaKeeps.{may_drop}
+use Rattle.gl_steps.proofs.StepBelow.{file_stands}
 use Rattle.gl_steps.proofs.StepsKeepLaw.{steps_keep_law}
 use Rattle.gl_steps.specs.declared.command.Answer.{Answer}
 use Rattle.gl_steps.specs.declared.command.Answer.TheVariants as answer
@@ -26,74 +24,58 @@ use Rattle.gl_steps.specs.Served.{accepts}
 use Rattle.gl_steps.specs.Step.{Step}
 use Rattle.gl_catalog.specs.Manager.{state_of}
 use Rattle.gl_rows.specs.Names.{NamesHold}
-use Rattle.gl_rows.specs.Rows.{RegistryView, RowsView, name_of, same_row}
-use Rattle.gl_rows.specs.Serving.{ForgetsFile, LeavesRows, dropped_by, touches_rows}
+use Rattle.gl_rows.specs.Rows.{RegistryView, RowsView, has_rows, name_of, same_row}
+use Rattle.gl_rows.specs.Serving.{LeavesRows, dropped_by, touches_rows}
 use Rattle.gl_rows.specs.declared.row.Row.{Row}
-use Rattle.gl_rows.proofs.Adopted.{accepted_of}
-use Rattle.gl_rows.proofs.Touched.{untouched_keeps}
-
--- rows keep their nodes
-pub left_names : (o : Option NodeId) (v v' : RowsView) → LeavesRows o v v' → v'.names ≡ v.names
-left_names None v v' same = ap (λ (x : RowsView). x.names) same
-left_names (Some n) v v' forgets = forgets.names
+use Rattle.gl_rows.proofs.Accepted.{accepted_of}
+use Rattle.gl_rows.proofs.GraphChanges.{touches}
+use Rattle.gl_rows.proofs.NameChanges.{ChangesNames, SameRecords, names_same, names_stay}
+use Rattle.gl_rows.proofs.Touched.{step_records}
 
 -- a command that is not accepted drops nothing
 pub unaccepted_leaves : (c : Command) (a : Answer) (v v' : RowsView) → accepts c a ≡ false → LeavesRows (dropped_by c a) v v' → v' ≡ v
 unaccepted_leaves (command.Drop t n) answer.Done v v' not_so forgets = absurd (never (sym not_so))
 unaccepted_leaves c a v v' not_so same = same
 
--- no record has a file that does not live
-module _ (v v' : RowsView) (n : NodeId) (forgets : ForgetsFile v n v') (g : Graph) (law : IsLawfulGraph g) (dead : is_live g n ≡ false)
-    (holds : NamesHold v g) where
-  named : (row : Row) (r : NodeId) → name_of v' row ≡ Some r → name_of v row ≡ Some r
-  named row r e = sym (ap (lookup (same_row row)) forgets.names) ∙ e
-
-  its_file_lives : (r : NodeId) → is_record_shape (shape_of g r) ≡ true → is_live g (first_parent g r) ≡ true
-  its_file_lives r rec = plain_live g (first_parent g r) (file_plain (shape_of g (first_parent g r)) (its_file g law r rec))
-
-  pub forgotten_hold : NamesHold v' g
-  forgotten_hold = record {
-    well = record {
-      stands = λ row r e. holds.well.stands row r (named row r e);
-      apart = λ p q r e f. holds.well.apart p q r (named p r e) (named q r f);
-    };
-    within = λ row r e.
-        let was = named row r e in
-        let stands = holds.well.stands row r was in
-        let other = not_true (same_node n row.file) (λ same.
-        clash (its_file_lives r stands.0) (ap (is_live g) (stands.1 ∙ sym (same_node-equal n row.file same)) ∙ dead)) in
-        forgets.files row.file ∙ ap₂ (λ a b. a && not b) (holds.within row r was) other;
-    all = λ r rec has.
-        let row = holds.all r rec (and_both _ _ (sym (forgets.files (first_parent g r)) ∙ has)).0 in
-        (row.0, ap (lookup (same_row row.0)) forgets.names ∙ row.1);
-  }
-
-module _ (v : RegistryView) (law : IsLawful (state_of v.manager)) (s' : State) where
+-- a command that touches no row
+module _ (v : RegistryView) (law : IsLawful (state_of v.manager)) (holds : NamesHold v.rows (state_of v.manager).graph) (s' : State) where
   abbrev s : State
   s = state_of v.manager
+
+  off_touches : (c : Command) → touches_rows v c ≡ false → touches (has_rows v.rows) s.graph c ≡ false
+  off_touches (command.Insert t f keys) off = off
+  off_touches (command.Adopt f keys) off = off
+  off_touches (command.Delete t r) off = off
+  off_touches (command.Forget r) off = off
+  off_touches c off = refl
 
   -- the dropped node does not live any more
   gone : (t : TxnId) (n : NodeId) (told : Told) → Step s (command.Drop t n) answer.Done told s' → is_live s'.graph n ≡ false
   gone t n told step =
-      let acc = accepted_of s (command.Drop t n) answer.Done told s' refl (λ r e. cc) step in
+      let acc = accepted_of s (command.Drop t n) answer.Done told s' refl refl step in
       let may = may_drop s t n acc.3 in
       ap (λ (x : State). is_live x.graph n) acc.2 ∙ ap (λ (x : State). is_live x.graph n) acc.1.2
       ∙ left_live s.graph n (live s.graph law.graph n may.movable may.free) n
-      ∙ ap (λ b. is_live s.graph n && not (b || is_child s.graph n n)) (same_node-refl n) ∙ nothing (is_live s.graph n)
-    where
-      nothing : (b : Bool) → (b && false) ≡ false
-      nothing true = refl
-      nothing false = refl
+      ∙ ap (λ b. is_live s.graph n && not (b || is_child s.graph n n)) (same_node-refl n) ∙ and-false (is_live s.graph n)
 
-  -- the law of names after a command that touches no row
-  pub left_hold : (c : Command) (a : Answer) (told : Told) (after : RowsView) → touches_rows v c ≡ false → Step s c a told s' → NamesHold v.rows s.graph
-      → LeavesRows (dropped_by c a) v.rows after → NamesHold after s'.graph
-  left_hold c a told after off step holds = by c a step (untouched_keeps v law s' c a told off step holds)
+  pub served_changes : (c : Command) (a : Answer) (told : Told) (after : RowsView) → touches_rows v c ≡ false → Step s c a told s'
+      → LeavesRows (dropped_by c a) v.rows after → ChangesNames v.rows after s.graph s'.graph
+  served_changes c a told after off step leaves = by c a step (step_records (has_rows v.rows) s s' c a told law (off_touches c off) step) leaves
     where
-      law' : IsLawful s'
-      law' = steps_keep_law s s' c a told law step
-
-      by : (c : Command) (a : Answer) → Step s c a told s' → NamesHold v.rows s'.graph → LeavesRows (dropped_by c a) v.rows after → NamesHold after s'.graph
-      by (command.Drop t n) answer.Done step' kept forgets =
-          forgotten_hold v.rows after n forgets s'.graph law'.graph (gone t n told step') kept
-      by c a step' kept same = subst (λ (x : RowsView). NamesHold x s'.graph) (sym same) kept
+      by : (c : Command) (a : Answer) → Step s c a told s' → SameRecords (has_rows v.rows) s.graph s'.graph → LeavesRows (dropped_by c a) v.rows after
+          → ChangesNames v.rows after s.graph s'.graph
+      by (command.Drop t n) answer.Done step' same forgets =
+          names_same v.rows after s.graph s'.graph holds (λ q. ap (lookup (same_row q)) forgets.names) same
+          (λ q r e. forgets.files q.file ∙ ap₂ (λ a b. a && not b) (holds.within q r e) (other q r e))
+          (λ r rec of. (and_both _ _ (sym (forgets.files (first_parent s'.graph r)) ∙ of)).0)
+        where
+          -- no row of it has a node
+          other : (q : Row) (r : NodeId) → name_of v.rows q ≡ Some r → same_node n q.file ≡ false
+          other q r e =
+              let stands = holds.well.stands q r e in
+              let is = same.on r stands.0 (ap (has_rows v.rows) stands.1 ∙ holds.within q r e) in
+              let law' = steps_keep_law s s' (command.Drop t n) answer.Done told law step' in
+              not_true (same_node n q.file) (λ e. clash (file_stands s'.graph law'.graph r is.rec)
+              (ap (is_live s'.graph) (is.file ∙ stands.1 ∙ sym (same_node-equal n q.file e)) ∙ gone t n told step'))
+      by c a step' same rows =
+          names_stay v.rows after s.graph s'.graph holds (ap (λ (x : RowsView). x.files) rows) (λ q. ap (λ (x : RowsView). name_of x q) rows) same

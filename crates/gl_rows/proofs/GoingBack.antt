@@ -1,9 +1,9 @@
 -- After a transaction rolls back to a savepoint: the nodes of rows, and the effective modes of others on rows. For Registry.release_since.
 use Rattle.std.specs.Prelude.{◌≡◌, ℕ, true, false, List, [], ◌∷◌, Result, Ok, Err, get_or, map}
-use Rattle.std.proofs.Common.{refl, sym, ap, subst, ◌∙◌}
+use Rattle.std.proofs.Common.{refl, sym, ap, ◌∙◌}
+use Rattle.std.proofs.Math.Bool.{or-false}
 use Rattle.gl_modes.specs.declared.node.NodeId.{NodeId}
 use Rattle.gl_modes.specs.declared.refusal.Refusal.{Refusal}
-use Rattle.gl_graph.specs.Graph.{Graph}
 use Rattle.gl_model.specs.declared.txn.TxnId.{TxnId}
 use Rattle.gl_model.specs.Lawful.{IsLawful}
 use Rattle.gl_model.specs.State.{State, lives}
@@ -12,23 +12,21 @@ use Rattle.gl_steps.specs.declared.command.Command.{Command}
 use Rattle.gl_steps.specs.declared.command.Command.TheVariants as command
 use Rattle.gl_steps.specs.Promises.{same_txn}
 use Rattle.gl_steps.specs.Step.{Run}
-use Rattle.gl_steps.proofs.KeptKinds.{KeepsKinds}
 use Rattle.gl_steps.proofs.StepsKeepLaw.{runs_keep_law}
 use Rattle.gl_catalog.specs.Manager.{ManagerView, state_of}
 use Rattle.gl_catalog.specs.Replies.{Says}
 use Rattle.gl_catalog.specs.Savepoints.{TakesBack}
 use Rattle.gl_catalog.proofs.GoingBack.{back_keeps_over}
-use Rattle.gl_rows.specs.Names.{NameWell, NamesHold, NamesHoldIn}
+use Rattle.gl_rows.specs.Names.{NamesHold}
 use Rattle.gl_rows.specs.Promises.{BacksKeepOnRows, is_granted}
-use Rattle.gl_rows.specs.Releasing.{GoesBackTo, LetsGoAsked}
-use Rattle.gl_rows.specs.Rows.{RowsView, has_rows, name_of}
-use Rattle.gl_rows.proofs.CarriedOut.{each_goes}
-use Rattle.gl_rows.proofs.KeptOnRows.{keeps_on_rows}
-use Rattle.gl_rows.proofs.NameChanges.{Fewer, KeepsNames, fewer_names, refiled}
-use Rattle.gl_rows.proofs.NamesKept.{each_fewer, each_keeps, refused_keeps, step_graph}
-use Rattle.gl_rows.proofs.NodeRows.{or_off}
+use Rattle.gl_rows.specs.Releasing.{GoesBackTo}
+use Rattle.gl_rows.specs.Rows.{RowsView}
+use Rattle.gl_rows.proofs.CarriedOut.{each_goes, unchanged}
+use Rattle.gl_rows.proofs.GraphChanges.{step_graph}
+use Rattle.gl_rows.proofs.LettingGo.{let_go_changes}
+use Rattle.gl_rows.proofs.NameChanges.{ChangesNames}
 use Rattle.gl_rows.proofs.RunsKeepIndexes.{same_keeps}
-use Rattle.gl_rows.proofs.Served.{Over, over_as, over_parents, over_same, over_then, over_upkeep, same_rows}
+use Rattle.gl_rows.proofs.Served.{Over, keeps_rows, over_as, over_same, over_then, over_upkeep}
 
 abbrev unlocks : TxnId → List NodeId → List Command
 unlocks t ns = map (λ n. command.Unlock t n) ns
@@ -55,45 +53,26 @@ module _ (m mid : ManagerView) (t : TxnId) (mark k : ℕ) (told : Told) (law : I
     indexes = same_keeps (state_of m).graph (state_of mid).graph back_graph;
   }
 
--- The law of names is kept.
-
-module _ (m m' : ManagerView) (v v' : RowsView) (law : IsLawful (state_of m)) (holds : NamesHold v (state_of m).graph) where
-  pub back_keeps : (t : TxnId) (mark : ℕ) (result : Result ℕ Refusal) (told : Told) → GoesBackTo t mark m v result told m' v'
-      → NamesHold v' (state_of m').graph
-  back_keeps t mark (Ok k) told h =
-      let mid = h.0 in
-      refiled v v' (name_of v') (state_of m').graph h.2.files
-      (each_keeps (has_rows v) (state_of mid) (state_of m') v.names v'.names (get_or v.asked t.slot []) (back_lawful m mid t mark k told law h.1)
-      (subst (NamesHoldIn (has_rows v) (name_of v)) (sym (back_graph m mid t mark k told law h.1)) holds) h.2.goes)
-  back_keeps t mark (Err r) told h = refused_keeps m m' v v' r (Err r) told h.1 holds
-
--- The effective modes of others on rows.
-
--- rows are then let go: a node that lives before and after has the same row
-back_stays : (m mid m' : ManagerView) (v v' : RowsView) (t : TxnId) (mark k : ℕ) (told : Told) → IsLawful (state_of m) → NamesHold v (state_of m).graph
-    → KeepsKinds (state_of m).graph (state_of m').graph → TakesBack t mark k m told mid → LetsGoAsked mid v t.slot m' v'
-    → KeepsNames (name_of v) (name_of v') (state_of m).graph (state_of m').graph
-back_stays m mid m' v v' t mark k told law holds kinds h goes =
-    let graph = back_graph m mid t mark k told law h in
-    fewer_names (name_of v) (name_of v') (state_of m).graph (state_of m').graph holds.well kinds
-    (subst (λ (x : Graph). Fewer (name_of v) (name_of v') x (state_of m').graph) graph
-    (each_fewer (state_of mid) (state_of m') v.names v'.names (get_or v.asked t.slot []) (back_lawful m mid t mark k told law h)
-    (subst (NameWell (name_of v)) (sym graph) holds.well) goes.goes))
+-- rows are then let go, or nothing has changed
+pub back_changes : (m m' : ManagerView) (v v' : RowsView) (t : TxnId) (mark : ℕ) (result : Result ℕ Refusal) (told : Told) → IsLawful (state_of m)
+    → NamesHold v (state_of m).graph → GoesBackTo t mark m v result told m' v' → ChangesNames v v' (state_of m).graph (state_of m').graph
+back_changes m m' v v' t mark (Ok k) told law holds h =
+    let_go_changes v v' (state_of m).graph (state_of h.0) (state_of m') (back_graph m h.0 t mark k told law h.1) (back_lawful m h.0 t mark k told law h.1) holds
+    h.2.files (get_or v.asked t.slot []) h.2.goes
+back_changes m m' v v' t mark (Err r) told law holds h = unchanged m m' v v' law holds told h.1.same_manager h.1.same_rows
 
 pub backs_keep_on_rows : BacksKeepOnRows
-backs_keep_on_rows v v' u mark (Ok k) told t is h alive apart =
-    let s = state_of v.manager in
-    let s' = state_of v'.manager in
-    let back = over_back v.manager h.0 u mark k told is.law h.1 t alive apart in
-    let after = over_upkeep (state_of h.0) s' t back.law (each_goes (state_of h.0) s' v.rows.names v'.rows.names _ h.2.goes) back.keeps.alive in
-    let over = over_as s s' t (or_off (is_granted t told)) (over_then s (state_of h.0) s' t (is_granted t told) false is.law back after) in
-    keeps_on_rows v v' t (is_granted t told) is
-    (record { law = over.law; names = back_keeps v.manager v'.manager v.rows v'.rows is.law is.names u mark (Ok k) told h }) over.keeps
-    (over_parents s s' t (is_granted t told) over)
-    (back_stays v.manager h.0 v'.manager v.rows v'.rows u mark k told is.law is.names over.keeps.kinds h.1 h.2)
-backs_keep_on_rows v v' u mark (Err r) told t is h alive apart =
-    let same : state_of v'.manager ≡ state_of v.manager = ap state_of h.1.same_manager in
-    same_rows v v' t (is_granted t told) is
-    (over_as (state_of v.manager) (state_of v'.manager) t (sym (ap (is_granted t) h.1.nobody_told))
-    (over_same (state_of v.manager) (state_of v'.manager) t is.law same alive))
-    (subst (λ (x : State). NamesHold v.rows x.graph) (sym same) is.names) h.1.same_rows
+backs_keep_on_rows v v' u mark result told t is h alive apart =
+    keeps_rows v v' t (is_granted t told) is (over result h) (back_changes v.manager v'.manager v.rows v'.rows u mark result told is.law is.names h)
+  where
+    over : (result : Result ℕ Refusal) → GoesBackTo u mark v.manager v.rows result told v'.manager v'.rows
+        → Over (state_of v.manager) (state_of v'.manager) t (is_granted t told)
+    over (Ok k) h =
+        let s = state_of v.manager in
+        let s' = state_of v'.manager in
+        let back = over_back v.manager h.0 u mark k told is.law h.1 t alive apart in
+        let after = over_upkeep (state_of h.0) s' t back.law (each_goes (state_of h.0) s' v.rows.names v'.rows.names _ h.2.goes) back.keeps.alive in
+        over_as s s' t (or-false (is_granted t told)) (over_then s (state_of h.0) s' t (is_granted t told) false is.law back after)
+    over (Err r) h =
+        over_as (state_of v.manager) (state_of v'.manager) t (sym (ap (is_granted t) h.1.nobody_told))
+        (over_same (state_of v.manager) (state_of v'.manager) t is.law (ap state_of h.1.same_manager) alive)

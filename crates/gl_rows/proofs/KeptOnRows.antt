@@ -2,7 +2,8 @@
 -- lives before and after has the same row. For the laws of rows.
 use Rattle.std.specs.Prelude.{◌≡◌, ◌⊎◌, ◌||◌, ℕ, Bool, true, false, not, List, Option, Some, None}
 use Rattle.std.proofs.Common.{refl, sym, ap, ap₂, ◌∙◌, inl, inr, rules}
-use Rattle.gl_modes.proofs.Words.{clash, no as never, none_some, not_true, some_is, split}
+use Rattle.std.proofs.Math.Bool.{or-false}
+use Rattle.gl_modes.proofs.Words.{cases_of, clash, no as never, none_some, not_true, some_is, split}
 use Rattle.gl_modes.specs.declared.mode.Mode.{Mode}
 use Rattle.gl_modes.specs.declared.mode.Mode.TheVariants.{NL}
 use Rattle.gl_modes.specs.declared.node.NodeId.{NodeId}
@@ -20,8 +21,8 @@ use Rattle.gl_rows.specs.declared.row.Row.{Row}
 use Rattle.gl_rows.specs.Promises.{IsOwnInBoth, IsRegistry, KeepsOnRows, OwnKeys, effect_of, effect_on, of_node, reads_row, row_effect, writes_row}
 use Rattle.gl_rows.specs.Rows.{RegistryView, name_of}
 use Rattle.gl_rows.proofs.KeptRows.{SameParents, row_more, row_same}
-use Rattle.gl_rows.proofs.NameChanges.{KeepsNames, record_live}
-use Rattle.gl_rows.proofs.NodeRows.{node_effect, or_off}
+use Rattle.gl_rows.proofs.NameChanges.{ChangesNames, changed_hold, record_live, was_named}
+use Rattle.gl_rows.proofs.NodeRows.{node_effect}
 use Rattle.gl_rows.proofs.RowEffects.{as_great, reads_at, writes_at}
 
 -- an effective mode that is at least another is what both give together
@@ -65,8 +66,8 @@ module _ (v : RegistryView) (is : IsRegistry v) (t : ℕ) (row : Row) (keys : Li
   -- for a row without a node it is that by locks further up
   on_none : name_of v.rows row ≡ None → effect_on v t row keys ≡ row_effect st t row.file keys
   on_none e =
-      ap effect_by e ∙ ap (λ w. effect_of w (reads_row st t row.file keys || false)) (or_off (writes_row st t row.file keys))
-      ∙ ap (effect_of (writes_row st t row.file keys)) (or_off (reads_row st t row.file keys))
+      ap effect_by e ∙ ap (λ w. effect_of w (reads_row st t row.file keys || false)) (or-false (writes_row st t row.file keys))
+      ∙ ap (effect_of (writes_row st t row.file keys)) (or-false (reads_row st t row.file keys))
 
   module _ (n : NodeId) (named : name_of v.rows row ≡ Some n) where
     -- for a row with a node it is that on the node
@@ -75,27 +76,36 @@ module _ (v : RegistryView) (is : IsRegistry v) (t : ℕ) (row : Row) (keys : Li
         ap effect_by named ∙ both_make (effective st t n) (writes_row st t row.file keys) (reads_row st t row.file keys)
         (node_effect v is.law is.names row keys own n named t).above
 
-    -- and if nothing is held on the node, that by locks further up
-    on_free : st.held t n ≡ NL → effect_on v t row keys ≡ row_effect st t row.file keys
-    on_free free = on_node ∙ (node_effect v is.law is.names row keys own n named t).alone free
+  -- if nothing is held on its node, it is that by locks further up, and never less
+  on_row : ((n : NodeId) → name_of v.rows row ≡ Some n → st.held t n ≡ NL) → effect_on v t row keys ≡ row_effect st t row.file keys
+  on_row free = cases_of (name_of v.rows row) on_none (λ n e. on_node n e ∙ (node_effect v is.law is.names row keys own n e t).alone (free n e))
 
-    -- that by locks further up is never greater
-    on_above : is_at_least_effect (effect_on v t row keys) (row_effect st t row.file keys) ≡ true
-    on_above =
-        ap (λ e. is_at_least_effect e (row_effect st t row.file keys)) on_node ∙ (node_effect v is.law is.names row keys own n named t).above
-
-    named_lives : is_live st.graph n ≡ true
-    named_lives = record_live st.graph n (is.names.well.stands row n named).0
+  above_row : is_at_least_effect (effect_on v t row keys) (row_effect st t row.file keys) ≡ true
+  above_row = cases_of (name_of v.rows row)
+      (λ e. ap (λ x. is_at_least_effect x (row_effect st t row.file keys)) (on_none e) ∙ effect_refl (row_effect st t row.file keys))
+      (λ n e. ap (λ x. is_at_least_effect x (row_effect st t row.file keys)) (on_node n e) ∙ (node_effect v is.law is.names row keys own n e t).above)
 
 -- two registries: t keeps its locks and its effective modes on nodes that remain, a row its parents, and a node that lives before and after its row
-module _ (v v' : RegistryView) (t : TxnId) (granted : Bool) (is : IsRegistry v) (is' : IsRegistry v')
+module _ (v v' : RegistryView) (t : TxnId) (granted : Bool) (is : IsRegistry v) (law' : IsLawful (state_of v'.manager))
     (over : KeepsOver (state_of v.manager) (state_of v'.manager) t granted) (parents : (f : NodeId) → SameParents (state_of v.manager) (state_of v'.manager) f)
-    (names : KeepsNames (name_of v.rows) (name_of v'.rows) (state_of v.manager).graph (state_of v'.manager).graph) where
+    (names : ChangesNames v.rows v'.rows (state_of v.manager).graph (state_of v'.manager).graph) where
   abbrev s : State
   s = state_of v.manager
 
   abbrev s' : State
   s' = state_of v'.manager
+
+  is' : IsRegistry v'
+  is' = record { law = law'; names = changed_hold v.rows v'.rows s.graph s'.graph names is.names }
+
+  -- a node that lived before had the same row, and one that remains has
+  was_row : (row : Row) (n : NodeId) → name_of v'.rows row ≡ Some n → is_live s.graph n ≡ true → name_of v.rows row ≡ Some n
+  was_row row n e live = was_named v.rows v'.rows s.graph s'.graph names row n e live
+
+  still_row : (row : Row) (n : NodeId) → name_of v.rows row ≡ Some n → is_live s'.graph n ≡ true → name_of v'.rows row ≡ Some n
+  still_row row n e live =
+      let rec = (is.names.well.stands row n e).0 in
+      names.left row n e ((over.kinds n (record_live s.graph n rec) live).record_same ∙ rec)
 
   module _ (row : Row) (keys : List ℕ) (own : IsOwnInBoth v v' row keys) where
     abbrev on_v : Effect
@@ -112,83 +122,44 @@ module _ (v v' : RegistryView) (t : TxnId) (granted : Bool) (is : IsRegistry v) 
 
     -- the row's node lives
     lives_before : (n : NodeId) → name_of v.rows row ≡ Some n → is_live s.graph n ≡ true
-    lives_before n e = named_lives v is t.slot row keys own.own n e
+    lives_before n e = record_live s.graph n (is.names.well.stands row n e).0
 
     lives_behind : (n : NodeId) → name_of v'.rows row ≡ Some n → is_live s'.graph n ≡ true
-    lives_behind n e = named_lives v' is' t.slot row keys own.still_own n e
+    lives_behind n e = record_live s'.graph n (is'.names.well.stands row n e).0
 
-    -- the row has one node in both
-    record Stands : Type 0 where
-      node : NodeId
-      before : name_of v.rows row ≡ Some node
-      behind : name_of v'.rows row ≡ Some node
+    -- the node that the row had is removed, and the one that it has is new
+    abbrev Went : Type 0
+    Went = (n : NodeId) → name_of v.rows row ≡ Some n → is_live s'.graph n ≡ false
 
-    -- or the node that it had was removed, and the one that it has is new
-    record Changes : Type 0 where
-      went : (n : NodeId) → name_of v.rows row ≡ Some n → is_live s'.graph n ≡ false
-      came : (n : NodeId) → name_of v'.rows row ≡ Some n → is_live s.graph n ≡ false
+    abbrev Came : Type 0
+    Came = (n : NodeId) → name_of v'.rows row ≡ Some n → is_live s.graph n ≡ false
 
-    found : Stands ⊎ Changes
-    found = by (name_of v.rows row) refl
-      where
-        by : (o : Option NodeId) → name_of v.rows row ≡ o → Stands ⊎ Changes
-        by None e = inr (record {
-          went = λ n f. absurd (none_some (sym e ∙ f));
-          came = λ n f. not_true (is_live s.graph n) (λ live. none_some (sym e ∙ names.back row n f live));
-        })
-        by (Some n) e = split (is_live s'.graph n)
-            (λ live. inl (record { node = n; before = e; behind = names.on row n e live }))
-            (λ dead. inr (record {
-              went = λ k f. ap (is_live s'.graph) (some_is (sym f ∙ e)) ∙ dead;
-              came = λ k f. not_true (is_live s.graph k)
-                  (λ live. clash (lives_behind k f)
-                  (ap (is_live s'.graph) (some_is (sym (names.back row k f live) ∙ e)) ∙ dead));
-            }))
+    -- so it is, or the row has one node in both
+    found : {C : Type 0} → ((n : NodeId) → name_of v.rows row ≡ Some n → name_of v'.rows row ≡ Some n → C) → (Went → Came → C) → C
+    found stands changes = cases_of (name_of v.rows row)
+        (λ e. changes (λ n f. absurd (none_some (sym e ∙ f))) (λ n f. not_true (is_live s.graph n) (λ live. none_some (sym e ∙ was_row row n f live))))
+        (λ n e. split (is_live s'.graph n) (λ live. stands n e (still_row row n e live))
+        (λ dead. changes (λ k f. ap (is_live s'.graph) (some_is (sym f ∙ e)) ∙ dead)
+        (λ k f. not_true (is_live s.graph k)
+        (λ live. clash (lives_behind k f) (ap (is_live s'.graph) (some_is (sym (was_row row k f live) ∙ e)) ∙ dead)))))
 
-    before_row : Changes → on_v ≡ by_s
-    before_row c = by (name_of v.rows row) refl
-      where
-        by : (o : Option NodeId) → name_of v.rows row ≡ o → on_v ≡ by_s
-        by None e = on_none v is t.slot row keys own.own e
-        by (Some n) e =
-            on_free v is t.slot row keys own.own n e
-            (none_less (s'.held t.slot n) (s.held t.slot n) (over.held_more n) (held_dead s' is'.law t.slot n (c.went n e)))
-
-    behind_row : granted ≡ false → Changes → on_v' ≡ by_s'
-    behind_row quiet c = by (name_of v'.rows row) refl
-      where
-        by : (o : Option NodeId) → name_of v'.rows row ≡ o → on_v' ≡ by_s'
-        by None e = on_none v' is' t.slot row keys own.still_own e
-        by (Some n) e =
-            on_free v' is' t.slot row keys own.still_own n e (over.held_same quiet n ∙ held_dead s is.law t.slot n (c.came n e))
-
-    behind_more : is_at_least_effect on_v' by_s' ≡ true
-    behind_more = by (name_of v'.rows row) refl
-      where
-        by : (o : Option NodeId) → name_of v'.rows row ≡ o → is_at_least_effect on_v' by_s' ≡ true
-        by None e = ap (λ x. is_at_least_effect x by_s') (on_none v' is' t.slot row keys own.still_own e) ∙ effect_refl by_s'
-        by (Some n) e = on_above v' is' t.slot row keys own.still_own n e
+    before_row : Went → on_v ≡ by_s
+    before_row went = on_row v is t.slot row keys own.own
+        (λ n e. none_less (s'.held t.slot n) (s.held t.slot n) (over.held_more n) (held_dead s' law' t.slot n (went n e)))
 
     same_on : granted ≡ false → on_v' ≡ on_v
-    same_on quiet = by found
-      where
-        by : Stands ⊎ Changes → on_v' ≡ on_v
-        by (inl k) =
-            on_node v' is' t.slot row keys own.still_own k.node k.behind
-            ∙ over.same quiet k.node (lives_before k.node k.before) (lives_behind k.node k.behind)
-            ∙ sym (on_node v is t.slot row keys own.own k.node k.before)
-        by (inr c) = behind_row quiet c ∙ row_same s s' is.law is'.law row.file (parents row.file) keys own.rows t.slot (over.same quiet) ∙ sym (before_row c)
+    same_on quiet = found
+        (λ n e e'. on_node v' is' t.slot row keys own.still_own n e' ∙ over.same quiet n (lives_before n e) (lives_behind n e')
+        ∙ sym (on_node v is t.slot row keys own.own n e))
+        (λ went came. on_row v' is' t.slot row keys own.still_own (λ n e. over.held_same quiet n ∙ held_dead s is.law t.slot n (came n e))
+        ∙ row_same s s' is.law law' row.file (parents row.file) keys own.rows t.slot (over.same quiet) ∙ sym (before_row went))
 
     more_on : is_at_least_effect on_v' on_v ≡ true
-    more_on = by found
-      where
-        by : Stands ⊎ Changes → is_at_least_effect on_v' on_v ≡ true
-        by (inl k) =
-            ap₂ is_at_least_effect (on_node v' is' t.slot row keys own.still_own k.node k.behind) (on_node v is t.slot row keys own.own k.node k.before)
-            ∙ over.greater k.node (lives_before k.node k.before) (lives_behind k.node k.behind)
-        by (inr c) =
-            as_great on_v' by_s' on_v behind_more
-            (ap (is_at_least_effect by_s') (before_row c) ∙ row_more s s' is.law is'.law row.file (parents row.file) keys own.rows t.slot over.greater)
+    more_on = found
+        (λ n e e'. ap₂ is_at_least_effect (on_node v' is' t.slot row keys own.still_own n e') (on_node v is t.slot row keys own.own n e)
+        ∙ over.greater n (lives_before n e) (lives_behind n e'))
+        (λ went came. as_great on_v' by_s' on_v (above_row v' is' t.slot row keys own.still_own)
+        (ap (is_at_least_effect by_s') (before_row went) ∙ row_more s s' is.law law' row.file (parents row.file) keys own.rows t.slot over.greater))
 
   pub keeps_on_rows : KeepsOnRows v v' t granted
   keeps_on_rows = record { same = λ quiet row keys own. same_on row keys own quiet; greater = more_on }

@@ -1,18 +1,15 @@
 -- what the calls of a registry do
+mod Accepted
 mod Adopted
-mod CallsKeep
+mod GraphChanges
 mod LettingGo
-mod LockedAtOnce
 mod Lockers
 mod NameChanges
-mod NamesKept
-mod NamesMade
 mod RowLocks
 mod RowNames
 mod SlotSets
 mod Touched
 pub mod Dropped
-mod Forgets
 -- what they are for waiters: their own commands, among adopted and forgotten records
 pub mod Upkeep
 pub mod CarriedOut
@@ -27,7 +24,6 @@ pub mod KeptRows
 pub mod StandingIndexes
 pub mod NodeRows
 -- what others keep of them, whatever a registry serves
-mod NamesStay
 mod KeptOnRows
 mod Served
 mod GoingBack

@@ -1,18 +1,18 @@
--- How the nodes of rows and the records of a graph change under the calls: they become fewer, or one more, or those of files of rows stay. The law of names is
--- kept by each. For NamesKept, NamesMade and Touched, which show that each call is a row of such changes.
-use Rattle.std.specs.Prelude.{◌≡◌, ◌⊎◌, Bool, true, false, List, Option, Some, None, cond, is_some}
+-- How the nodes of rows and the records of a graph change under all that a registry serves. The law of names is kept by each such change.
+use Rattle.std.specs.Prelude.{◌≡◌, ◌⊎◌, Bool, true, false, Option, Some, None, cond, is_some}
 use Rattle.std.specs.List.{list_any}
-use Rattle.std.proofs.Common.{refl, sym, ap, subst, ◌∙◌, ⊎_elim}
-use Rattle.gl_modes.proofs.Words.{clash, no as never, none_some, some_is, split}
+use Rattle.std.proofs.Common.{refl, sym, ap, subst, ◌∙◌, inl, inr}
+use Rattle.gl_modes.proofs.Words.{clash, no as never, some_is, split}
 use Rattle.gl_modes.specs.Nodes.{same_node}
 use Rattle.gl_modes.specs.declared.node.NodeId.{NodeId}
-use Rattle.gl_graph.specs.Graph.{Graph, Node, first_parent, is_live, node_at, shape_in, shape_of}
+use Rattle.gl_graph.specs.Graph.{Graph, Node, first_in, first_parent, is_live, node_at, parents_in, shape_in, shape_of}
 use Rattle.gl_graph.specs.Shapes.{is_record_shape}
 use Rattle.gl_steps.proofs.KeptKinds.{KeepsKinds}
-use Rattle.gl_rows.specs.Names.{NameWell, NamesHold, NamesHoldIn, Naming}
+use Rattle.gl_rows.specs.Locking.{Renames}
+use Rattle.gl_rows.specs.Names.{NamesHold}
 use Rattle.gl_rows.specs.Rows.{RowsView, has_rows, name_of, same_row}
 use Rattle.gl_rows.specs.declared.row.Row.{Row}
-use Rattle.gl_rows.proofs.LettingGo.{same_row-equal, same_row-refl}
+use Rattle.gl_rows.proofs.RowNames.{same_row-equal, same_row-refl}
 
 pub shape_live : (o : Option Node) → is_record_shape (shape_in o) ≡ true → is_some o ≡ true
 shape_live None h = absurd (never h)
@@ -21,188 +21,190 @@ shape_live (Some x) h = refl
 pub record_live : (g : Graph) (r : NodeId) → is_record_shape (shape_of g r) ≡ true → is_live g r ≡ true
 record_live g r h = shape_live (node_at g r) h
 
--- the row has this node, or none, and all other rows keep theirs
-abbrev pub RenamesTo : Naming → Naming → Row → Option NodeId → Type 0
-RenamesTo name name' row o = (q : Row) → name' q ≡ cond (same_row row q) o (name q)
-
 -- the node is a record of the same file in both graphs
 pub record IsStill (g g' : Graph) (r : NodeId) : Type 0 where
   pub was : is_record_shape (shape_of g r) ≡ true
   pub rec : is_record_shape (shape_of g' r) ≡ true
   pub file : first_parent g' r ≡ first_parent g r
 
--- no record is new; a node that a row keeps is a record that remains; and a record that remains keeps its row
-pub record Fewer (name name' : Naming) (g g' : Graph) : Type 0 where
-  pub records : (r : NodeId) → is_record_shape (shape_of g' r) ≡ true → IsStill g g' r
-  pub names : (q : Row) (r : NodeId) → name' q ≡ Some r → (name q ≡ Some r) × (is_record_shape (shape_of g' r) ≡ true)
-  pub left : (q : Row) (r : NodeId) → name q ≡ Some r → is_record_shape (shape_of g' r) ≡ true → name' q ≡ Some r
+-- a node that is the same in both graphs
+pub still_at : (g g' : Graph) (r : NodeId) → is_record_shape (shape_of g r) ≡ true → node_at g' r ≡ node_at g r → IsStill g g' r
+still_at g g' r was at = record { was = was; rec = ap (λ o. is_record_shape (shape_in o)) at ∙ was; file = ap (λ o. first_in (parents_in o)) at }
 
--- living nodes remain records of their files, or remain none
-abbrev pub StandOn : Graph → Graph → Type 0
-StandOn g g' = (k : NodeId) → is_live g k ≡ true → (is_record_shape (shape_of g' k) ≡ is_record_shape (shape_of g k)) × (first_parent g' k ≡ first_parent g k)
+pub still_back : (g g' : Graph) (r : NodeId) → is_record_shape (shape_of g' r) ≡ true → node_at g' r ≡ node_at g r → IsStill g g' r
+still_back g g' r rec at = still_at g g' r (sym (ap (λ o. is_record_shape (shape_in o)) at) ∙ rec) at
 
--- one record is new, of this file
-pub record Comes (g g' : Graph) (n f : NodeId) : Type 0 where
-  pub on : StandOn g g'
-  pub live : (k : NodeId) → is_live g k ≡ true → is_live g' k ≡ true
-  pub new : is_live g n ≡ false
-  pub rec : is_record_shape (shape_of g' n) ≡ true
-  pub file : first_parent g' n ≡ f
-  pub alone : (k : NodeId) → is_record_shape (shape_of g' k) ≡ true → (k ≡ n) ⊎ (is_live g k ≡ true)
+-- the node is a new record of this file
+pub record IsNew (g g' : Graph) (f r : NodeId) : Type 0 where
+  pub new : is_live g r ≡ false
+  pub rec : is_record_shape (shape_of g' r) ≡ true
+  pub file : first_parent g' r ≡ f
+
+-- a row has the node that it had, a new one of its own, or none; it keeps a record that remains; and a record of a file of rows was one before, or is a row's
+pub record ChangesNames (v v' : RowsView) (g g' : Graph) : Type 0 where
+  pub names : (q : Row) (r : NodeId) → name_of v' q ≡ Some r → ((name_of v q ≡ Some r) × IsStill g g' r) ⊎ IsNew g g' q.file r
+  pub alone : (p q : Row) (r : NodeId) → name_of v' p ≡ Some r → name_of v' q ≡ Some r → is_live g r ≡ false → p ≡ q
+  pub within : (q : Row) (r : NodeId) → name_of v' q ≡ Some r → has_rows v' q.file ≡ true
+  pub left : (q : Row) (r : NodeId) → name_of v q ≡ Some r → is_record_shape (shape_of g' r) ≡ true → name_of v' q ≡ Some r
+  pub records : (r : NodeId) → is_record_shape (shape_of g' r) ≡ true → has_rows v' (first_parent g' r) ≡ true
+      → (IsStill g g' r × (has_rows v (first_parent g r) ≡ true)) ⊎ ((q : Row) × (name_of v' q ≡ Some r))
+
+module _ (v v' : RowsView) (g g' : Graph) (h : ChangesNames v v' g g') where
+  -- a node that lived before had the same row
+  pub was_named : (q : Row) (r : NodeId) → name_of v' q ≡ Some r → is_live g r ≡ true → name_of v q ≡ Some r
+  was_named q r e live = by (h.names q r e)
+    where
+      by : ((name_of v q ≡ Some r) × IsStill g g' r) ⊎ IsNew g g' q.file r → name_of v q ≡ Some r
+      by (inl old) = old.0
+      by (inr now) = clash live now.new
+
+  pub changed_hold : NamesHold v g → NamesHold v' g'
+  changed_hold is = record {
+    well = record {
+      stands = λ q r e. stands q r (h.names q r e);
+      apart = λ p q r a b.
+          split (is_live g r) (λ live. is.well.apart p q r (was_named p r a live) (was_named q r b live)) (h.alone p q r a b);
+    };
+    within = h.within;
+    all = λ r rec of. named r rec (h.records r rec of);
+  }
+    where
+      stands : (q : Row) (r : NodeId) → ((name_of v q ≡ Some r) × IsStill g g' r) ⊎ IsNew g g' q.file r
+          → (is_record_shape (shape_of g' r) ≡ true) × (first_parent g' r ≡ q.file)
+      stands q r (inl old) = (old.1.rec, old.1.file ∙ (is.well.stands q r old.0).1)
+      stands q r (inr now) = (now.rec, now.file)
+
+      named : (r : NodeId) → is_record_shape (shape_of g' r) ≡ true
+          → (IsStill g g' r × (has_rows v (first_parent g r) ≡ true)) ⊎ ((q : Row) × (name_of v' q ≡ Some r)) → (q : Row) × (name_of v' q ≡ Some r)
+      named r rec (inl old) = let q = is.all r old.0.was old.1 in (q.0, h.left q.0 r q.1 rec)
+      named r rec (inr now) = now
 
 -- records of these files stay, and none is new
 pub record SameRecords (has : NodeId → Bool) (g g' : Graph) : Type 0 where
-  pub on : (r : NodeId) → is_record_shape (shape_of g r) ≡ true → has (first_parent g r) ≡ true
-      → (is_record_shape (shape_of g' r) ≡ true) × (first_parent g' r ≡ first_parent g r)
-  pub back : (r : NodeId) → is_record_shape (shape_of g' r) ≡ true → has (first_parent g' r) ≡ true
-      → (is_record_shape (shape_of g r) ≡ true) × (first_parent g' r ≡ first_parent g r)
+  pub on : (r : NodeId) → is_record_shape (shape_of g r) ≡ true → has (first_parent g r) ≡ true → IsStill g g' r
+  pub back : (r : NodeId) → is_record_shape (shape_of g' r) ≡ true → has (first_parent g' r) ≡ true → IsStill g g' r
 
--- a node that lives before and after has the same row, if any
-pub record KeepsNames (name name' : Naming) (g g' : Graph) : Type 0 where
-  pub on : (q : Row) (n : NodeId) → name q ≡ Some n → is_live g' n ≡ true → name' q ≡ Some n
-  pub back : (q : Row) (n : NodeId) → name' q ≡ Some n → is_live g n ≡ true → name q ≡ Some n
+pub same_records : (has : NodeId → Bool) (g g' : Graph) → g' ≡ g → SameRecords has g g'
+same_records has g g' e = subst (SameRecords has g) (sym e) (record { on = λ r rec of. still_at g g r rec refl; back = λ r rec of. still_at g g r rec refl })
 
--- Fewer rows have nodes.
+-- equal files have the same rows
+pub same_files : (v v' : RowsView) → v'.files ≡ v.files → (f : NodeId) → has_rows v' f ≡ has_rows v f
+same_files v v' files f = ap (list_any (same_node f)) files
 
-pub fewer_well : (name name' : Naming) (g g' : Graph) → Fewer name name' g g' → NameWell name g → NameWell name' g'
-fewer_well name name' g g' fewer well = record {
-  stands = λ row n e. let was = fewer.names row n e in (was.1, (fewer.records n was.1).file ∙ (well.stands row n was.0).1);
-  apart = λ p q n a b. well.apart p q n (fewer.names p n a).0 (fewer.names q n b).0;
-}
-
-pub fewer_holds : (has : NodeId → Bool) (name name' : Naming) (g g' : Graph) → Fewer name name' g g' → NamesHoldIn has name g → NamesHoldIn has name' g'
-fewer_holds has name name' g g' fewer is = record {
-  well = fewer_well name name' g g' fewer is.well;
-  within = λ row n e. is.within row n (fewer.names row n e).0;
-  all = λ r rec file.
-      let was = fewer.records r rec in
-      let named = is.all r was.was (ap has (sym was.file) ∙ file) in (named.0, fewer.left named.0 r named.1 rec);
-}
-
--- A row without a node gets a new record.
-
-module _ (name name' : Naming) (g g' : Graph) (row : Row) (n : NodeId) (comes : Comes g g' n row.file) (renames : RenamesTo name name' row (Some n)) where
-  own : (q : Row) → same_row row q ≡ true → {k : NodeId} → name' q ≡ Some k → Some n ≡ Some k
-  own q same e = sym (renames q ∙ ap (λ b. cond b (Some n) (name q)) same) ∙ e
-
-  other : (q : Row) → same_row row q ≡ false → name' q ≡ name q
-  other q apart = renames q ∙ ap (λ b. cond b (Some n) (name q)) apart
-
-  more_well : NameWell name g → NameWell name' g'
-  more_well well = record {
-    stands = λ q k e.
-        split (same_row row q)
-        (λ same.
-        let is : n ≡ k = some_is (own q same e) in (
-          ap (λ x. is_record_shape (shape_of g' x)) (sym is) ∙ comes.rec,
-          ap (first_parent g') (sym is) ∙ comes.file
-              ∙ ap (λ (x : Row). x.file) (same_row-equal row q same),
-        ))
-        (λ apart.
-        let was = well.stands q k (sym (other q apart) ∙ e) in
-        let now = comes.on k (record_live g k was.0) in (now.0 ∙ was.0, now.1 ∙ was.1));
-    apart = λ p q k a b.
-        split (same_row row p)
-        (λ here. split (same_row row q)
-        (λ there. sym (same_row-equal row p here) ∙ same_row-equal row q there)
-        (λ there. absurd (lives q k there b (some_is (own p here a)))))
-        (λ here. split (same_row row q)
-        (λ there. absurd (lives p k here a (some_is (own q there b))))
-        (λ there. well.apart p q k (sym (other p here) ∙ a) (sym (other q there) ∙ b)));
-  }
-    where
-      lives : (q : Row) (k : NodeId) → same_row row q ≡ false → name' q ≡ Some k → n ≡ k → ⊥
-      lives q k apart e is = clash (record_live g k (well.stands q k (sym (other q apart) ∙ e)).0) (ap (is_live g) (sym is) ∙ comes.new)
-
-  pub more_holds : (has : NodeId → Bool) → has row.file ≡ true → name row ≡ None → NamesHoldIn has name g → NamesHoldIn has name' g'
-  more_holds has of_rows unnamed is = record {
-    well = more_well is.well;
-    within = λ q k e. split (same_row row q)
-        (λ same. ap (λ (x : Row). has x.file) (sym (same_row-equal row q same)) ∙ of_rows)
-        (λ apart. is.within q k (sym (other q apart) ∙ e));
-    all = λ r rec file. ⊎_elim (new r) (old r rec file) (comes.alone r rec);
-  }
-    where
-      Named : NodeId → Type 0
-      Named r = (q : Row) × (name' q ≡ Some r)
-
-      new : (r : NodeId) → r ≡ n → Named r
-      new r same = (row, renames row ∙ ap (λ b. cond b (Some n) (name row)) (same_row-refl row) ∙ ap Some (sym same))
-
-      old : (r : NodeId) → is_record_shape (shape_of g' r) ≡ true → has (first_parent g' r) ≡ true → is_live g r ≡ true → Named r
-      old r rec file live =
-          let on = comes.on r live in
-          let named = is.all r (sym on.0 ∙ rec) (ap has (sym on.1) ∙ file) in (
-            named.0,
-            split (same_row row named.0)
-                (λ same. absurd (none_some (sym unnamed ∙ ap name (same_row-equal row named.0 same) ∙ named.1)))
-                (λ apart. other named.0 apart ∙ named.1),
-          )
-
--- Records of files of rows stay.
-
-pub same_holds : (has : NodeId → Bool) (name : Naming) (g g' : Graph) → SameRecords has g g' → NamesHoldIn has name g → NamesHoldIn has name g'
-same_holds has name g g' same is = record {
-  well = record {
-    stands = λ row n e.
-        let was = is.well.stands row n e in
-        let on = same.on n was.0 (ap has was.1 ∙ is.within row n e) in (on.0, on.1 ∙ was.1);
-    apart = is.well.apart;
-  };
-  within = is.within;
-  all = λ r rec file. let was = same.back r rec file in is.all r was.0 (ap has (sym was.1) ∙ file);
-}
-
--- Nodes that remain keep their rows.
-
-module _ (name name' : Naming) (g g' : Graph) where
-  pub same_names : ((q : Row) → name' q ≡ name q) → KeepsNames name name' g g'
-  same_names same = record { on = λ q n e live. same q ∙ e; back = λ q n e live. sym (same q) ∙ e }
-
-  pub fewer_names : NameWell name g → KeepsKinds g g' → Fewer name name' g g' → KeepsNames name name' g g'
-  fewer_names well kinds fewer = record {
-    on = λ q n e live. let was = (well.stands q n e).0 in fewer.left q n e ((kinds n (record_live g n was) live).record_same ∙ was);
-    back = λ q n e live. (fewer.names q n e).0;
+module _ (v v' : RowsView) (g g' : Graph) (holds : NamesHold v g) where
+  -- no row gets a node
+  none_new : ((q : Row) (r : NodeId) → name_of v' q ≡ Some r → (name_of v q ≡ Some r) × IsStill g g' r × (has_rows v' q.file ≡ true))
+      → ((q : Row) (r : NodeId) → name_of v q ≡ Some r → is_record_shape (shape_of g' r) ≡ true → name_of v' q ≡ Some r)
+      → ((r : NodeId) → is_record_shape (shape_of g' r) ≡ true → has_rows v' (first_parent g' r) ≡ true
+      → IsStill g g' r × (has_rows v (first_parent g' r) ≡ true)) → ChangesNames v v' g g'
+  none_new names left records = record {
+    names = λ q r e. let was = names q r e in inl (was.0, was.1);
+    alone = λ p q r a b new. clash (record_live g r (names p r a).1.was) new;
+    within = λ q r e. (names q r e).2;
+    left = left;
+    records = λ r rec of. let it = records r rec of in inl (it.0, ap (has_rows v) (sym it.0.file) ∙ it.1);
   }
 
-  -- a row gets a new node, and its old one is removed
-  pub other_names : (row : Row) (x : NodeId) → RenamesTo name name' row (Some x) → is_live g x ≡ false
-      → ((n : NodeId) → name row ≡ Some n → is_live g' n ≡ false) → KeepsNames name name' g g'
-  other_names row x renames new gone = record {
-    on = λ q n e live. split (same_row row q)
-        (λ same. clash live (gone n (ap name (same_row-equal row q same) ∙ e)))
+  -- each row has the same node, and the records of files of rows stay
+  pub names_same : ((q : Row) → name_of v' q ≡ name_of v q) → SameRecords (has_rows v) g g'
+      → ((q : Row) (r : NodeId) → name_of v q ≡ Some r → has_rows v' q.file ≡ true)
+      → ((r : NodeId) → is_record_shape (shape_of g' r) ≡ true → has_rows v' (first_parent g' r) ≡ true → has_rows v (first_parent g' r) ≡ true)
+      → ChangesNames v v' g g'
+  names_same same stay within none =
+      none_new
+      (λ q r e. let was = sym (same q) ∙ e in let stands = holds.well.stands q r was in
+      (was, stay.on r stands.0 (ap (has_rows v) stands.1 ∙ holds.within q r was), within q r was))
+      (λ q r e rec. same q ∙ e) (λ r rec of. let was = none r rec of in (stay.back r rec was, was))
+
+  module _ (files : v'.files ≡ v.files) where
+    -- and the files of rows are the same
+    pub names_stay : ((q : Row) → name_of v' q ≡ name_of v q) → SameRecords (has_rows v) g g' → ChangesNames v v' g g'
+    names_stay same stay =
+        names_same same stay (λ q r e. same_files v v' files q.file ∙ holds.within q r e)
+        (λ r rec of. sym (same_files v v' files (first_parent g' r)) ∙ of)
+
+    -- fewer rows have nodes, and there are fewer records
+    pub names_fewer : ((r : NodeId) → is_record_shape (shape_of g' r) ≡ true → IsStill g g' r)
+        → ((q : Row) (r : NodeId) → name_of v' q ≡ Some r → (name_of v q ≡ Some r) × (is_record_shape (shape_of g' r) ≡ true))
+        → ((q : Row) (r : NodeId) → name_of v q ≡ Some r → is_record_shape (shape_of g' r) ≡ true → name_of v' q ≡ Some r) → ChangesNames v v' g g'
+    names_fewer still names left =
+        none_new (λ q r e. let was = names q r e in (was.0, still r was.1, same_files v v' files q.file ∙ holds.within q r was.0)) left
+        (λ r rec of. (still r rec, sym (same_files v v' files (first_parent g' r)) ∙ of))
+
+-- one record is new, of this file, and all nodes remain what they are
+pub record Comes (g g' : Graph) (n f : NodeId) : Type 0 where
+  pub new : IsNew g g' f n
+  pub kinds : KeepsKinds g g'
+  pub live : (k : NodeId) → is_live g k ≡ true → is_live g' k ≡ true
+  pub alone : (k : NodeId) → is_live g k ≡ false → is_live g' k ≡ true → k ≡ n
+
+-- a row gets a new record, and then the one that it had is removed
+module _ (v v' : RowsView) (g g₂ g' : Graph) (holds : NamesHold v g) (row : Row) (n : NodeId) (of_rows : has_rows v row.file ≡ true)
+    (files : v'.files ≡ v.files) (renames : Renames v.names v'.names row (Some n)) (comes : Comes g g₂ n row.file)
+    (same : (k : NodeId) → is_live g' k ≡ true → node_at g' k ≡ node_at g₂ k)
+    (kept : (k : NodeId) → is_live g₂ k ≡ true → (name_of v row ≡ Some k → ⊥) → is_live g' k ≡ true)
+    (gone : (k : NodeId) → name_of v row ≡ Some k → is_live g' k ≡ false) where
+  here : (q : Row) → same_row row q ≡ true → name_of v' q ≡ Some n
+  here q is = renames q ∙ ap (λ b. cond b (Some n) (name_of v q)) is
+
+  elsewhere : (q : Row) → same_row row q ≡ false → name_of v' q ≡ name_of v q
+  elsewhere q apart = renames q ∙ ap (λ b. cond b (Some n) (name_of v q)) apart
+
+  -- the records of other rows remain
+  still : (k : NodeId) → is_record_shape (shape_of g k) ≡ true → (name_of v row ≡ Some k → ⊥) → IsStill g g' k
+  still k rec other =
+      let live = record_live g k rec in
+      let there = comes.live k live in
+      let at = same k (kept k there other) in
+      let kind = comes.kinds k live there in
+      record {
+        was = rec;
+        rec = ap (λ o. is_record_shape (shape_in o)) at ∙ kind.record_same ∙ rec;
+        file = ap (λ o. first_in (parents_in o)) at ∙ kind.file rec;
+      }
+
+  other_still : (q : Row) (k : NodeId) → same_row row q ≡ false → name_of v' q ≡ Some k → (name_of v q ≡ Some k) × IsStill g g' k
+  other_still q k apart e =
+      let was = sym (elsewhere q apart) ∙ e in
+      (was, still k (holds.well.stands q k was).0 (λ own. clash (ap (same_row row) (holds.well.apart q row k was own) ∙ same_row-refl row) apart))
+
+  is_new : IsNew g g' row.file n
+  is_new =
+      let at = same n (kept n (record_live g₂ n comes.new.rec) (λ e. clash (record_live g n (holds.well.stands row n e).0) comes.new.new)) in
+      record {
+        new = comes.new.new;
+        rec = ap (λ o. is_record_shape (shape_in o)) at ∙ comes.new.rec;
+        file = ap (λ o. first_in (parents_in o)) at ∙ comes.new.file;
+      }
+
+  pub row_placed : ChangesNames v v' g g'
+  row_placed = record {
+    names = λ q k e. split (same_row row q)
+        (λ is. inr (is_new_of q k (same_row-equal row q is) (some_is (sym (here q is) ∙ e))))
+        (λ apart. inl (other_still q k apart e));
+    alone = λ p q k a b new. sym (only p k a new) ∙ only q k b new;
+    within = λ q k e. same_files v v' files q.file ∙ split (same_row row q)
+        (λ is. ap (λ (x : Row). has_rows v x.file) (sym (same_row-equal row q is)) ∙ of_rows)
+        (λ apart. holds.within q k (other_still q k apart e).0);
+    left = λ q k e rec. split (same_row row q)
+        (λ is. clash (record_live g' k rec) (gone k (ap (name_of v) (same_row-equal row q is) ∙ e)))
         (λ apart. elsewhere q apart ∙ e);
-    back = λ q n e live. split (same_row row q)
-        (λ same. clash live (ap (is_live g) (sym (some_is (sym (here q same) ∙ e))) ∙ new))
-        (λ apart. sym (elsewhere q apart) ∙ e);
+    records = λ k rec of. split (is_live g k)
+        (λ live. inl (was_record k rec live, ap (has_rows v) (sym (was_record k rec live).file) ∙ sym (same_files v v' files (first_parent g' k)) ∙ of))
+        (λ dead. inr (row, here row (same_row-refl row) ∙ ap Some (sym (comes.alone k dead (there k rec)))));
   }
     where
-      here : (q : Row) → same_row row q ≡ true → name' q ≡ Some x
-      here q same = renames q ∙ ap (λ b. cond b (Some x) (name q)) same
+      is_new_of : (q : Row) (k : NodeId) → row ≡ q → n ≡ k → IsNew g g' q.file k
+      is_new_of q k is at = subst (λ (x : Row). IsNew g g' x.file k) is (subst (IsNew g g' row.file) at is_new)
 
-      elsewhere : (q : Row) → same_row row q ≡ false → name' q ≡ name q
-      elsewhere q apart = renames q ∙ ap (λ b. cond b (Some x) (name q)) apart
+      only : (q : Row) (k : NodeId) → name_of v' q ≡ Some k → is_live g k ≡ false → row ≡ q
+      only q k e new = split (same_row row q) (same_row-equal row q) (λ apart. clash (record_live g k (other_still q k apart e).1.was) new)
 
--- Equal nodes for each row, and equal files.
+      there : (k : NodeId) → is_record_shape (shape_of g' k) ≡ true → is_live g₂ k ≡ true
+      there k rec = let live = record_live g' k rec in ap is_some (sym (same k live)) ∙ live
 
-pub renamed : (has : NodeId → Bool) (name name' : Naming) (g : Graph) → ((q : Row) → name' q ≡ name q) → NamesHoldIn has name g → NamesHoldIn has name' g
-renamed has name name' g same is = fewer_holds has name name' g g (record {
-  records = λ r rec. record { was = rec; rec = rec; file = refl };
-  names = λ q r e. let was = sym (same q) ∙ e in (was, (is.well.stands q r was).0);
-  left = λ q r e rec. same q ∙ e;
-}) is
-
-pub refiled : (v v' : RowsView) (name : Naming) (g : Graph) → v'.files ≡ v.files → NamesHoldIn (has_rows v) name g → NamesHoldIn (has_rows v') name g
-refiled v v' name g same is = subst (λ (fs : List NodeId). NamesHoldIn (λ f. list_any (same_node f) fs) name g) (sym same) is
-
--- No row has a node, and no file has rows.
-
-pub none_hold : (v : RowsView) (g : Graph) → ((f : NodeId) → has_rows v f ≡ false) → ((row : Row) → name_of v row ≡ None) → NamesHold v g
-none_hold v g fileless none = record {
-  well = record {
-    stands = λ row n e. absurd (none_some (sym (none row) ∙ e));
-    apart = λ p q n a b. absurd (none_some (sym (none p) ∙ a));
-  };
-  within = λ row n e. absurd (none_some (sym (none row) ∙ e));
-  all = λ r rec file. absurd (clash file (fileless (first_parent g r)));
-}
+      was_record : (k : NodeId) → is_record_shape (shape_of g' k) ≡ true → is_live g k ≡ true → IsStill g g' k
+      was_record k rec live =
+          let at = same k (record_live g' k rec) in
+          let before = sym (comes.kinds k live (there k rec)).record_same ∙ sym (ap (λ o. is_record_shape (shape_in o)) at) ∙ rec in
+          still k before (λ e. clash (record_live g' k rec) (gone k e))

@@ -1,6 +1,7 @@
 -- No row of a registry can be written by one transaction and read by another, by any locks.
 use Rattle.std.specs.Prelude.{◌≡◌, ◌≢◌, ◌||◌, ℕ, Bool, true, false, List, Option, Some, None}
 use Rattle.std.proofs.Common.{refl, sym, ap, subst, ◌∙◌}
+use Rattle.std.proofs.Math.Bool.{or-false}
 use Rattle.gl_modes.proofs.Words.{or_elim}
 use Rattle.gl_modes.specs.declared.node.NodeId.{NodeId}
 use Rattle.gl_graph.specs.Graph.{shape_of}
@@ -16,10 +17,6 @@ use Rattle.gl_rows.specs.Promises.{HasRowEffect, NoRowOfTwo, OwnKeys, effect_of,
 use Rattle.gl_rows.specs.Rows.{RegistryView, name_of}
 use Rattle.gl_rows.proofs.RowEffects.{as_great, no_row_conflict, read_by, reads_at, writes_at, x_there}
 use Rattle.gl_rows.proofs.StandingRows.{records_have_row_effects}
-
-pub or_off : (b : Bool) → (b || false) ≡ b
-or_off true = refl
-or_off false = refl
 
 -- a writer has X, and a reader at least S
 writes_x : (w r : Bool) → w ≡ true → is_at_least_effect (effect_of w r) effect.X ≡ true
@@ -57,8 +54,8 @@ module _ (v : RegistryView) (law : IsLawful (state_of v.manager)) (holds : Names
   no_row_of_two : (t u : ℕ) → t ≢ u → may_write v t row keys ≡ true → may_read v u row keys ≡ true → (o : Option NodeId) → name_of v.rows row ≡ o → ⊥
   no_row_of_two t u ne writes reads None e =
       no_row_conflict s t u row.file keys law ne
-      (sym (ap (λ o. writes_row s t row.file keys || of_node (writes_at s t) o) e ∙ or_off _) ∙ writes)
-      (sym (ap (λ o. reads_row s u row.file keys || of_node (reads_at s u) o) e ∙ or_off _) ∙ reads)
+      (sym (ap (λ o. writes_row s t row.file keys || of_node (writes_at s t) o) e ∙ or-false _) ∙ writes)
+      (sym (ap (λ o. reads_row s u row.file keys || of_node (reads_at s u) o) e ∙ or-false _) ∙ reads)
   no_row_of_two t u ne writes reads (Some n) e =
       quiet_under s law t u ne n (x_there s t n (writes_node n e t writes)) (read_by s u n (reads_node n e u reads))
 

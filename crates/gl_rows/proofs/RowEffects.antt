@@ -77,6 +77,26 @@ under_same e' e ps each =
     as_one _ _ (under_more e' e ps (λ p on. ap (λ x. is_at_least_effect x (e p)) (each p on) ∙ effect_refl (e p)))
     (under_more e e' ps (λ p on. ap (is_at_least_effect (e p)) (each p on) ∙ effect_refl (e p)))
 
+-- nodes that are the same in two states, and live in both
+module _ (s s' : State) (ps' ps : List NodeId) (same : ps' ≡ ps) (before : OfEach ps (λ p. is_live s.graph p ≡ true))
+    (behind : OfEach ps' (λ p. is_live s'.graph p ≡ true)) (t : ℕ) where
+  abbrev OnBoth : (NodeId → Type 0) → Type 0
+  OnBoth P = (p : NodeId) → is_live s.graph p ≡ true → is_live s'.graph p ≡ true → P p
+
+  each_both : (P : NodeId → Type 0) → OnBoth P → OfEach ps P
+  each_both P each p on = each p (before p on) (behind p (ap (list_any (same_node p)) same ∙ on))
+
+  -- the effective mode under them stays if that on each does, and rises if that on each does
+  pub stays_under : OnBoth (λ p. effective s' t p ≡ effective s t p) → effect_under (effective s' t) ps' ≡ effect_under (effective s t) ps
+  stays_under each = ap (effect_under (effective s' t)) same
+      ∙ under_same (effective s' t) (effective s t) ps (each_both (λ p. effective s' t p ≡ effective s t p) each)
+
+  pub rises_under : OnBoth (λ p. is_at_least_effect (effective s' t p) (effective s t p) ≡ true)
+      → is_at_least_effect (effect_under (effective s' t) ps') (effect_under (effective s t) ps) ≡ true
+  rises_under each =
+      ap (λ qs. is_at_least_effect (effect_under (effective s' t) qs) (effect_under (effective s t) ps)) same
+      ∙ under_more (effective s' t) (effective s t) ps (each_both (λ p. is_at_least_effect (effective s' t p) (effective s t p) ≡ true) each)
+
 -- the parents of a row live
 pub row_parents_live : (g : Graph) → IsLawfulGraph g → (f : NodeId) (keys : List ℕ) → IsRow g f keys
     → OfEach (record_parents g f keys) (λ p. is_live g p ≡ true)

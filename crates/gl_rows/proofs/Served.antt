@@ -1,8 +1,8 @@
 -- What a registry serves keeps the effective modes on rows of transactions that it does not name.
 use Rattle.std.specs.Prelude.{◌≡◌, ◌||◌, ℕ, zero, suc, Bool, true, false, List, [], ◌∷◌, Option, Some, None, Result, Ok, Err, OnErr, map}
 use Rattle.std.specs.List.{list_all, list_any}
-use Rattle.std.specs.Map.{lookup}
 use Rattle.std.proofs.Common.{refl, sym, ap, subst, ◌∙◌, inl, inr}
+use Rattle.std.proofs.Math.Bool.{or-false}
 use Rattle.gl_modes.proofs.Words.{and_both, no as never}
 use Rattle.gl_modes.specs.declared.node.NodeId.{NodeId}
 use Rattle.gl_modes.specs.declared.refusal.Refusal.{Refusal}
@@ -30,18 +30,14 @@ use Rattle.gl_rows.specs.declared.call.RowCall.TheVariants as call
 use Rattle.gl_rows.specs.Applying.{CarriesOut, Stays, StepsAmid, Upkeep, answer_in, is_upkeep, naming, own_command}
 use Rattle.gl_rows.specs.Locking.{Line, Runs}
 use Rattle.gl_rows.specs.Promises.{CallsKeepOnRows, CommandsKeepOnRows, IsRegistry, KeepsOnRows, PathsKeepOnRows, drops_index_of, is_granted, names_in}
-use Rattle.gl_rows.specs.Names.{NamesHold}
-use Rattle.gl_rows.specs.Rows.{RegistryView, RowsView, name_of, same_row}
-use Rattle.gl_rows.specs.Serving.{ServesBy, dropped_by, touches_rows}
-use Rattle.gl_rows.proofs.CallsKeep.{call_keeps, path_keeps}
-use Rattle.gl_rows.proofs.CarriedOut.{carried_out}
-use Rattle.gl_rows.proofs.Dropped.{left_hold, left_names}
+use Rattle.gl_rows.specs.Rows.{RegistryView, RowsView, has_rows, name_of}
+use Rattle.gl_rows.specs.Serving.{ServesBy, touches_rows}
+use Rattle.gl_rows.proofs.CarriedOut.{call_course, unchanged}
+use Rattle.gl_rows.proofs.Dropped.{served_changes}
+use Rattle.gl_rows.proofs.GraphChanges.{step_graph}
 use Rattle.gl_rows.proofs.KeptIndexes.{keeps_trans, same_parents}
 use Rattle.gl_rows.proofs.KeptOnRows.{keeps_on_rows}
-use Rattle.gl_rows.proofs.KeptRows.{SameParents}
-use Rattle.gl_rows.proofs.NameChanges.{same_names}
-use Rattle.gl_rows.proofs.NamesStay.{call_stays}
-use Rattle.gl_rows.proofs.NodeRows.{or_off}
+use Rattle.gl_rows.proofs.NameChanges.{ChangesNames, names_stay, same_records}
 use Rattle.gl_rows.proofs.RunsKeepIndexes.{KeepsAll, is_drop, run_keeps as run_keeps_indexes, step_parents}
 
 -- what commands keep that do not name t and drop nothing: the law of a state, what t keeps, and indexes
@@ -83,16 +79,19 @@ over_run s s' cs rs t law run alive apart stay = record {
 pub over_step : (s s' : State) (c : Command) (a : Answer) (told : Told) (t : TxnId) → IsLawful s → Step s c a told s' → lives s t ≡ true → names t c ≡ false
     → is_drop c ≡ false → Over s s' t (is_granted t told)
 over_step s s' c a told t law step alive apart stays =
-    over_as s s' t (or_off (is_granted t told))
-    (over_run s s' (c ∷ []) ((a, told) ∷ []) t law (s', step, refl) alive (or_off (names t c) ∙ apart) (or_off (is_drop c) ∙ stays))
+    over_as s s' t (or-false (is_granted t told))
+    (over_run s s' (c ∷ []) ((a, told) ∷ []) t law (s', step, refl) alive (or-false (names t c) ∙ apart) (or-false (is_drop c) ∙ stays))
 
 -- no step
 pub over_same : (s s' : State) (t : TxnId) → IsLawful s → s' ≡ s → lives s t ≡ true → Over s s' t false
 over_same s s' t law same alive = over_run s s' [] [] t law same alive refl refl
 
--- rows keep their parents
-pub over_parents : (s s' : State) (t : TxnId) (granted : Bool) → Over s s' t granted → (f : NodeId) → SameParents s s' f
-over_parents s s' t granted over f = same_parents s.graph s'.graph f (over.indexes f)
+-- paths lock nodes alone
+pub path_graph : (k : ℕ) (t : TxnId) (ask : Ask) (m : ManagerView) (last : Ask) (r : Says) (m' : ManagerView) → IsPath k t ask m last r m'
+    → (state_of m').graph ≡ (state_of m).graph
+path_graph zero t ask m last r m' h = step_graph (state_of m) (lock_of t last) r.0 r.1 (state_of m') refl h.0.step
+path_graph (suc k) t ask m last r m' h =
+    path_graph k t ask h.2 last r m' h.5 ∙ step_graph (state_of m) (lock_of t h.0) h.1.0 h.1.1 (state_of h.2) refl h.3.step
 
 -- a path's steps, of which only the last one tells anybody
 over_path : (k : ℕ) (u : TxnId) (ask : Ask) (m : ManagerView) (last : Ask) (r : Says) (m' : ManagerView) (t : TxnId) → IsLawful (state_of m)
@@ -106,13 +105,11 @@ over_path (suc k) u ask m last r m' t law path alive apart =
     over_then (state_of m) (state_of mid) (state_of m') t false (is_granted t r.1) law first
     (over_path k u ask mid last r m' t first.law path.5 first.keeps.alive apart)
 
--- the same rows afterwards
-pub same_rows : (v v' : RegistryView) (t : TxnId) (granted : Bool) → IsRegistry v → Over (state_of v.manager) (state_of v'.manager) t granted
-    → NamesHold v.rows (state_of v'.manager).graph → v'.rows ≡ v.rows → KeepsOnRows v v' t granted
-same_rows v v' t granted is over holds rows =
-    keeps_on_rows v v' t granted is (record { law = over.law; names = subst (λ (x : RowsView). NamesHold x (state_of v'.manager).graph) (sym rows) holds })
-    over.keeps (over_parents (state_of v.manager) (state_of v'.manager) t granted over)
-    (same_names (name_of v.rows) (name_of v'.rows) (state_of v.manager).graph (state_of v'.manager).graph (λ q. ap (λ (x : RowsView). name_of x q) rows))
+-- so t keeps its effective modes on rows, if rows and their nodes change as they may
+pub keeps_rows : (v v' : RegistryView) (t : TxnId) (granted : Bool) → IsRegistry v → Over (state_of v.manager) (state_of v'.manager) t granted
+    → ChangesNames v.rows v'.rows (state_of v.manager).graph (state_of v'.manager).graph → KeepsOnRows v v' t granted
+keeps_rows v v' t granted is over names =
+    keeps_on_rows v v' t granted is over.law over.keeps (λ f. same_parents (state_of v.manager).graph (state_of v'.manager).graph f (over.indexes f)) names
 
 -- a command by its node
 pub commands_keep_on_rows : CommandsKeepOnRows
@@ -120,29 +117,30 @@ commands_keep_on_rows v v' c result told t is serves alive apart = by (touches_r
   where
     by : (b : Bool) → touches_rows v c ≡ b → ServesBy b v c result told v' → KeepsOnRows v v' t (is_granted t told)
     by true e h =
-        let manager : state_of v'.manager ≡ state_of v.manager = ap (λ (x : RegistryView). state_of x.manager) h.2 in
-        let over = over_same (state_of v.manager) (state_of v'.manager) t is.law manager alive in
-        same_rows v v' t (is_granted t told) is (over_as (state_of v.manager) (state_of v'.manager) t (sym (ap (is_granted t) h.1)) over)
-        (subst (λ (x : State). NamesHold v.rows x.graph) (sym manager) is.names) (ap (λ (x : RegistryView). x.rows) h.2)
+        let s = state_of v.manager in
+        let s' = state_of v'.manager in
+        let manager : s' ≡ s = ap (λ (x : RegistryView). state_of x.manager) h.2 in
+        keeps_rows v v' t (is_granted t told) is (over_as s s' t (sym (ap (is_granted t) h.1)) (over_same s s' t is.law manager alive))
+        (unchanged v.manager v'.manager v.rows v'.rows is.law is.names told (ap (λ (x : RegistryView). x.manager) h.2) (ap (λ (x : RegistryView). x.rows) h.2))
     by false e h =
         let s = state_of v.manager in
         let s' = state_of v'.manager in
-        let step = h.2.step in
-        keeps_on_rows v v' t (is_granted t told) is
-        (record { law = steps_keep_law s s' c h.0 told is.law step; names = left_hold v is.law s' c h.0 told v'.rows e step is.names h.3 })
-        (subst (KeepsOver s s' t) (or_off (is_granted t told))
-        (run_keeps (c ∷ []) ((h.0, told) ∷ []) s s' t is.law (s', step, refl) alive (or_off (names t c) ∙ apart)))
-        (step_parents s s' c h.0 told is.law step)
-        (same_names (name_of v.rows) (name_of v'.rows) s.graph s'.graph (λ q. ap (lookup (same_row q)) (left_names (dropped_by c h.0) v.rows v'.rows h.3)))
+        keeps_on_rows v v' t (is_granted t told) is (steps_keep_law s s' c h.0 told is.law h.2.step)
+        (subst (KeepsOver s s' t) (or-false (is_granted t told))
+        (run_keeps (c ∷ []) ((h.0, told) ∷ []) s s' t is.law (s', h.2.step, refl) alive (or-false (names t c) ∙ apart)))
+        (step_parents s s' c h.0 told is.law h.2.step) (served_changes v is.law is.names s' c h.0 told v'.rows e h.2.step h.3)
 
 -- a path
 pub paths_keep_on_rows : PathsKeepOnRows
 paths_keep_on_rows v v' u ask result told t is h alive apart =
     let path = h.path in
-    same_rows v v' t (is_granted t told) is
+    keeps_rows v v' t (is_granted t told) is
     (over_as (state_of v.manager) (state_of v'.manager) t (ap (is_granted t) (told_of result h.untold))
     (over_path path.0 u ask v.manager path.1 (said (reaching told) result) v'.manager t is.law path.2 alive apart))
-    (path_keeps u ask v.manager told result v'.manager v.rows path is.names) h.rows
+    (names_stay v.rows v'.rows (state_of v.manager).graph (state_of v'.manager).graph is.names (ap (λ (x : RowsView). x.files) h.rows)
+    (λ q. ap (λ (x : RowsView). name_of x q) h.rows)
+    (same_records (has_rows v.rows) (state_of v.manager).graph (state_of v'.manager).graph
+    (path_graph path.0 u ask v.manager path.1 (said (reaching told) result) v'.manager path.2)))
   where
     told_of : (result : Result Reached Refusal) → OnErr result (told ≡ []) → (said (reaching told) result).1 ≡ told
     told_of (Ok x) h = refl
@@ -156,11 +154,13 @@ unnamed_one t (command.Adopt f keys) is = refl
 unnamed_one t (command.Forget r) is = refl
 unnamed_one t c is = absurd (never is)
 
-unnamed_all : (t : TxnId) (lines : List Line) → list_all (λ l. is_upkeep l.0) lines ≡ true → list_any (names t) (map (λ (l : Line). l.0) lines) ≡ false
-unnamed_all t [] is = refl
-unnamed_all t (l ∷ lines) is =
+-- what fails at each of their commands
+none_all : (test : Command → Bool) → ((c : Command) → is_upkeep c ≡ true → test c ≡ false) → (lines : List Line) → list_all (λ l. is_upkeep l.0) lines ≡ true
+    → list_any test (map (λ (l : Line). l.0) lines) ≡ false
+none_all test each [] is = refl
+none_all test each (l ∷ lines) is =
     let b = and_both (is_upkeep l.0) (list_all (λ (x : Line). is_upkeep x.0) lines) is in
-    ap (λ x. x || list_any (names t) (map (λ (k : Line). k.0) lines)) (unnamed_one t l.0 b.0) ∙ unnamed_all t lines b.1
+    ap (λ x. x || list_any test (map (λ (k : Line). k.0) lines)) (each l.0 b.0) ∙ none_all test each lines b.1
 
 -- and tell nobody
 tells_none : (s : State) (c : Command) (a : Answer) (told : Told) (s' : State) → is_upkeep c ≡ true → Step s c a told s' → told ≡ []
@@ -188,17 +188,11 @@ no_drop_one : (c : Command) → is_upkeep c ≡ true → is_drop c ≡ false
 no_drop_one (command.Drop t n) is = absurd (never is)
 no_drop_one c is = refl
 
-no_drop_all : (lines : List Line) → list_all (λ l. is_upkeep l.0) lines ≡ true → list_any is_drop (map (λ (l : Line). l.0) lines) ≡ false
-no_drop_all [] is = refl
-no_drop_all (l ∷ lines) is =
-    let b = and_both (is_upkeep l.0) (list_all (λ (x : Line). is_upkeep x.0) lines) is in
-    ap (λ x. x || list_any is_drop (map (λ (k : Line). k.0) lines)) (no_drop_one l.0 b.0) ∙ no_drop_all lines b.1
-
 pub over_upkeep : (s s' : State) (t : TxnId) → IsLawful s → Upkeep s s' → lives s t ≡ true → Over s s' t false
 over_upkeep s s' t law h alive =
     over_as s s' t (quiet_all t s s' h.lines h.kept h.run)
-    (over_run s s' (map (λ (l : Line). l.0) h.lines) (map (λ (l : Line). l.1) h.lines) t law h.run alive (unnamed_all t h.lines h.kept)
-    (no_drop_all h.lines h.kept))
+    (over_run s s' (map (λ (l : Line). l.0) h.lines) (map (λ (l : Line). l.1) h.lines) t law h.run alive
+    (none_all (names t) (unnamed_one t) h.lines h.kept) (none_all is_drop no_drop_one h.lines h.kept))
 
 -- a call that carries out a command
 module _ (m : ManagerView) (c : Command) (told : Told) (m' : ManagerView) (t : TxnId) (law : IsLawful (state_of m)) (alive : lives (state_of m) t ≡ true)
@@ -215,7 +209,7 @@ module _ (m : ManagerView) (c : Command) (told : Told) (m' : ManagerView) (t : T
       let before = over_upkeep (state_of m) h.ahead t law h.before alive in
       let step = over_step h.ahead h.behind c a told t before.law h.step before.keeps.alive apart stays in
       let after = over_upkeep h.behind (state_of m') t step.law h.after step.keeps.alive in
-      over_as (state_of m) (state_of m') t (or_off (is_granted t told))
+      over_as (state_of m) (state_of m') t (or-false (is_granted t told))
       (over_then (state_of m) h.behind (state_of m') t (is_granted t told) false law
       (over_then (state_of m) h.ahead h.behind t false (is_granted t told) law before step) after)
 
@@ -227,33 +221,18 @@ module _ (m : ManagerView) (c : Command) (told : Told) (m' : ManagerView) (t : T
 -- the transaction of a call's own command is the same on every node
 own_named : (t : TxnId) (v : RowsView) (c : RowCall) → names t (own_command v c) ≡ names_in t c
 own_named t v (call.File ps) = refl
-own_named t v (call.Lock u row keys m) = refl
-own_named t v (call.Unlock u row) = refl
-own_named t v (call.Rekey u row index key) = refl
-own_named t v (call.Commit u) = refl
-own_named t v (call.Abort u) = refl
-own_named t v (call.Cancel u) = refl
-own_named t v (call.Escalate u n) = refl
+own_named t v c = refl
 
 -- and it drops nothing
 own_stays : (v : RowsView) (c : RowCall) → is_drop (own_command v c) ≡ false
 own_stays v (call.File ps) = refl
-own_stays v (call.Lock u row keys m) = refl
-own_stays v (call.Unlock u row) = refl
-own_stays v (call.Rekey u row index key) = refl
-own_stays v (call.Commit u) = refl
-own_stays v (call.Abort u) = refl
-own_stays v (call.Cancel u) = refl
-own_stays v (call.Escalate u n) = refl
+own_stays v c = refl
 
 -- a call about rows
 pub calls_keep_on_rows : CallsKeepOnRows
 calls_keep_on_rows v v' c a told t is h alive apart =
     let own : Command = own_command (naming c v.rows v'.rows) c in
-    let over = over_carried v.manager own told v'.manager t is.law alive (own_named t (naming c v.rows v'.rows) c ∙ apart)
-    (own_stays (naming c v.rows v'.rows) c) (answer_in a)
-    (carried_out v.manager v.rows c a told v'.manager v'.rows is.law h) in
-    keeps_on_rows v v' t (is_granted t told) is
-    (record { law = over.law; names = call_keeps v.manager v'.manager v.rows v'.rows is.law is.names c a told h }) over.keeps
-    (over_parents (state_of v.manager) (state_of v'.manager) t (is_granted t told) over)
-    (call_stays v.manager v'.manager v.rows v'.rows is.law is.names over.keeps.kinds c a told h)
+    let course = call_course v.manager v'.manager v.rows v'.rows is.law is.names told c a h in
+    keeps_rows v v' t (is_granted t told) is
+    (over_carried v.manager own told v'.manager t is.law alive (own_named t (naming c v.rows v'.rows) c ∙ apart)
+    (own_stays (naming c v.rows v'.rows) c) (answer_in a) course.out) course.names

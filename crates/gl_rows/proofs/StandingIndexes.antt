@@ -1,8 +1,8 @@
 -- What others cannot change for a holder of a file or of intervals of its indexes, whatever they drop and make: an index that remains keeps its file and its
 -- intervals.
-use Rattle.std.specs.Prelude.{◌≡◌, ℕ, true, false, not, ◌||◌, List, [], ◌∷◌, None, is_some}
+use Rattle.std.specs.Prelude.{◌≡◌, ℕ, true, false, not, ◌||◌, List, [], ◌∷◌, is_some}
 use Rattle.std.specs.List.{list_all, list_any}
-use Rattle.std.proofs.Common.{refl, sym, ap, ap₂, subst, ◌∙◌, arith}
+use Rattle.std.proofs.Common.{refl, sym, ap, ap₂, subst, ◌∙◌, arith, inl, inr}
 use Rattle.gl_modes.proofs.NodeLemmas.{same_node-equal}
 use Rattle.gl_modes.proofs.Words.{and_both, no, not_true, or_elim}
 use Rattle.gl_modes.specs.declared.node.NodeId.{NodeId}
@@ -22,19 +22,15 @@ use Rattle.gl_model.specs.Tellings.{Told}
 use Rattle.gl_model.specs.declared.txn.TxnId.{TxnId}
 use Rattle.gl_steps.specs.declared.command.Answer.{Answer}
 use Rattle.gl_steps.specs.declared.command.Command.{Command}
-use Rattle.gl_steps.specs.declared.command.Command.TheVariants as command
 use Rattle.gl_steps.specs.Promises.{names}
-use Rattle.gl_steps.specs.Step.{Accepts, Run, Step}
-use Rattle.gl_steps.specs.Tests.{refusal_of}
-use Rattle.gl_steps.proofs.EachStep.{each_step}
+use Rattle.gl_steps.specs.Step.{Run, Step}
 use Rattle.gl_steps.proofs.OthersKeep.{birth_of, run_keeps}
-use Rattle.gl_steps.proofs.SchemaKeeps.{may_drop}
 use Rattle.gl_steps.proofs.StepsKeepLaw.{runs_keep_law, steps_keep_law}
 use Rattle.gl_rows.specs.Promises.{AreIndexes, OthersKeepByIndexes, effect_by}
 use Rattle.gl_rows.proofs.DroppedIndexes.{others_stay}
 use Rattle.gl_rows.proofs.KeptIndexes.{index_still}
-use Rattle.gl_rows.proofs.RowEffects.{OfEach, effect_under, under_more, under_same}
-use Rattle.gl_rows.proofs.RunsKeepIndexes.{accepted_keeps}
+use Rattle.gl_rows.proofs.RowEffects.{OfEach, rises_under, stays_under}
+use Rattle.gl_rows.proofs.RunsKeepIndexes.{KeepsOrDrops, step_keeps}
 
 -- an index that remains is one of the same file, and each key keeps its interval
 pub record StandsOn (g g' : Graph) (f i : NodeId) : Type 0 where
@@ -62,19 +58,12 @@ module _ (g : Graph) (law : IsLawfulGraph g) (n : NodeId) (movable : is_movable_
         intervals = λ key. others_stay g law n movable free f i key h other;
       }
 
-accepted_stand : (s : State) → IsLawful s → (c : Command) (a : Answer) (told : Told) (s' : State) → refusal_of s c ≡ None → Accepts s c a told s'
-    → AllStand s.graph s'.graph
-accepted_stand s law (command.Drop t n) a told s' free acc =
-    let may = may_drop s t n free in
-    subst (AllStand s.graph) (sym (ap (λ z. z.graph) acc.2)) (left_stand s.graph law.graph n may.movable may.free)
-accepted_stand s law c a told s' free acc = λ f i h on.
-    let kept = accepted_keeps s law c a told s' refl free acc f in
-    record { index = index_still s.graph s'.graph f law.graph kept i h; intervals = λ key. kept.intervals i key h }
-
 step_stand : (s s' : State) (c : Command) (a : Answer) (told : Told) → IsLawful s → Step s c a told s' → AllStand s.graph s'.graph
-step_stand s s' c a told law step =
-    each_step (λ x. AllStand s.graph x.graph) s c a told s' (stand_itself s.graph) (λ next kept. kept)
-    (λ free next acc. accepted_stand s law c a told next free acc) step
+step_stand s s' c a told law step = by (step_keeps s s' c a told law step)
+  where
+    by : KeepsOrDrops s.graph c s'.graph → AllStand s.graph s'.graph
+    by (inl all) = λ f i h on. record { index = index_still s.graph s'.graph f law.graph (all f) i h; intervals = λ key. (all f).intervals i key h }
+    by (inr (n, drops, is)) = subst (AllStand s.graph) (sym is) (left_stand s.graph law.graph n drops.movable drops.free)
 
 -- a node that lives before and after a run lived all along, since no birth is given twice
 run_stand : (cs : List Command) (rs : List (Answer × Told)) (s s' : State) (t : TxnId) → IsLawful s → Run s cs rs s' → lives s t ≡ true
@@ -124,30 +113,17 @@ module _ (s s' : State) (law : IsLawful s) (law' : IsLawful s') (stand : AllStan
       ap₂ (λ x xs. x ∷ xs) ((stand f i a.0 (index_live s'.graph f i b.0)).intervals key) (intervals_same is keys a.1 b.1)
 
   module _ (is : List NodeId) (keys : List ℕ) (was : AreIndexes s.graph f is) (are : AreIndexes s'.graph f is) where
-    abbrev parents : List NodeId
-    parents = f ∷ intervals_of s.graph is keys
-
-    same : f ∷ intervals_of s'.graph is keys ≡ parents
+    same : f ∷ intervals_of s'.graph is keys ≡ f ∷ intervals_of s.graph is keys
     same = ap (λ ps. f ∷ ps) (intervals_same is keys was.indexes are.indexes)
-
-    before : OfEach parents (λ p. is_live s.graph p ≡ true)
-    before = parents_live s.graph law.graph f is keys was
-
-    behind : OfEach parents (λ p. is_live s'.graph p ≡ true)
-    behind = subst (λ ps. OfEach ps (λ p. is_live s'.graph p ≡ true)) same (parents_live s'.graph law'.graph f is keys are)
 
     by_same : (t : ℕ) → ((p : NodeId) → is_live s.graph p ≡ true → is_live s'.graph p ≡ true → effective s' t p ≡ effective s t p)
         → effect_by s' t f is keys ≡ effect_by s t f is keys
-    by_same t each =
-        ap (effect_under (effective s' t)) same
-        ∙ under_same (effective s' t) (effective s t) parents (λ p on. each p (before p on) (behind p on))
+    by_same = stays_under s s' _ _ same (parents_live s.graph law.graph f is keys was) (parents_live s'.graph law'.graph f is keys are)
 
     by_more : (t : ℕ)
         → ((p : NodeId) → is_live s.graph p ≡ true → is_live s'.graph p ≡ true → is_at_least_effect (effective s' t p) (effective s t p) ≡ true)
         → is_at_least_effect (effect_by s' t f is keys) (effect_by s t f is keys) ≡ true
-    by_more t each =
-        ap (λ ps. is_at_least_effect (effect_under (effective s' t) ps) (effect_under (effective s t) parents)) same
-        ∙ under_more (effective s' t) (effective s t) parents (λ p on. each p (before p on) (behind p on))
+    by_more = rises_under s s' _ _ same (parents_live s.graph law.graph f is keys was) (parents_live s'.graph law'.graph f is keys are)
 
 pub others_keep_by_indexes : OthersKeepByIndexes
 others_keep_by_indexes s s' cs rs t law run alive apart =

@@ -1,5 +1,5 @@
 -- Adopting and forgetting records changes only the graph and the counts. For the calls about rows, and for guards of a registry.
-use Rattle.std.specs.Prelude.{◌≡◌, ◌⊎◌, ◌+◌, ◌<◌, ◌++◌, true, List, [], ◌∷◌, Option, Some, None, map}
+use Rattle.std.specs.Prelude.{◌≡◌, ◌⊎◌, ◌+◌, ◌<◌, true, List, [], ◌∷◌, Option, Some, None, map}
 use Rattle.std.specs.List.{list_all}
 use Rattle.std.proofs.Common.{refl, sym, ap, subst, ◌∙◌, arith, inl, inr}
 use Rattle.gl_modes.proofs.Words.{and_both, both, no}
@@ -24,23 +24,6 @@ upkeep_none s s' same = record { lines = []; run = same; kept = refl }
 -- one command
 pub upkeep_one : (s s' : State) (l : Line) → is_upkeep l.0 ≡ true → Runs s (l ∷ []) s' → Upkeep s s'
 upkeep_one s s' l is run = record { lines = l ∷ []; run = run; kept = both _ _ is refl }
-
-runs_then : (s mid s' : State) (xs ys : List Line) → Runs s xs mid → Runs mid ys s' → Runs s (xs ++ ys) s'
-runs_then s mid s' [] ys run next = subst (λ (x : State). Runs x ys s') run next
-runs_then s mid s' (x ∷ xs) ys run next = (run.0, run.1, runs_then run.0 mid s' xs ys run.2 next)
-
-all_then : (xs ys : List Line) → list_all (λ l. is_upkeep l.0) xs ≡ true → list_all (λ l. is_upkeep l.0) ys ≡ true
-    → list_all (λ l. is_upkeep l.0) (xs ++ ys) ≡ true
-all_then [] ys h k = k
-all_then (x ∷ xs) ys h k = let b = and_both _ _ h in both _ _ b.0 (all_then xs ys b.1 k)
-
--- one after the other
-pub upkeep_then : (s mid s' : State) → Upkeep s mid → Upkeep mid s' → Upkeep s s'
-upkeep_then s mid s' a b = record {
-  lines = a.lines ++ b.lines;
-  run = runs_then s mid s' a.lines b.lines a.run b.run;
-  kept = all_then a.lines b.lines a.kept b.kept;
-}
 
 -- all but the graph and the count of accepted commands stays, and that count stays or grows
 pub record LeavesAll (s s' : State) : Type 0 where

@@ -2,7 +2,9 @@ use Rattle.std.proofs.Common.{◌≡◌, ◌∙◌, Bool, Some, false, ap, subst
 use Rattle.gl_rows.specs.Owned.{registry_of}
 use Rattle.gl_rows.specs.Rows.{RegistryView}
 use Rattle.gl_rows.specs.Serving.{ServesBy, touches_rows}
-use Rattle.gl_rows.proofs.Dropped.{left_hold}
+use Rattle.gl_rows.proofs.Dropped.{served_changes}
+use Rattle.gl_rows.proofs.NameChanges.{changed_hold}
+use Rattle.gl_catalog.specs.Manager.{state_of}
 use Rattle.gl_rows.proofs.registry.Registry.serve.Goals as goal
 
 -- it touches no row
@@ -11,9 +13,10 @@ off c = ap (λ (v : RegistryView). touches_rows v c.args.command) c.self.view_is
 
 pub invariant_of-self : goal.invariant_of-self
 invariant_of-self c =
-    left_hold (registry_of c.self.inside) c.law.ensures.lawful _ c.args.command c.apply_telling-answer.result c.apply_telling-answer.new.told.items
-    c.note.new.self (off c)
-    c.apply_telling-answer.ensures.step c.self.invariant c.note.ensures
+    changed_hold c.self.inside.rows c.note.new.self _ _
+    (served_changes (registry_of c.self.inside) c.law.ensures.lawful c.self.invariant (state_of c.apply_telling-answer.new.self) c.args.command
+    c.apply_telling-answer.result c.apply_telling-answer.new.told.items c.note.new.self (off c) c.apply_telling-answer.ensures.step c.note.ensures)
+    c.self.invariant
 
 pub returns : goal.returns
 returns c =

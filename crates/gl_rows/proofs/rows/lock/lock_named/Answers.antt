@@ -28,19 +28,21 @@ returns-in_ok-node-in-Occupied-clause-locks c =
     let w : Wish = record { txn = c.args.t; row = c.args.row; keys = c.args.keys; mode = c.args.mode } in
     let stale : IsStale (state_of c.args.manager.now) c.get-named.result.now w.keys = record { idle = search rules; others = search rules } in
     rw c.first.ensures
-    (renewed c.args.manager.now c.args.files.now.keys w c.args.told.now.items c.renew.new.manager c.args.names.now.entries _ c.get-named.result.now
-    (search rules) stale c.in_ok-node-in-Occupied.node c.in_ok-node-in-Occupied.ensures c.requires.empty
+    (renewed c.args.manager.now c.args.files.now.keys w c.args.told.now.items c.renew.new.manager c.args.names.now.entries _
+    c.in_ok-node-in-Occupied.node c.requires.empty
     (renames_so c.args.names.now.entries (map_with_value c.in-Ok.entry c.in_ok-node-in-Occupied.node).entries _ c.args.row _ (search rules)
-    (c.in-Ok.ensures.update.0 c.in_ok-node-in-Occupied.node).0))
+    (c.in-Ok.ensures.update.0 c.in_ok-node-in-Occupied.node).0)
+    c.get-named.result.now (search rules) stale c.in_ok-node-in-Occupied.ensures)
 
 pub returns-in_ok-node-in-Vacant-clause-locks : goal.returns-in_ok-node-in-Vacant-clause-locks
 returns-in_ok-node-in-Vacant-clause-locks c =
     let w : Wish = record { txn = c.args.t; row = c.args.row; keys = c.args.keys; mode = c.args.mode } in
     rw c.first-in-Vacant.ensures
     (vacant_locked c.args.manager.now c.args.files.now.keys w c.args.told.now.items c.adopt_locked.new.self c.args.names.now.entries _
-    (search rules) (search rules) c.in_ok-node-in-Vacant.node c.in_ok-node-in-Vacant.ensures.adopts c.requires.empty
+    c.in_ok-node-in-Vacant.node c.requires.empty
     (renames_so c.args.names.now.entries (map_with_value c.in-Ok.entry c.in_ok-node-in-Vacant.node).entries _ c.args.row _ (search rules)
-    (c.in-Ok.ensures.update.0 c.in_ok-node-in-Vacant.node).0))
+    (c.in-Ok.ensures.update.0 c.in_ok-node-in-Vacant.node).0)
+    (search rules) (search rules) c.in_ok-node-in-Vacant.ensures.adopts)
 
 pub returns-then-own_keys-clause-lives : goal.returns-then-own_keys-clause-lives
 returns-then-own_keys-clause-lives c =

@@ -1,8 +1,8 @@
 use Rattle.std.proofs.Common.{arith}
 use Rattle.gl_catalog.specs.Manager.{state_of}
 use Rattle.gl_rows.specs.Locking.{Wish}
-use Rattle.gl_rows.proofs.Adopted.{forget_ok}
-use Rattle.gl_rows.proofs.LockedAtOnce.{old_may_go}
+use Rattle.gl_rows.proofs.Accepted.{forget_ok}
+use Rattle.gl_rows.proofs.Adopted.{old_may_go}
 use Rattle.gl_rows.proofs.rows.lock.renew.Goals as goal
 
 pub unwrap-requires : goal.unwrap-requires
