@@ -43,11 +43,8 @@ module _ (v : RegistryView) (law : IsLawful (state_of v.manager)) (holds : Names
   s = state_of v.manager
 
   off_touches : (c : Command) → touches_rows v c ≡ false → touches (has_rows v.rows) s.graph c ≡ false
-  off_touches (command.Insert t f keys) off = off
-  off_touches (command.Adopt f keys) off = off
-  off_touches (command.Delete t r) off = off
-  off_touches (command.Forget r) off = off
-  off_touches c off = refl
+  off_touches (command.Rekey t r i key) off = refl
+  off_touches c off = off
 
   -- the dropped node does not live any more
   gone : (t : TxnId) (n : NodeId) (told : Told) → Step s (command.Drop t n) answer.Done told s' → is_live s'.graph n ≡ false

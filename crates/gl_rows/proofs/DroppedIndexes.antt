@@ -1,8 +1,10 @@
 -- A node is dropped: a file keeps its other indexes, and if a file and its keys are a row before and after, its parents are the same nodes.
-use Rattle.std.specs.Prelude.{◌≡◌, ℕ, suc, ◌<◌, ◌≤◌, Bool, true, false, not, ◌||◌, List, [], ◌∷◌, ◌++◌, length, Some, nat_le, if◌then◌else◌}
+use Rattle.std.specs.Prelude.{◌≡◌, ℕ, ◌≤◌, Bool, true, false, not, List, [], ◌∷◌, ◌++◌, length, Some, nat_le, if◌then◌else◌}
 use Rattle.std.specs.List.{filter, list_all, list_any}
-use Rattle.std.proofs.Common.{refl, sym, ap, subst, ◌∙◌, arith}
+use Rattle.std.proofs.Common.{refl, sym, ap, ◌∙◌, arith}
+use Rattle.std.proofs.lemmas.List.{nil_from_length}
 use Rattle.std.proofs.lemmas.List.Elements.{filter-append}
+use Rattle.std.proofs.lemmas.List.Filters.{length-filter_both}
 use Rattle.std.proofs.lemmas.List.Sums.{count_by-le-length}
 use Rattle.gl_modes.proofs.Words.{and_both, clash, no, not_true, split}
 use Rattle.gl_modes.proofs.NodeLemmas.{same_node-equal}
@@ -18,6 +20,7 @@ use Rattle.gl_graph.proofs.Distinct.{index_listed}
 use Rattle.gl_graph.proofs.KindRules.{index_of, index_plain, plain_live}
 use Rattle.gl_graph.proofs.Look.{all_filter}
 use Rattle.gl_graph.proofs.RecordParents.{index_of_index}
+use Rattle.gl_steps.proofs.ToldGrants.{any_filtered}
 use Rattle.gl_rows.specs.Promises.{IsRow}
 use Rattle.gl_rows.proofs.KeptIndexes.{KeepsIndexes, index_still, keeps_itself, same_parents}
 
@@ -27,30 +30,6 @@ all_pass q p [] all each = refl
 all_pass q p (x ∷ xs) all each =
     let t = and_both (q x) (list_all q xs) all in
     ap (λ b. if b then x ∷ filter p xs else filter p xs) (each x t.0) ∙ ap (λ ys. x ∷ ys) (all_pass q p xs t.1 each)
-
--- without an element a list is no longer than before, and shorter if it had the element
-not_longer : (n : NodeId) (xs : List NodeId) → length (filter (λ i. not (same_node n i)) xs) ≤ length xs
-not_longer n [] = omega arith
-not_longer n (x ∷ xs) =
-    let rest = not_longer n xs in
-    split (same_node n x)
-    (λ t. subst (λ b. length (if not b then x ∷ filter (λ i. not (same_node n i)) xs else filter (λ i. not (same_node n i)) xs) ≤ suc (length xs)) (sym t)
-    (omega arith))
-    (λ t. subst (λ b. length (if not b then x ∷ filter (λ i. not (same_node n i)) xs else filter (λ i. not (same_node n i)) xs) ≤ suc (length xs)) (sym t)
-    (omega arith))
-
-shorter : (n : NodeId) (xs : List NodeId) → list_any (same_node n) xs ≡ true → length (filter (λ i. not (same_node n i)) xs) < length xs
-shorter n [] h = absurd (no h)
-shorter n (x ∷ xs) h =
-    split (same_node n x)
-    (λ t.
-    let rest = not_longer n xs in
-    subst (λ b. length (if not b then x ∷ filter (λ i. not (same_node n i)) xs else filter (λ i. not (same_node n i)) xs) < suc (length xs)) (sym t)
-    (omega arith))
-    (λ t.
-    let rest = shorter n xs (sym (ap (λ b. b || list_any (same_node n) xs) t) ∙ h) in
-    subst (λ b. length (if not b then x ∷ filter (λ i. not (same_node n i)) xs else filter (λ i. not (same_node n i)) xs) < suc (length xs)) (sym t)
-    (omega arith))
 
 module _ (m : Graph) (law : IsLawfulGraph m) (n : NodeId) (movable : is_movable_shape (shape_of m n) ≡ true) (free : is_in_use m n ≡ false) where
   abbrev left : Graph
@@ -94,9 +73,10 @@ module _ (m : Graph) (law : IsLawfulGraph m) (n : NodeId) (movable : is_movable_
   dropped_parents f keys row row' =
       split (is_index_of_shape f (shape_of m n))
       (λ one.
-      let fewer = shorter n (indexes_of m f) (index_listed m law f n (live m law n movable free) one) in
+      let there = any_filtered (same_node n) (same_node n) (indexes_of m f) (λ x h. h) (index_listed m law f n (live m law n movable free) one) in
+      let both = length-filter_both (same_node n) (λ i. not (same_node n i)) (λ i. refl) (indexes_of m f) in
       let same : length (indexes_of left f) ≡ length (filter (λ i. not (same_node n i)) (indexes_of m f)) = ap length (indexes_left m law n movable free f) in
       let was = row.a_key_each in
       let is = row'.a_key_each in
-      absurd (omega arith))
+      clash there (ap (list_any (same_node n)) (nil_from_length (filter (same_node n) (indexes_of m f)) (omega arith))))
       (λ none. same_parents m left f (dropped_keeps m f law (keeps_itself m f) none) keys row row')

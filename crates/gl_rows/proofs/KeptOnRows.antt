@@ -1,9 +1,9 @@
 -- The effective modes on rows that a transaction keeps, by all its locks: it keeps its locks and the effective modes on nodes that remain, and a node that
 -- lives before and after has the same row. For the laws of rows.
-use Rattle.std.specs.Prelude.{◌≡◌, ◌⊎◌, ◌||◌, ℕ, Bool, true, false, not, List, Option, Some, None}
-use Rattle.std.proofs.Common.{refl, sym, ap, ap₂, ◌∙◌, inl, inr, rules}
+use Rattle.std.specs.Prelude.{◌≡◌, ◌||◌, ℕ, Bool, true, false, not, List, Option, Some, None}
+use Rattle.std.proofs.Common.{refl, sym, ap, ap₂, ◌∙◌, rules}
 use Rattle.std.proofs.Math.Bool.{or-false}
-use Rattle.gl_modes.proofs.Words.{cases_of, clash, no as never, none_some, not_true, some_is, split}
+use Rattle.gl_modes.proofs.Words.{cases_of, clash, none_some, not_true, some_is, split}
 use Rattle.gl_modes.specs.declared.mode.Mode.{Mode}
 use Rattle.gl_modes.specs.declared.mode.Mode.TheVariants.{NL}
 use Rattle.gl_modes.specs.declared.node.NodeId.{NodeId}
@@ -28,14 +28,7 @@ use Rattle.gl_rows.proofs.RowEffects.{as_great, reads_at, writes_at}
 -- an effective mode that is at least another is what both give together
 both_make : (e : Effect) (w r : Bool) → is_at_least_effect e (effect_of w r) ≡ true
     → effect_of (w || is_at_least_effect e effect.X) (r || is_at_least_effect e effect.S) ≡ e
-both_make effect.X true r h = refl
-both_make effect.X false r h = refl
-both_make effect.S true r h = absurd (never h)
-both_make effect.S false true h = refl
-both_make effect.S false false h = refl
-both_make effect.None true r h = absurd (never h)
-both_make effect.None false true h = absurd (never h)
-both_make effect.None false false h = refl
+both_make e w r h = search rules
 
 -- a mode that is NL or less is NL
 none_less : (a b : Mode) → is_at_least a b ≡ true → a ≡ NL → b ≡ NL

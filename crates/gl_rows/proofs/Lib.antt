@@ -3,7 +3,6 @@ mod Accepted
 mod Adopted
 mod GraphChanges
 mod LettingGo
-mod Lockers
 mod NameChanges
 mod RowLocks
 mod RowNames

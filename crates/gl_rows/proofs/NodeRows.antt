@@ -1,6 +1,6 @@
 -- No row of a registry can be written by one transaction and read by another, by any locks.
-use Rattle.std.specs.Prelude.{◌≡◌, ◌≢◌, ◌||◌, ℕ, Bool, true, false, List, Option, Some, None}
-use Rattle.std.proofs.Common.{refl, sym, ap, subst, ◌∙◌}
+use Rattle.std.specs.Prelude.{◌≡◌, ◌≢◌, ◌||◌, ℕ, Bool, true, List, Option, Some, None}
+use Rattle.std.proofs.Common.{refl, rules, sym, ap, subst, ◌∙◌}
 use Rattle.std.proofs.Math.Bool.{or-false}
 use Rattle.gl_modes.proofs.Words.{or_elim}
 use Rattle.gl_modes.specs.declared.node.NodeId.{NodeId}
@@ -20,11 +20,10 @@ use Rattle.gl_rows.proofs.StandingRows.{records_have_row_effects}
 
 -- a writer has X, and a reader at least S
 writes_x : (w r : Bool) → w ≡ true → is_at_least_effect (effect_of w r) effect.X ≡ true
-writes_x w r e = ap (λ b. is_at_least_effect (effect_of b r) effect.X) e
+writes_x w r e = search rules
 
 reads_s : (w r : Bool) → r ≡ true → is_at_least_effect (effect_of w r) effect.S ≡ true
-reads_s true r e = refl
-reads_s false r e = ap (λ b. is_at_least_effect (effect_of false b) effect.S) e
+reads_s w r e = search rules
 
 module _ (v : RegistryView) (law : IsLawful (state_of v.manager)) (holds : NamesHold v.rows (state_of v.manager).graph) (row : Row) (keys : List ℕ)
     (own : OwnKeys v row keys) where

@@ -37,9 +37,7 @@ pub x_there : (s : State) (t : ℕ) (n : NodeId) → writes_at s t n ≡ true �
 x_there s t n h = by (eff_x (node_count s.graph) s.graph (s.held t) n) (eff_s (node_count s.graph) s.graph (s.held t) n) h
   where
     by : (x r : Bool) → is_at_least_effect (effect_of x r) effect.X ≡ true → x ≡ true
-    by true r k = refl
-    by false true k = absurd (no k)
-    by false false k = absurd (no k)
+    by x r k = search rules
 
 pub there_x : (s : State) (t : ℕ) (n : NodeId) → EffX s t n → writes_at s t n ≡ true
 there_x s t n x = ap (λ b. is_at_least_effect (effect_of b (eff_s (node_count s.graph) s.graph (s.held t) n)) effect.X) x
@@ -48,9 +46,7 @@ pub there_s : (s : State) (t : ℕ) (n : NodeId) → EffS s t n → reads_at s t
 there_s s t n r = by (eff_x (node_count s.graph) s.graph (s.held t) n) (eff_s (node_count s.graph) s.graph (s.held t) n) r
   where
     by : (x b : Bool) → b ≡ true → is_at_least_effect (effect_of x b) effect.S ≡ true
-    by true b k = refl
-    by false true k = refl
-    by false false k = absurd (no k)
+    by x b k = search rules
 
 -- of each of these nodes
 abbrev pub OfEach : List NodeId → (NodeId → Type 0) → Type 0

@@ -1,12 +1,11 @@
 -- Equal rows, and the nodes of rows after one row gets a new node.
-use Rattle.std.specs.Prelude.{◌≡◌, Option, List, Some, cond, true}
+use Rattle.std.specs.Prelude.{◌≡◌, Option, Some, cond, true}
 use Rattle.std.specs.Map.{lookup}
-use Rattle.std.proofs.Common.{refl, sym, ap, ap₂, subst, ◌∙◌}
+use Rattle.std.proofs.Common.{refl, sym, ap, subst, ◌∙◌}
 use Rattle.gl_modes.proofs.NodeLemmas.{same_node-equal, same_node-refl}
 use Rattle.gl_modes.proofs.Words.{and_both, both, clash, number_same, same_number, split}
 use Rattle.gl_modes.specs.declared.node.NodeId.{NodeId}
 use Rattle.gl_rows.specs.Locking.{Names, Renames}
-use Rattle.gl_rows.specs.Naming.{with_asked}
 use Rattle.gl_rows.specs.Rows.{same_row}
 use Rattle.gl_rows.specs.declared.row.Row.{Row}
 
@@ -32,11 +31,6 @@ pub keeps_name : (ns : Names) (row : Row) (n : NodeId) → node_in ns row ≡ So
 keeps_name ns row n named q = split (same_row row q)
     (λ e. ap (λ b. cond b (Some n) (node_in ns q)) e ∙ sym named ∙ ap (node_in ns) (same_row-equal row q e))
     (λ e. ap (λ b. cond b (Some n) (node_in ns q)) e)
-
--- the same nodes and the same rows asked for are the same view
-pub same_view : (files : List NodeId) (ns ns' : Names) (asked asked' : List (List Row)) → ns' ≡ ns → asked' ≡ asked
-    → with_asked files ns' asked' ≡ with_asked files ns asked
-same_view files ns ns' asked asked' same asks = ap₂ (λ a b. with_asked files a b) same asks
 
 -- an equal list renames the same
 pub renames_so : (ns es ns' : Names) (row : Row) (o : Option NodeId) → ns' ≡ es → Renames ns es row o → Renames ns ns' row o

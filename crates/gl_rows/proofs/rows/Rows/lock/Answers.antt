@@ -6,7 +6,7 @@ use Rattle.gl_rows.specs.Naming.{with_asked}
 use Rattle.gl_rows.specs.Rows.{RowsView}
 use Rattle.gl_rows.specs.Sound.{is_in, rows_of}
 use Rattle.gl_rows.proofs.RowNames.{same_row-sym}
-use Rattle.gl_rows.proofs.Lockers.{slot_inside}
+use Rattle.gl_rows.proofs.Accepted.{slot_inside}
 use Rattle.gl_rows.proofs.rows.Rows.lock.Goals as goal
 
 pub put-requires-clause-slot : goal.put-requires-clause-slot

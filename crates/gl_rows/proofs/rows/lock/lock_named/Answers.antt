@@ -4,7 +4,7 @@ use Rattle.gl_modes.proofs.Words.{clash}
 use Rattle.indexmap.specs.Entry.{map_with_value}
 use Rattle.gl_catalog.specs.Manager.{state_of}
 use Rattle.gl_rows.specs.Locking.{HasKeys, IsStale, Wish}
-use Rattle.gl_rows.proofs.Lockers.{adopter_lives, locker_lives}
+use Rattle.gl_rows.proofs.Accepted.{adopter_lives, locker_lives}
 use Rattle.gl_rows.proofs.RowNames.{renames_so}
 use Rattle.gl_rows.proofs.RowLocks.{renewed, stands_locked, vacant_locked}
 use Rattle.gl_rows.proofs.rows.lock.lock_named.Goals.{then-own_keys-via-then-own_keys, then-own_keys-via-else-own_keys+then-not-is_idle}
