@@ -1,11 +1,10 @@
--- Waits that end along several calls, and waiters that wait on.
+-- Waiters: which of them wait on, and which slots are due.
 use Rattle.gl_slots.specs.declared.slots.Slots.{Slots}
 use Rattle.gl_slots.specs.Limit.{most_slots}
-use Rattle.std.specs.Prelude.{is_some, ◌+◌, ◌≡◌, ◌≢◌, ◌⊎◌, ℕ, zero, suc, ◌∷◌, length, replicate, slice_set, ◌<◌, ◌≤◌, ◌==◌, ◌||◌, ◌&&◌, not, Bool, true, false}
+use Rattle.std.specs.Prelude.{is_some, ◌≡◌, ◌≢◌, ◌⊎◌, ℕ, zero, suc, ◌∷◌, length, replicate, slice_set, ◌<◌, ◌≤◌, ◌==◌, ◌||◌, ◌&&◌, not, Bool, true, false}
 use Rattle.std.specs.Prelude.{List, []}
 use Rattle.std.specs.Prelude.{if◌then◌else◌, Option, Some, None, Result, Ok, Err}
 use Rattle.std.proofs.Common.{refl, sym, ap, subst, ◌∙◌, inl, inr, arith}
-use Rattle.std.proofs.Math.Bool.{or-true}
 use Rattle.std.proofs.lemmas.Bool.Decides.{nat_tests}
 use mathlib.Core.Bool.{true≢false}
 use Rattle.gl_modes.proofs.NodeLemmas.{same_node-refl}
@@ -31,8 +30,6 @@ use Rattle.gl_steps.specs.declared.command.Command.TheVariants as command
 use Rattle.gl_steps.specs.Promises.{waits_on}
 use Rattle.gl_catalog.specs.declared.manager.paths.Reached.{Reached}
 use Rattle.gl_catalog.specs.Manager.{state_of}
-use Rattle.gl_catalog.specs.Paths.{LocksPath}
-use Rattle.gl_rows.specs.Serving.{PathLeavesRows}
 use Rattle.gl_model.specs.declared.answers.Notice.{Notice}
 use Rattle.gl_model.specs.declared.answers.Notice.TheVariants as notice
 use Rattle.gl_modes.specs.Modes.{is_at_least}
@@ -45,52 +42,27 @@ use Rattle.gl_catalog.specs.Replies.{wait_of}
 use Rattle.gl_wakes.specs.Boxes.{Slot, box_at, by_notice, named, stopped, verdict_of}
 use Rattle.gl_wakes.specs.Wakes.{HasEnded}
 use Rattle.gl_wakes.proofs.Waking.{ended_none}
-use Rattle.gl_waiting.specs.Delivering.{Carries, DeliveryView, registry_in}
-use Rattle.gl_waiting.specs.Going.{CallThat, CallsOf, IsRun}
-use Rattle.gl_waiting.specs.Paths.{LocksPart}
-use Rattle.gl_waiting.proofs.Runs.{call_made, of_one}
-use Rattle.gl_waiting.specs.Waiters.{AnswersIn, Await, AwaitBut, TakesEnd, came_as, came_of, waits_as, waits_for_node, IsWaitingPlace, is_granted}
-use Rattle.gl_waiting.specs.Waiters.{place_at, stops_above, waiter_in}
-use Rattle.gl_rows.specs.declared.answer.RowLocked.{RowLocked}
-use Rattle.gl_rows.specs.declared.answer.RowRefusal.{RowRefusal}
-use Rattle.gl_rows.specs.declared.answer.RowRefusal.TheVariants as row_no
-use Rattle.gl_waiting.proofs.RowLocking.{row_waits_as}
-use Rattle.gl_waiting.specs.Asking.{Requests}
-use Rattle.gl_waiting.specs.RowLocks.{row_came_of}
-use Rattle.gl_waiting.specs.declared.waiter.Request.{Request}
-use Rattle.gl_waiting.specs.declared.waiter.Request.TheVariants as request
+use Rattle.gl_wakes.specs.declared.grant.Grant.{Grant}
+use Rattle.gl_wakes.specs.declared.grant.Stop.{Stop}
+use Rattle.gl_waiting.specs.Delivering.{Carries, DeliveryView}
+use Rattle.gl_waiting.specs.Waiters.{KnowsDue, WaitsStill, by_verdict, came_as, came_of, granted_to, holds_or_ends, is_held, next_in, next_of}
+use Rattle.gl_waiting.specs.Waiters.{place_at, place_of, waiter_in, waits_as, waits_for_node}
 use Rattle.gl_waiting.specs.Waiting.{WaitingView}
 use Rattle.gl_waiting.specs.Begins.{BeginsView}
 use Rattle.gl_waiting.specs.declared.waiter.Came.{Came}
 use Rattle.gl_waiting.specs.declared.waiter.Came.TheVariants as came
-use Rattle.gl_waiting.specs.declared.waiter.Outcome.{Outcome}
+use Rattle.gl_waiting.specs.declared.waiter.Next.{Next}
 use Rattle.gl_waiting.specs.declared.waiter.Place.{Place}
 use Rattle.gl_waiting.specs.declared.waiter.Place.TheVariants as place
 use Rattle.gl_waiting.specs.declared.waiter.Waiter.{Waiter}
-use Rattle.gl_waiting.proofs.Paths.{way_granted, way_runs}
 
 -- this set has the slots of both
 abbrev pub Joins : Slots → Slots → Slots → Type 0
 Joins both one other = (u : ℕ) → has_slot both u ≡ (has_slot one u || has_slot other u)
 
--- whose wait ended along one call or the next
-pub ended_then : (s mid s' : State) (one other both : Slots) → Joins both one other → IsLawful mid → HasEnded s mid one → HasEnded mid s' other
-    → HasEnded s s' both
-ended_then s mid s' one other both joins law first second lawful t n below was gone = joins t.slot ∙ by (waits_on mid t n) refl
-  where
-    by : (b : Bool) → waits_on mid t n ≡ b → (has_slot one t.slot || has_slot other t.slot) ≡ true
-    by true e = ap (λ b. has_slot one t.slot || b) (second law t n below e gone) ∙ or-true (has_slot one t.slot)
-    by false e = ap (λ b. b || has_slot other t.slot) (first lawful t n below was e)
-
 -- nobody's wait ended, or a command was counted
 abbrev Counted : Slots → ℕ → ℕ → Type 0
 Counted slots k m = HasNoSlot slots ⊎ (k < m)
-
-pub counted_then : (one other both : Slots) (k m n : ℕ) → Joins both one other → k ≤ m → m ≤ n → Counted one k m → Counted other m n → Counted both k n
-counted_then one other both k m n joins low high (inr more) second = inr (omega (arith, more, high))
-counted_then one other both k m n joins low high (inl none) (inr more) = inr (omega (arith, more, low))
-counted_then one other both k m n joins low high (inl none) (inl idle) =
-    inl (λ u. joins u ∙ ap (λ b. b || has_slot other u) (none u) ∙ idle u)
 
 module _ (d d' : DeliveryView) (c : Command) (told : Told) (ended : Slots) where
   pub carries_ended : Carries d c told ended d' → HasEnded (state_of d.manager) (state_of d'.manager) ended
@@ -105,33 +77,6 @@ module _ (d d' : DeliveryView) (c : Command) (told : Told) (ended : Slots) where
   pub carries_low : Carries d c told ended d' → d.manager.accepted ≤ d'.manager.accepted
   carries_low (inl so) = let more = so.0 in omega (arith, more)
   carries_low (inr idle) = let same : d'.manager.accepted ≡ d.manager.accepted = ap (λ (x : DeliveryView). x.manager.accepted) idle.same in omega (arith, same)
-
-module _ (t : TxnId) (node : NodeId) (mode : Mode) (d d' : DeliveryView) (told : Told) where
-  -- a path is a run
-  pub locks_run : (result : Result Reached Refusal) → PathLeavesRows t (node, mode) (registry_in d) result told (registry_in d')
-      → IsRun (state_of d.manager) (state_of d'.manager)
-  locks_run result way = way_runs t (node, mode) d.manager d'.manager told result way.untold way.path
-
-  -- so it is one call
-  pub locks_calls : (c : Command) (ended : Slots) (result : Result Reached Refusal) → Carries d c told ended d'
-      → PathLeavesRows t (node, mode) (registry_in d) result told (registry_in d') → CallsOf (CallThat (LocksPart t (node, mode))) d d'
-  locks_calls c ended result carries way =
-      of_one (CallThat (LocksPart t (node, mode))) d d' (call_made d d' c told ended carries (locks_run result way), (result, way))
-
-  -- one that stops above its node is counted
-  pub stops_counted : (result : Result Reached Refusal) → stops_above node result ≡ true
-      → PathLeavesRows t (node, mode) (registry_in d) result told (registry_in d')
-      → d.manager.accepted < d'.manager.accepted
-  stops_counted (Err r) e way = absurd (true≢false (sym e))
-  stops_counted (Ok x) e way = by x.locked refl (and_both _ _ e).0
-    where
-      by : (y : Locked) → x.locked ≡ y → (z : is_granted x.locked ≡ true) → d.manager.accepted < d'.manager.accepted
-      by (locked.Granted m) is z =
-          way_granted t (node, mode) d.manager d'.manager told x.node m
-          (subst (λ (r : Reached). LocksPath t (node, mode) d.manager told (Ok r) d'.manager)
-          (λ i. record { node = x.node; locked = is i }) way.path)
-      by locked.Waiting is z = absurd (true≢false (sym z ∙ ap is_granted is))
-      by locked.Victim is z = absurd (true≢false (sym z ∙ ap is_granted is))
 
 -- Places.
 
@@ -170,164 +115,8 @@ first_false a b e = (or_false a b e).0
 false_or : (a b : Bool) → a ≡ false → b ≡ false → (a || b) ≡ false
 false_or a b one other = cc
 
--- fewer slots are due
-pub await_more : (due more : ℕ → Bool) (s : State) (places : List Place) → ((u : ℕ) → more u ≡ false → due u ≡ false) → AwaitBut due s places
-    → AwaitBut more s places
-await_more due more s places less h = record { own = h.own; waits = λ u w is out. h.waits u w is (less u out) }
-
-module _ (rest : ℕ → Bool) (slot : ℕ) (s : State) (places : List Place) (h : AwaitBut (λ u. rest u || (u == slot)) s places) where
-  -- a waiter of the slot still waits, or there is none
-  pub await_still : (ended : Slots) → HasNoSlot ended → ((w : Waiter) → place_at places slot ≡ place.Waits w → waits_on s w.txn w.at ≡ true)
-      → AwaitBut (λ u. rest u || has_slot ended u) s places
-  await_still ended none still = record { own = h.own; waits = λ u w is out. by u w is (or_false _ _ out).0 (u == slot) refl }
-    where
-      by : (u : ℕ) (w : Waiter) → place_at places u ≡ place.Waits w → rest u ≡ false → (b : Bool) → (u == slot) ≡ b → waits_on s w.txn w.at ≡ true
-      by u w is out true e = still w (ap (place_at places) (sym (same_slot u slot e)) ∙ is)
-      by u w is out false e = h.waits u w is (false_or _ _ out e)
-
-  -- something else belongs to the slot now, and waits of others may have ended
-  pub await_put : (s' : State) (ended : Slots) (t : TxnId) (p : Place) → IsLawful s → HasEnded s s' ended → IsWaitingPlace s' t p → t.slot ≡ slot
-      → slot < length places → slot < most_slots → AwaitBut (λ u. rest u || has_slot ended u) s' (slice_set places slot p)
-  await_put s' ended t p law ends waiting own within below = record {
-    own = λ u w is. owns u w is (u == slot) refl;
-    waits = λ u w is out. waits u w is (or_false _ _ out) (u == slot) refl;
-  }
-    where
-      placed : (w : Waiter) (q : Place) → q ≡ place.Waits w → IsWaitingPlace s' t q → (w.txn ≡ t) × (waits_on s' t w.at ≡ true)
-      placed w q is x = subst (λ (y : Place). IsWaitingPlace s' t y) is x
-
-      here : (u : ℕ) (w : Waiter) → place_at (slice_set places slot p) u ≡ place.Waits w → u ≡ slot → (w.txn ≡ t) × (waits_on s' t w.at ≡ true)
-      here u w is so = placed w p (sym (set_there places slot p within) ∙ sym (ap (place_at (slice_set places slot p)) so) ∙ is) waiting
-
-      there : (u : ℕ) (w : Waiter) → place_at (slice_set places slot p) u ≡ place.Waits w → u ≢ slot → place_at places u ≡ place.Waits w
-      there u w is apart = sym (set_apart places slot u p apart) ∙ is
-
-      owns : (u : ℕ) (w : Waiter) → place_at (slice_set places slot p) u ≡ place.Waits w → (b : Bool) → (u == slot) ≡ b → (w.txn.slot ≡ u) × (u < most_slots)
-      owns u w is true e =
-          let so = same_slot u slot e in
-          (ap (λ (x : TxnId). x.slot) (here u w is so).0 ∙ own ∙ sym so, subst (λ k. k < most_slots) (sym so) below)
-      owns u w is false e = h.own u w (there u w is (apart_slot u slot e))
-
-      waits : (u : ℕ) (w : Waiter) → place_at (slice_set places slot p) u ≡ place.Waits w → (rest u ≡ false) × (has_slot ended u ≡ false) → (b : Bool)
-          → (u == slot) ≡ b → waits_on s' w.txn w.at ≡ true
-      waits u w is out true e =
-          let x = here u w is (same_slot u slot e) in subst (λ (y : TxnId). waits_on s' y w.at ≡ true) (sym x.0) x.1
-      waits u w is out false e = by (waits_on s' w.txn w.at) refl
-        where
-          was : place_at places u ≡ place.Waits w
-          was = there u w is (apart_slot u slot e)
-
-          by : (b : Bool) → waits_on s' w.txn w.at ≡ b → b ≡ true
-          by true now = refl
-          by false now =
-              let mine = h.own u w was in
-              let so = ends law w.txn w.at (subst (λ k. k < most_slots) (sym mine.0) mine.1) (h.waits u w was (false_or _ _ out.0 e)) now in
-              absurd (true≢false (sym so ∙ ap (has_slot ended) mine.0 ∙ out.1))
-
--- nothing belongs to any slot
-pub all_empty : (k u : ℕ) → place_at (replicate k place.Empty) u ≡ place.Empty
-all_empty zero u = refl
-all_empty (suc k) zero = refl
-all_empty (suc k) (suc u) = all_empty k u
-
--- waits of others have ended
-pub await_on : (s s' : State) (places : List Place) (ended : Slots) → Await s places → IsLawful s → HasEnded s s' ended → AwaitBut (has_slot ended) s' places
-await_on s s' places ended h law ends = record { own = h.own; waits = λ u w is out. by u w is out (waits_on s' w.txn w.at) refl }
-  where
-    by : (u : ℕ) (w : Waiter) → place_at places u ≡ place.Waits w → has_slot ended u ≡ false → (b : Bool) → waits_on s' w.txn w.at ≡ b → b ≡ true
-    by u w is out true now = refl
-    by u w is out false now =
-        let mine = h.own u w is in
-        let so = ends law w.txn w.at (subst (λ k. k < most_slots) (sym mine.0) mine.1) (h.waits u w is refl) now in
-        absurd (true≢false (sym so ∙ ap (has_slot ended) mine.0 ∙ out))
-
--- a waiter was registered, and waits of others have ended
-pub await_registered : (s s' : State) (places : List Place) (ended : Slots) (w : Waiter) → Await s places → IsLawful s → HasEnded s s' ended
-    → waits_on s' w.txn w.at ≡ true → length places ≡ most_slots → w.txn.slot < most_slots
-    → AwaitBut (has_slot ended) s' (slice_set places w.txn.slot (place.Waits w))
-await_registered s s' places ended w h law ends waits long below =
-    await_put (λ u. false) w.txn.slot s places (await_more (λ u. false) (λ u. false || (u == w.txn.slot)) s places (λ u out. refl) h) s' ended w.txn
-    (place.Waits w) law ends (refl, waits) refl (omega (arith, long, below)) below
-
--- no waiter
-pub await_none : (s : State) (k : ℕ) → Await s (replicate k place.Empty)
-await_none s k = record {
-  own = λ u w is. absurd (cc (all_empty k u, is));
-  waits = λ u w is out. absurd (cc (all_empty k u, is));
-}
-
-still_waits : (places : List Place) (slot u : ℕ) (w : Waiter) → place_at (slice_set places slot place.Empty) u ≡ place.Waits w
-    → place_at places u ≡ place.Waits w
-still_waits [] zero u w is = is
-still_waits [] (suc slot) u w is = is
-still_waits (p ∷ places) zero zero w is = absurd (cc is)
-still_waits (p ∷ places) zero (suc u) w is = is
-still_waits (p ∷ places) (suc slot) zero w is = is
-still_waits (p ∷ places) (suc slot) (suc u) w is = still_waits places slot u w is
-
--- an end was taken
-pub await_taken : (s : State) (places : List Place) (slot : ℕ) → Await s places → Await s (slice_set places slot place.Empty)
-await_taken s places slot h = record {
-  own = λ u w is. h.own u w (still_waits places slot u w is);
-  waits = λ u w is out. h.waits u w (still_waits places slot u w is) out;
-}
-
-pub await_ends : (s : State) (places places' : List Place) (o : Option (TxnId × Outcome)) → TakesEnd places o places' → Await s places → Await s places'
-await_ends s places places' (Some x) (slot, is, none, same) h = subst (Await s) (sym same) (await_taken s places slot h)
-await_ends s places places' None (none, same) h = subst (Await s) (sym same) h
-
-pub await_answers : (s : State) (p : Place) (slot : ℕ) (places places' : List Place) (otherwise c : Came) → AnswersIn p slot places otherwise c places'
-    → Await s places → Await s places'
-await_answers s (place.Waits w) slot places places' otherwise c (is, same) h = subst (Await s) (sym same) h
-await_answers s (place.Ended t outcome) slot places places' otherwise c (is, same) h = subst (Await s) (sym same) (await_taken s places slot h)
-await_answers s place.Empty slot places places' otherwise c (is, same) h = subst (Await s) (sym same) h
-
--- a wait was ended by its slot, and waits of others have ended
-pub await_ended : (s s' : State) (places : List Place) (ended : Slots) (t : TxnId) (outcome : Outcome) → Await s places → IsLawful s → HasEnded s s' ended
-    → length places ≡ most_slots → t.slot < most_slots
-    → AwaitBut (has_slot ended) s' (slice_set places t.slot (place.Ended t outcome))
-await_ended s s' places ended t outcome h law ends long below =
-    await_put (λ u. false) t.slot s places (await_more (λ u. false) (λ u. false || (u == t.slot)) s places (λ u out. refl) h) s' ended t
-    (place.Ended t outcome) law ends tt refl (omega (arith, long, below)) below
-
-pub long_enough : (places : List Place) (i : ℕ) → length places ≡ most_slots → i < most_slots → i < length places
-long_enough places i long below = omega (arith, long, below)
-
 pub set_here : (places : List Place) (i : ℕ) (p : Place) → length places ≡ most_slots → i < most_slots → place_at (slice_set places i p) i ≡ p
 set_here places i p long below = set_there places i p (omega (arith, long, below))
-
--- the waiter that a slot has
-pub waiter_there : (p : Place) (w : Waiter) → Some w ≡ waiter_in p → p ≡ place.Waits w
-waiter_there (place.Waits v) w e = cc
-waiter_there place.Empty w e = absurd (cc e)
-waiter_there (place.Ended t outcome) w e = absurd (cc e)
-
-pub waiter_none : (p : Place) (w : Waiter) → None ≡ waiter_in p → p ≡ place.Waits w → ⊥
-waiter_none (place.Waits v) w e is = cc
-waiter_none place.Empty w e is = cc
-waiter_none (place.Ended t outcome) w e is = cc
-
--- a slot is taken out of the first of two sets
-pub less_taken : (left now next : Slots) (slot : ℕ) → ((u : ℕ) → has_slot now u ≡ (has_slot left u && not (u == slot))) → (u : ℕ)
-    → (has_slot now u || has_slot next u || (u == slot)) ≡ false → (has_slot left u || has_slot next u) ≡ false
-less_taken left now next slot is u out = by (has_slot left u) (has_slot now u) (has_slot next u) (u == slot) (is u) out
-  where
-    by : (a b d e : Bool) → b ≡ (a && not e) → (b || d || e) ≡ false → (a || d) ≡ false
-    by a true d e is out = absurd (true≢false out)
-    by a false true e is out = absurd (true≢false out)
-    by a false false true is out = absurd (true≢false out)
-    by true false false false is out = absurd (true≢false (sym is))
-    by false false false false is out = refl
-
--- slots are added to the second of two sets
-pub more_joined : (now next ended both : Slots) → Joins both next ended → (u : ℕ) → (has_slot now u || has_slot both u) ≡ false
-    → (has_slot now u || has_slot next u || has_slot ended u) ≡ false
-more_joined now next ended both joins u out = by (has_slot now u) (has_slot both u) (has_slot next u) (has_slot ended u) (joins u) out
-  where
-    by : (a b d e : Bool) → b ≡ (d || e) → (a || b) ≡ false → (a || d || e) ≡ false
-    by true b d e is out = absurd (true≢false out)
-    by false true d e is out = absurd (true≢false out)
-    by false false d e is out = sym is
 
 -- What became of a wait is known unless it goes on.
 module _ (s : State) (t : TxnId) (n : NodeId) (k : Mode) where
@@ -350,6 +139,192 @@ module _ (s : State) (t : TxnId) (n : NodeId) (k : Mode) where
       by true false e = absurd (answered (named t (box_at boxes t.slot)) e)
       by false b e = absurd (cc e)
 
+-- a waiter that waits has nothing to do next
+pub still_none : (s : State) (boxes : List Slot) (p : Place) → WaitsStill s p → next_in s boxes p ≡ None
+still_none s boxes place.Empty waits = refl
+still_none s boxes (place.Holds w mode) waits = absurd waits
+still_none s boxes (place.Waits w) waits =
+    ap (by_verdict w)
+    (ap (λ b. if b then (if is_waiting_at s w.txn.slot w.at then None else by_notice s w.txn w.at w.wanted (named w.txn (box_at boxes w.txn.slot)))
+    else stopped no.NoSuchTxn) (and_both (lives s w.txn) _ waits).0
+    ∙ ap (λ b. if b then None else by_notice s w.txn w.at w.wanted (named w.txn (box_at boxes w.txn.slot))) (and_both (lives s w.txn) _ waits).1)
+
+first_same : (x y : Waiter × Next) → Some x ≡ Some y → Some x.0 ≡ Some y.0
+first_same x y e = let so : x ≡ y = cc e in ap (λ (z : Waiter × Next). Some z.0) so
+
+-- the waiter that goes on is that of its place
+pub next_waiter : (s : State) (boxes : List Slot) (p : Place) (w : Waiter) (x : Next) → next_in s boxes p ≡ Some (w, x) → waiter_in p ≡ Some w
+next_waiter s boxes place.Empty w x is = absurd (cc is)
+next_waiter s boxes (place.Holds v mode) w x is = first_same (v, next_of v (granted_to v mode)) (w, x) is
+next_waiter s boxes (place.Waits v) w x is = by (verdict_of s boxes v.txn v.at v.wanted) is
+  where
+    by : (o : Option (Result Grant Stop)) → by_verdict v o ≡ Some (w, x) → Some v ≡ Some w
+    by None is = absurd (cc is)
+    by (Some verdict) is = first_same (v, next_of v verdict) (w, x) is
+
+-- its slot is due
+pub next_due : (due : ℕ → Bool) (s : State) (boxes : List Slot) (places : List Place) (u : ℕ) (x : Waiter × Next) → KnowsDue due s places
+    → next_in s boxes (place_at places u) ≡ Some x → due u ≡ true
+next_due due s boxes places u x h is = by (due u) refl
+  where
+    by : (b : Bool) → due u ≡ b → b ≡ true
+    by true e = refl
+    by false e = absurd (cc (still_none s boxes (place_at places u) (h.still u e), is))
+
+-- no slot is due that has a waiter
+pub none_due : (s : State) (boxes : List Slot) (places : List Place) (due none : ℕ → Bool) → KnowsDue due s places
+    → ((u : ℕ) → next_in s boxes (place_at places u) ≡ None) → KnowsDue none s places
+none_due s boxes places due none h idle = record { own = h.own; still = λ u out. by (place_at places u) (idle u) }
+  where
+    by : (p : Place) → next_in s boxes p ≡ None → WaitsStill s p
+    by place.Empty is = tt
+    by (place.Holds w mode) is = cc is
+    by (place.Waits w) is = verdict_still s w.txn w.at w.wanted boxes (waits_on_by (verdict_of s boxes w.txn w.at w.wanted) is)
+      where
+        waits_on_by : (o : Option (Result Grant Stop)) → by_verdict w o ≡ None → o ≡ None
+        waits_on_by None is = refl
+        waits_on_by (Some verdict) is = absurd (cc is)
+
+module _ (s s' : State) (ended : Slots) (law : IsLawful s) (ends : HasEnded s s' ended) where
+  -- who waited waits on, if its wait has not ended
+  still_on : (u : ℕ) (p : Place) → ((w : Waiter) → waiter_in p ≡ Some w → (w.txn.slot ≡ u) × (u < most_slots)) → has_slot ended u ≡ false → WaitsStill s p
+      → WaitsStill s' p
+  still_on u place.Empty own out waits = tt
+  still_on u (place.Holds w mode) own out waits = waits
+  still_on u (place.Waits w) own out waits = by (waits_on s' w.txn w.at) refl
+    where
+      by : (b : Bool) → waits_on s' w.txn w.at ≡ b → b ≡ true
+      by true now = refl
+      by false now =
+          let mine = own w refl in
+          let so = ends law w.txn w.at (subst (λ k. k < most_slots) (sym mine.0) mine.1) waits now in
+          absurd (true≢false (sym so ∙ ap (has_slot ended) mine.0 ∙ out))
+
+  -- the slots are due whose waits have ended, and those that were due before
+  pub due_on : (due due' : Slots) (places : List Place) → Joins due' due ended → KnowsDue (has_slot due) s places → KnowsDue (has_slot due') s' places
+  due_on due due' places joins h = record {
+    own = h.own;
+    still = λ u out.
+        let both = or_false (has_slot due u) (has_slot ended u) (sym (joins u) ∙ out) in still_on u (place_at places u) (h.own u) both.1 (h.still u both.0);
+  }
+
+  -- something else belongs to one slot, with a waiter of this transaction that waits unless the slot is due
+  pub due_put : (due due' : Slots) (places : List Place) (t : TxnId) (p : Place) → ((w : Waiter) → waiter_in p ≡ Some w → w.txn ≡ t)
+      → t.slot < most_slots → length places ≡ most_slots → (has_slot due' t.slot ≡ false → WaitsStill s' p)
+      → ((u : ℕ) → u ≢ t.slot → has_slot due' u ≡ false → (has_slot due u ≡ false) × (has_slot ended u ≡ false)) → KnowsDue (has_slot due) s places
+      → KnowsDue (has_slot due') s' (slice_set places t.slot p)
+  due_put due due' places t p same below long here there h = record {
+    own = λ u w. owns u w (u == t.slot) refl;
+    still = λ u. waits u (u == t.slot) refl;
+  }
+    where
+      at_slot : (u : ℕ) → u ≡ t.slot → place_at (slice_set places t.slot p) u ≡ p
+      at_slot u is = ap (place_at (slice_set places t.slot p)) is ∙ set_here places t.slot p long below
+
+      owns : (u : ℕ) (w : Waiter) (b : Bool) → (u == t.slot) ≡ b → waiter_in (place_at (slice_set places t.slot p) u) ≡ Some w
+          → (w.txn.slot ≡ u) × (u < most_slots)
+      owns u w true e is =
+          let so = same_slot u t.slot e in (
+            ap (λ (x : TxnId). x.slot) (same w (sym (ap waiter_in (at_slot u so)) ∙ is)) ∙ sym so,
+            subst (λ k. k < most_slots) (sym so) below,
+          )
+      owns u w false e is = h.own u w (sym (ap waiter_in (set_apart places t.slot u p (apart_slot u t.slot e))) ∙ is)
+
+      waits : (u : ℕ) (b : Bool) → (u == t.slot) ≡ b → has_slot due' u ≡ false → WaitsStill s' (place_at (slice_set places t.slot p) u)
+      waits u true e out =
+          let so = same_slot u t.slot e in
+          subst (WaitsStill s') (sym (at_slot u so)) (here (sym (ap (has_slot due') so) ∙ out))
+      waits u false e out =
+          let apart = apart_slot u t.slot e in
+          let before = there u apart out in
+          subst (WaitsStill s') (sym (set_apart places t.slot u p apart)) (still_on u (place_at places u) (h.own u) before.1 (h.still u before.0))
+
+-- what belongs to the slot of a waiter that went on is of its transaction, and waits unless it goes on
+pub placed_txn : (v : Waiter) (c : Came) (w : Waiter) → waiter_in (place_of v c) ≡ Some w → w.txn ≡ v.txn
+placed_txn v (came.Ended o) w is = absurd (cc is)
+placed_txn v (came.Waits at wanted) w is = let so : record v { at = at; wanted = wanted } ≡ w = cc is in sym (ap (λ (x : Waiter). x.txn) so)
+placed_txn v (came.Holds at mode) w is = let so : record v { at = at } ≡ w = cc is in sym (ap (λ (x : Waiter). x.txn) so)
+
+pub placed_still : (s : State) (v : Waiter) (c : Came) → (is_held c ≡ true → ⊥)
+    → ((at : NodeId) (wanted : Mode) → c ≡ came.Waits at wanted → waits_on s v.txn at ≡ true) → WaitsStill s (place_of v c)
+placed_still s v (came.Ended o) held waits = tt
+placed_still s v (came.Waits at wanted) held waits = waits at wanted refl
+placed_still s v (came.Holds at mode) held waits = absurd (held refl)
+
+-- the slots that are due after a waiter went on
+module _ (due ended due' : Slots) (slot : ℕ) (held : Bool)
+    (is : (u : ℕ) → has_slot due' u ≡ (has_slot due u && not (u == slot && not held) || has_slot ended u)) where
+  -- the slot of a waiter that goes on with the next call stays due
+  pub stays_due : has_slot due slot ≡ true → has_slot due' slot ≡ false → held ≡ true → ⊥
+  stays_due was out on = by held (slot == slot) (has_slot due slot) (has_slot ended slot) was on (sym (is slot) ∙ out)
+    where
+      by : (h b d e : Bool) → d ≡ true → h ≡ true → (d && not (b && not h) || e) ≡ false → ⊥
+      by true true true e was on out = true≢false out
+      by true false true e was on out = true≢false out
+      by false b d e was on out = true≢false (sym on)
+      by true b false e was on out = true≢false (sym was)
+
+  -- and any other is due if it was before, or if its wait has ended
+  pub others_due : (u : ℕ) → u ≢ slot → has_slot due' u ≡ false → (has_slot due u ≡ false) × (has_slot ended u ≡ false)
+  others_due u apart out = by (u == slot) refl
+    where
+      both : (d e h : Bool) → (d && not (false && not h) || e) ≡ false → (d ≡ false) × (e ≡ false)
+      both false false h out = (refl, refl)
+      both true e h out = absurd (true≢false out)
+      both false true h out = absurd (true≢false out)
+
+      by : (b : Bool) → (u == slot) ≡ b → (has_slot due u ≡ false) × (has_slot ended u ≡ false)
+      by true e = absurd (apart (same_slot u slot e))
+      by false e =
+          both (has_slot due u) (has_slot ended u) held
+          (subst (λ (b : Bool). (has_slot due u && not (b && not held) || has_slot ended u) ≡ false) e (sym (is u) ∙ out))
+
+-- a place is empty now, or as it was
+empty_or : (places : List Place) (slot u : ℕ) → (place_at (slice_set places slot place.Empty) u ≡ place.Empty)
+    ⊎ (place_at (slice_set places slot place.Empty) u ≡ place_at places u)
+empty_or [] slot u = inr refl
+empty_or (p ∷ places) zero zero = inl refl
+empty_or (p ∷ places) zero (suc u) = inr refl
+empty_or (p ∷ places) (suc slot) zero = inr refl
+empty_or (p ∷ places) (suc slot) (suc u) = empty_or places slot u
+
+-- a waiter was removed
+pub due_without : (due : ℕ → Bool) (s : State) (places : List Place) (slot : ℕ) → KnowsDue due s places → KnowsDue due s (slice_set places slot place.Empty)
+due_without due s places slot h = record { own = λ u w is. owns u w is (empty_or places slot u); still = λ u out. stills u out (empty_or places slot u) }
+  where
+    owns : (u : ℕ) (w : Waiter) → waiter_in (place_at (slice_set places slot place.Empty) u) ≡ Some w
+        → (place_at (slice_set places slot place.Empty) u ≡ place.Empty) ⊎ (place_at (slice_set places slot place.Empty) u ≡ place_at places u)
+        → (w.txn.slot ≡ u) × (u < most_slots)
+    owns u w is (inl none) = absurd (cc (ap waiter_in none, is))
+    owns u w is (inr same) = h.own u w (sym (ap waiter_in same) ∙ is)
+
+    stills : (u : ℕ) → due u ≡ false
+        → (place_at (slice_set places slot place.Empty) u ≡ place.Empty) ⊎ (place_at (slice_set places slot place.Empty) u ≡ place_at places u)
+        → WaitsStill s (place_at (slice_set places slot place.Empty) u)
+    stills u out (inl none) = subst (WaitsStill s) (sym none) tt
+    stills u out (inr same) = subst (WaitsStill s) (sym same) (h.still u out)
+
+-- a waiter was registered that waits
+pub due_registered : (due : Slots) (s : State) (places : List Place) (w : Waiter) → IsLawful s → w.txn.slot < most_slots → length places ≡ most_slots
+    → waits_on s w.txn w.at ≡ true → KnowsDue (has_slot due) s places → KnowsDue (has_slot due) s (slice_set places w.txn.slot (place.Waits w))
+due_registered due s places w law below long waits h =
+    due_put s s due law (ended_none s due) due due places w.txn (place.Waits w) (λ v is. same v is) below long (λ out. waits) (λ u apart out. (out, out)) h
+  where
+    same : (v : Waiter) → Some w ≡ Some v → v.txn ≡ w.txn
+    same v is = let so : w ≡ v = cc is in sym (ap (λ (x : Waiter). x.txn) so)
+
+-- nothing belongs to any slot
+pub all_empty : (k u : ℕ) → place_at (replicate k place.Empty) u ≡ place.Empty
+all_empty zero u = refl
+all_empty (suc k) zero = refl
+all_empty (suc k) (suc u) = all_empty k u
+
+pub due_none : (s : State) (due : Slots) (k : ℕ) → KnowsDue (has_slot due) s (replicate k place.Empty)
+due_none s due k = record {
+  own = λ u w is. absurd (cc (ap waiter_in (all_empty k u), is));
+  still = λ u out. subst (WaitsStill s) (sym (all_empty k u)) tt;
+}
+
 -- A request that waits.
 module _ (s : State) (t : TxnId) where
   wait_is : (o : Option (NodeId × Mode)) (at : NodeId) (wanted : Mode) → came.Waits at wanted ≡ waits_for_node o → o ≡ Some (at, wanted)
@@ -370,19 +345,19 @@ module _ (s : State) (t : TxnId) where
   as_waits : (at : NodeId) (wanted : Mode) → came.Waits at wanted ≡ waits_as s t → waits_on s t at ≡ true
   as_waits at wanted e = waits_by (lives s t) (status_of s t.slot) at wanted (wait_is _ at wanted e)
 
-  pub came_waits : (reached : Result Reached Refusal) (at : NodeId) (wanted : Mode) → came.Waits at wanted ≡ came_of s t reached → waits_on s t at ≡ true
-  came_waits (Err r) at wanted e = absurd (cc e)
-  came_waits (Ok x) at wanted e = by x.locked e
+  pub came_waits : (node : NodeId) (instant : Bool) (reached : Result Reached Refusal) (at : NodeId) (wanted : Mode)
+      → came.Waits at wanted ≡ came_of s t node instant reached → waits_on s t at ≡ true
+  came_waits node instant (Err r) at wanted e = absurd (cc e)
+  came_waits node instant (Ok x) at wanted e = by x.locked e
     where
-      by : (y : Locked) → came.Waits at wanted ≡ came_as s t x.node y → waits_on s t at ≡ true
-      by (locked.Granted m) e = absurd (cc e)
+      held : (b : Bool) (m : Mode) → came.Waits at wanted ≡ holds_or_ends b x.node m → ⊥
+      held true m e = cc e
+      held false m e = cc e
+
+      by : (y : Locked) → came.Waits at wanted ≡ came_as s t node instant x.node y → waits_on s t at ≡ true
+      by (locked.Granted m) e = absurd (held (same_node x.node node && not instant) m e)
       by locked.Victim e = absurd (cc e)
       by locked.Waiting e = as_waits at wanted e
-
-  row_waits : (result : Result RowLocked RowRefusal) (at : NodeId) (wanted : Mode) → came.Waits at wanted ≡ row_came_of s t result → waits_on s t at ≡ true
-  row_waits (Ok x) at wanted e = as_waits at wanted (row_waits_as s t x.node x.locked x.own_keys at wanted e).1
-  row_waits (Err (row_no.Refused r)) at wanted e = absurd (cc e)
-  row_waits (Err row_no.NotRows) at wanted e = absurd (cc e)
 
   live_some : (o : Option Txn) → live_by t.age o ≡ true → is_some o ≡ true
   live_some None e = absurd (true≢false (sym e))
@@ -391,13 +366,6 @@ module _ (s : State) (t : TxnId) where
   pub waits_below : IsLawful s → s.most ≤ most_slots → (n : NodeId) → waits_on s t n ≡ true → t.slot < most_slots
   waits_below law few n waits =
       let low : t.slot < s.most = law.slots_below t.slot (live_some (s.txns t.slot) (and_both (lives s t) _ waits).0) in omega (arith, low, few)
-
--- a request that waits
-pub requests_wait : (d d' : DeliveryView) (t : TxnId) (asked : Request) (c : Came) (told : Told) → Requests d t asked c told d' → (at : NodeId)
-    (wanted : Mode) → came.Waits at wanted ≡ c → waits_on (state_of d'.manager) t at ≡ true
-requests_wait d d' t (request.Node n m) c told h at wanted is = came_waits (state_of d'.manager) t h.reached at wanted (is ∙ h.came)
-requests_wait d d' t (request.Path n m) c told h at wanted is = came_waits (state_of d'.manager) t h.reached at wanted (is ∙ h.came)
-requests_wait d d' t (request.Row row keys mode) c told h at wanted is = row_waits (state_of d'.manager) t h.result at wanted (is ∙ h.came)
 
 -- a table of waiters of this delivery
 abbrev pub waiting_with : DeliveryView → List Place → BeginsView → WaitingView
@@ -430,11 +398,3 @@ module _ (s : State) (t : TxnId) (n : NodeId) (waits : waits_on s t n ≡ true) 
       by (Some r) is g = absurd (cc is)
       by None is g = g.1.0
   cancel_done a told s' (inr lacks) = absurd (true≢false (sym lacks.0))
-
--- the slots below the next
-pub below_next : (P : ℕ → Type 0) (k : ℕ) → ((u : ℕ) → u < k → P u) → P k → (u : ℕ) → u < k + 1 → P u
-below_next P k below here u less = by (u == k) refl
-  where
-    by : (b : Bool) → (u == k) ≡ b → P u
-    by true e = subst P (sym (same_slot u k e)) here
-    by false e = let apart : u ≢ k = apart_slot u k e in below u (omega (arith, less, apart))

@@ -34,14 +34,11 @@ use Rattle.gl_waiting.proofs.TriedPaths.{up_counts}
 abbrev pub CountsOrNot : DeliveryView → Slots → DeliveryView → Type 0
 CountsOrNot d ended d' = (d' ≡ d) × HasNoSlot ended ⊎ (d.manager.accepted < d'.manager.accepted)
 
--- if nothing is counted then, and nobody goes on unless a wait has ended, nothing changes
-pub nothing_counted : (d served d' : DeliveryView) (ended : Slots) (places places' : List Place) (b : BeginsView) → CountsOrNot d ended served
-    → served.manager.accepted ≤ d'.manager.accepted → (HasNoSlot ended → (d' ≡ served) × (places' ≡ places))
-    → d'.manager.accepted ≡ d.manager.accepted → waiting_with d' places' b ≡ waiting_with d places b
-nothing_counted d served d' ended places places' b (inl idle) low none same =
-    let still = none idle.1 in
-    ap (λ (x : DeliveryView). waiting_with x places' b) (still.0 ∙ idle.0) ∙ ap (λ (x : List Place). waiting_with d x b) still.1
-nothing_counted d served d' ended places places' b (inr more) low none same = absurd (omega (arith, more, low, same))
+-- if nothing is counted then, nothing changes
+pub nothing_counted : (d d' : DeliveryView) (ended : Slots) (places : List Place) (b : BeginsView) → CountsOrNot d ended d'
+    → d'.manager.accepted ≡ d.manager.accepted → waiting_with d' places b ≡ waiting_with d places b
+nothing_counted d d' ended places b (inl idle) same = ap (λ (x : DeliveryView). waiting_with x places b) idle.0
+nothing_counted d d' ended places b (inr more) same = absurd (omega (arith, more, same))
 
 -- a call that carries out a command
 pub carries_or_not : (d d' : DeliveryView) (c : Command) (told : Told) (ended : Slots) → Carries d c told ended d' → CountsOrNot d ended d'
@@ -49,13 +46,10 @@ carries_or_not d d' c told ended (inl so) = inr so.0
 carries_or_not d d' c told ended (inr idle) = inl (idle.same, idle.none)
 
 -- a rollback that is refused
-pub back_or_not : (t : TxnId) (d d' : DeliveryView) (told : Told) (ended : Slots) (b : BeginsView) (places places' : List Place) (d'' : DeliveryView)
-    (result : Result ℕ Refusal) → OnErr result (ComesToNothing d told ended d') → (HasNoSlot ended → (d'' ≡ d') × (places' ≡ places))
-    → OnErr result (waiting_with d'' places' b ≡ waiting_with d places b)
-back_or_not t d d' told ended b places places' d'' (Ok k) idle none = tt
-back_or_not t d d' told ended b places places' d'' (Err r) idle none =
-    let still = none idle.none in
-    ap (λ (x : DeliveryView). waiting_with x places' b) (still.0 ∙ idle.same) ∙ ap (λ (x : List Place). waiting_with d x b) still.1
+pub back_or_not : (d d' : DeliveryView) (told : Told) (ended : Slots) (b : BeginsView) (places : List Place) (result : Result ℕ Refusal)
+    → OnErr result (ComesToNothing d told ended d') → OnErr result (waiting_with d' places b ≡ waiting_with d places b)
+back_or_not d d' told ended b places (Ok k) idle = tt
+back_or_not d d' told ended b places (Err r) idle = ap (λ (x : DeliveryView). waiting_with x places b) idle.same
 
 -- A path that is tried.
 module _ (k : Keep) (t : TxnId) (ask : Ask) (d : DeliveryView) (came : Tried) (told : Told) (ended : Slots) (d' : DeliveryView)

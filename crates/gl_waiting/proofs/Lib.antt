@@ -1,4 +1,3 @@
-pub mod Alone
 pub mod Awaiting
 pub mod Backs
 pub mod BeginQueues
@@ -6,9 +5,6 @@ pub mod Beginning
 pub mod Commands
 pub mod Counting
 pub mod Delivered
-pub mod GoingOn
-pub mod Idle
-pub mod OwnCalls
 pub mod Paths
 pub mod RowCalls
 pub mod RowHolding

@@ -1,12 +1,6 @@
--- A row's lock, by its outcome: what it does, that it is a call of a delivery, and that a transaction that waits does not wait for it.
-use Rattle.std.specs.Prelude.{◌≡◌, Bool, true, false, Option, Some, None, Result, Ok, Err}
+-- A row's lock, by its outcome: what it does.
+use Rattle.std.specs.Prelude.{◌≡◌, Result, Ok, Err}
 use Rattle.std.proofs.Common.{refl, sym, subst}
-use Rattle.gl_modes.specs.declared.mode.Mode.{Mode}
-use Rattle.gl_modes.specs.declared.node.NodeId.{NodeId}
-use Rattle.gl_model.specs.declared.answers.Locked.{Locked}
-use Rattle.gl_model.specs.declared.answers.Locked.TheVariants as locked
-use Rattle.gl_model.specs.declared.txn.TxnId.{TxnId}
-use Rattle.gl_model.specs.State.{State}
 use Rattle.gl_model.specs.Tellings.{Told}
 use Rattle.gl_rows.specs.declared.answer.RowAnswer.{RowAnswer}
 use Rattle.gl_rows.specs.declared.answer.RowLocked.{RowLocked}
@@ -16,10 +10,7 @@ use Rattle.gl_rows.specs.Answers.{lock_said}
 use Rattle.gl_rows.specs.Applying.{AppliesCall, CarriesOut, answer_in, own_command}
 use Rattle.gl_rows.specs.Locking.{LocksRow, Wish}
 use Rattle.gl_waiting.specs.Delivering.{DeliveryView, registry_in}
-use Rattle.gl_waiting.specs.Ends.{is_given_back}
-use Rattle.gl_waiting.specs.RowLocks.{IsRowLockAnswer, LocksRowAs, after_grant, row_came_as, row_lock}
-use Rattle.gl_waiting.specs.Waiters.{waits_as}
-use Rattle.gl_waiting.specs.declared.waiter.Came.TheVariants as came
+use Rattle.gl_waiting.specs.RowLocks.{IsRowLockAnswer, LocksRowAs, row_lock}
 
 -- two outcomes with one answer are one
 pub lock_said_once : (a b : Result RowLocked RowRefusal) → lock_said a ≡ lock_said b → a ≡ b
@@ -53,16 +44,3 @@ locks_as d d' w a result told is applies own =
       applies = subst (λ (x : RowAnswer). AppliesCall (registry_in d) (row_lock w) x told (registry_in d')) (sym is) applies;
       own = subst (λ (x : RowAnswer). CarriesOut d.manager (own_command d'.rows (row_lock w)) (answer_in x) told d'.manager) (sym is) own;
     }
-
--- the lock of a row is never unlocked as that of a node that was granted for an instant
-pub row_kept : (instant : Bool) (at : NodeId) (granted : Mode) (o : Option (NodeId × Mode)) → is_given_back instant (after_grant at granted o) ≡ false
-row_kept true at granted (Some x) = refl
-row_kept true at granted None = refl
-row_kept false at granted o = refl
-
--- a request for a row that waits has a lock that waits
-pub row_waits_as : (s : State) (t : TxnId) (n : NodeId) (x : Locked) (own : Bool) (at : NodeId) (wanted : Mode)
-    → came.Waits at wanted ≡ row_came_as s t n x own → (x ≡ locked.Waiting) × (came.Waits at wanted ≡ waits_as s t)
-row_waits_as s t n (locked.Granted m) own at wanted e = absurd (cc e)
-row_waits_as s t n locked.Victim own at wanted e = absurd (cc e)
-row_waits_as s t n locked.Waiting own at wanted e = (refl, e)

@@ -1,12 +1,12 @@
 -- Begins in turn: those that are handed on one after the other, and that nobody waits for a slot while one is free.
-use Rattle.std.specs.Prelude.{◌≡◌, ◌<◌, ◌==◌, ◌||◌, ℕ, zero, suc, not, Bool, true, false, List, [], ◌∷◌, Option, Some, None, Result}
+use Rattle.std.specs.Prelude.{◌≡◌, ◌<◌, ◌==◌, ℕ, zero, suc, not, true, false, List, [], ◌∷◌, Option, Some, None, Result}
 use Rattle.std.specs.Prelude.{Ok, Err, drop, length, slice_get}
 use Rattle.std.proofs.Common.{refl, sym, ap, subst, ◌∙◌, inl, inr, arith, rules}
-use Rattle.std.proofs.Math.Bool.{or-false, or-true}
 use mathlib.Core.Bool.{true≢false}
 use Rattle.std.proofs.lemmas.Bool.Decides.{nat_tests}
 use Rattle.gl_model.specs.declared.txn.TxnId.{TxnId}
 use Rattle.gl_catalog.specs.Manager.{ManagerView, state_of}
+use Rattle.gl_slots.specs.declared.slots.Slots.{Slots}
 use Rattle.gl_modes.specs.declared.refusal.Refusal.{Refusal}
 use Rattle.gl_modes.specs.declared.refusal.Refusal.TheVariants as no
 use Rattle.gl_steps.specs.declared.command.Answer.TheVariants as answer
@@ -30,10 +30,6 @@ hands_fewer v v' h = by v.queue h.is_first (ap (λ (x : WaitingView). x.queue) h
     by [] is rest = absurd (cc is)
     by (b ∷ q) is rest = let e : length v'.queue ≡ length q = ap length rest in omega (arith, e)
 
--- with one that was handed on, the call went on
-pub went_on_more : (went_on : Bool) (k : ℕ) → true ≡ (went_on || not (suc k == 0))
-went_on_more went_on k = let more : (suc k == 0) ≡ false = grind (arith, nat_tests) in rw more (sym (or-true went_on))
-
 -- one more is some
 pub any_more : (k : ℕ) → true ≡ not (suc k == 0)
 any_more k = let more : (suc k == 0) ≡ false = grind (arith, nat_tests) in rw more refl
@@ -44,51 +40,49 @@ none_first [] is = refl
 none_first (b ∷ queue) is = absurd (cc is)
 
 -- nothing that turns depend on changes
-same_turns : (v v' : WaitingView) → v'.queue ≡ v.queue → v'.manager ≡ v.manager → IsInTurn v → IsInTurn v'
+pub same_turns : (v v' : WaitingView) → v'.queue ≡ v.queue → v'.manager ≡ v.manager → IsInTurn v → IsInTurn v'
 same_turns v v' queue manager (inl none) = inl (queue ∙ none)
 same_turns v v' queue manager (inr full) = inr (subst (λ (m : ManagerView). IsFull (state_of m)) (sym manager) full)
 
 -- a begin that is refused since every slot is taken
-pub full_by : (v : WaitingView) (since : Option ℕ) (result : Result TxnId Refusal) (off : SetOff) (v' : WaitingView) → is_too_many result ≡ true
-    → Begins v since result off v' → IsFull (state_of v.manager)
-full_by v since (Ok t) off v' many begins = absurd (true≢false (sym many))
-full_by v since (Err no.TooManyTxns) off v' many begins = refused_full (state_of v.manager) [] (state_of v.manager) since begins.0
-full_by v since (Err r) off v' many begins = absurd (true≢false (sym many ∙ search rules))
+pub full_by : (v : WaitingView) (since : Option ℕ) (result : Result TxnId Refusal) (ended : Slots) (v' : WaitingView) → is_too_many result ≡ true
+    → Begins v since result ended v' → IsFull (state_of v.manager)
+full_by v since (Ok t) ended v' many begins = absurd (true≢false (sym many))
+full_by v since (Err no.TooManyTxns) ended v' many begins = refused_full (state_of v.manager) [] (state_of v.manager) since begins.0
+full_by v since (Err r) ended v' many begins = absurd (true≢false (sym many ∙ search rules))
 
 -- while every slot is taken none is handed on
 none_full : (v v' : WaitingView) → IsFull (state_of v.manager) → HandsFirst v v' → ⊥
 none_full v v' full h = by h.result h.answered h.begins
   where
-    by : (result : Result TxnId Refusal) → is_too_many result ≡ false → Begins v h.first.since result h.off h.mid → ⊥
+    by : (result : Result TxnId Refusal) → is_too_many result ≡ false → Begins v h.first.since result h.ended h.mid → ⊥
     by (Err r) few begins =
         let is : answer.Refused r ≡ answer.Refused no.TooManyTxns =
         full_refuses (state_of v.manager) h.first.since (answer.Refused r) [] (state_of v.manager) full begins.0 in
         let many : r ≡ no.TooManyTxns = cc is in
         true≢false (sym (ap (λ (x : Refusal). is_too_many (Err x)) many) ∙ few)
     by (Ok t) few (told, begins) =
-        let made = begin_made h.first.since (registry_in (delivery_in v)) (registry_in begins.served) (Some (answer.Begun t)) told begins.serves in
+        let made = begin_made h.first.since (registry_in (delivery_in v)) (registry_in (delivery_in h.mid)) (Some (answer.Begun t)) told begins.serves in
         let is : made.0 ≡ answer.Refused no.TooManyTxns =
-        full_refuses (state_of v.manager) h.first.since made.0 told (state_of begins.served.manager) full made.2.step in
+        full_refuses (state_of v.manager) h.first.since made.0 told (state_of h.mid.manager) full made.2.step in
         cc (made.1, is)
 
 -- nor while nobody waits for a slot
-pub none_in_turn : (v v' : WaitingView) → IsInTurn v → HandsFirst v v' → ⊥
+none_in_turn : (v v' : WaitingView) → IsInTurn v → HandsFirst v v' → ⊥
 none_in_turn v v' (inl none) h = cc (ap (λ (q : List QueuedBegin). slice_get q 0) none, h.is_first)
 none_in_turn v v' (inr full) h = none_full v v' full h
 
 -- after a call that changes neither the state nor the queue none is handed on
-pub idle_turn : (v mid : WaitingView) (own off : SetOff) (v' : WaitingView) → IsInTurn v → HandsOnAfter own mid off v' → mid.manager ≡ v.manager
-    → mid.queue ≡ v.queue → (v' ≡ mid) × (off ≡ own)
+pub idle_turn : (v mid : WaitingView) (own : Slots) (off : SetOff) (v' : WaitingView) → IsInTurn v → HandsOnAfter own mid off v' → mid.manager ≡ v.manager
+    → mid.queue ≡ v.queue → (v' ≡ mid) × (off ≡ record { ended = own; went_on = false })
 idle_turn v mid own off v' turn after manager queue = by after.count after.hands after.sets
   where
-    by : (k : ℕ) → HandsOn k mid v' → off ≡ record own { went_on = own.went_on || not (k == 0) } → (v' ≡ mid) × (off ≡ own)
-    by zero hands sets =
-        let none : (own.went_on || not (zero == 0)) ≡ own.went_on = or-false own.went_on in
-        (hands, sets ∙ ap (λ (b : Bool). record own { went_on = b }) none)
+    by : (k : ℕ) → HandsOn k mid v' → off ≡ record { ended = own; went_on = not (k == 0) } → (v' ≡ mid) × (off ≡ record { ended = own; went_on = false })
+    by zero hands sets = (hands, sets)
     by (suc k) hands sets = absurd (none_in_turn mid hands.0 (same_turns v mid queue manager turn) hands.1)
 
 -- a call after which begins were handed on
-pub in_turn : (v : WaitingView) (IsCalled : SetOff → WaitingView → Type 0) (own : SetOff) (mid : WaitingView) (off : SetOff) (v' : WaitingView) → IsInTurn v
+pub in_turn : (v : WaitingView) (IsCalled : Slots → WaitingView → Type 0) (own : Slots) (mid : WaitingView) (off : SetOff) (v' : WaitingView) → IsInTurn v
     → IsCalled own mid → HandsOnAfter own mid off v' → InTurn v IsCalled off v'
 in_turn v IsCalled own mid off v' turn called hands = record {
   own = own;

@@ -8,23 +8,21 @@ use Rattle.gl_steps.specs.declared.command.Answer.TheVariants as answer
 use Rattle.gl_steps.specs.declared.command.Command.{Command}
 use Rattle.gl_catalog.specs.Manager.{state_of}
 use Rattle.gl_waiting.specs.Asking.{InTurn, IsNothing, Serves}
-use Rattle.gl_waiting.specs.Ends.{NoneAwaits}
 use Rattle.gl_waiting.specs.Waiting.{WaitingView}
 use Rattle.gl_waiting.specs.declared.set_off.SetOff.{SetOff}
 
 -- a command is carried out in a table, with this answer, these notices, and what it sets off
-abbrev pub Answers : WaitingView → Command → Answer → Told → SetOff → WaitingView → Type 0
-Answers v c a told off v' = InTurn v (λ own mid. Serves v c (Some a) told own mid) off v'
+abbrev pub IsAnswered : WaitingView → Command → Answer → Told → SetOff → WaitingView → Type 0
+IsAnswered v c a told off v' = InTurn v (λ ended mid. Serves v c (Some a) told ended mid) off v'
 
 -- a refused command changes nothing, tells nobody and sets nothing off
 abbrev pub RefusalsChangeNothing : Type 0
 RefusalsChangeNothing =
-    (v : WaitingView) (c : Command) (r : Refusal) (told : Told) (off : SetOff) (v' : WaitingView) → Answers v c (answer.Refused r) told off v'
+    (v : WaitingView) (c : Command) (r : Refusal) (told : Told) (off : SetOff) (v' : WaitingView) → IsAnswered v c (answer.Refused r) told off v'
     → (v' ≡ v) × (told ≡ []) × IsNothing off
 
--- a command that ends no waiter's wait, while no begin waits for a slot, is one step, after which nobody has gone on
+-- a command is one step while no begin waits for a slot, and waiters stay as they are
 abbrev pub CommandsAreSteps : Type 0
 CommandsAreSteps =
-    (v : WaitingView) (c : Command) (a : Answer) (told : Told) (off : SetOff) (v' : WaitingView) → Answers v c a told off v'
-    → NoneAwaits off.ended v.places → v.queue ≡ []
+    (v : WaitingView) (c : Command) (a : Answer) (told : Told) (off : SetOff) (v' : WaitingView) → IsAnswered v c a told off v' → v.queue ≡ []
     → Step (state_of v.manager) c a told (state_of v'.manager) × (v'.places ≡ v.places) × (v'.queue ≡ []) × (v'.begun ≡ v.begun)

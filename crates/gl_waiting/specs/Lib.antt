@@ -6,7 +6,6 @@ pub mod Going
 pub mod Keys
 pub mod Laws
 pub mod Owned
-pub mod Paths
 pub mod RowLocks
 pub mod RowTries
 pub mod Tries

@@ -1,5 +1,5 @@
 -- What a contract sees of the fields, and what holds of them. For the crate.
-use Rattle.std.specs.Prelude.{◌≡◌, ◌+◌, ◌≤◌, ℕ, List, is_some}
+use Rattle.std.specs.Prelude.{◌+◌, ◌≤◌, List}
 use Rattle.std.specs.VecDeque.{deque_capacity, deque_len}
 use Rattle.gl_slots.specs.Slots.{has_slot}
 use Rattle.gl_waiting.specs.declared.delivery.Delivery.TheInside.{Inside}
@@ -12,7 +12,7 @@ use Rattle.gl_waiting.specs.Asking.{IsInTurn}
 use Rattle.gl_waiting.specs.Begins.{BeginsView}
 use Rattle.gl_catalog.specs.Manager.{state_of}
 use Rattle.gl_waiting.specs.Delivering.{DeliveryView}
-use Rattle.gl_waiting.specs.Waiters.{Await, end_in, place_at}
+use Rattle.gl_waiting.specs.Waiters.{KnowsDue}
 use Rattle.gl_waiting.specs.Waiting.{WaitingView}
 
 abbrev pub delivery_of : Inside → DeliveryView
@@ -20,10 +20,6 @@ delivery_of d = record { manager = d.registry.manager; rows = d.registry.rows; b
 
 abbrev pub places_of : PlacesInside → List Place
 places_of p = p.places
-
--- the set has the slots that have an end
-abbrev pub KnowsEnds : PlacesInside → Type 0
-KnowsEnds p = (u : ℕ) → has_slot p.ends u ≡ is_some (end_in (place_at p.places u))
 
 abbrev pub begins_of : BeginsInside → BeginsView
 begins_of q = record { waiting = q.waiting.items; begun = q.begun.items }
@@ -43,9 +39,9 @@ table_of w =
       begun = w.begins.begun;
     }
 
--- each waiter waits
+-- each waiter waits whose slot is not due
 abbrev pub IsAwaited : TableInside → Type 0
-IsAwaited w = Await (state_of w.delivery.manager) w.places
+IsAwaited w = KnowsDue (has_slot w.due) (state_of w.delivery.manager) w.places
 
 abbrev pub waiting_of : WaitingInside → WaitingView
 waiting_of w = w.table

@@ -7,13 +7,10 @@ use Rattle.gl_modes.specs.declared.node.NodeId.{NodeId}
 use Rattle.gl_model.specs.declared.answers.Locked.{Locked}
 use Rattle.gl_model.specs.declared.answers.Locked.TheVariants as locked
 use Rattle.gl_model.specs.declared.txn.TxnId.{TxnId}
-use Rattle.gl_model.specs.State.{State}
 use Rattle.gl_model.specs.Tellings.{Told}
-use Rattle.gl_catalog.specs.Manager.{state_of}
 use Rattle.gl_rows.specs.declared.answer.RowAnswer.{RowAnswer}
 use Rattle.gl_rows.specs.declared.answer.RowLocked.{RowLocked}
 use Rattle.gl_rows.specs.declared.answer.RowRefusal.{RowRefusal}
-use Rattle.gl_rows.specs.declared.answer.RowRefusal.TheVariants as row_no
 use Rattle.gl_rows.specs.declared.call.RowCall.{RowCall}
 use Rattle.gl_rows.specs.declared.call.RowCall.TheVariants as call
 use Rattle.gl_rows.specs.declared.row.Row.{Row}
@@ -22,10 +19,7 @@ use Rattle.gl_rows.specs.Applying.{AppliesCall, CarriesOut, answer_in, own_comma
 use Rattle.gl_rows.specs.Locking.{Wish}
 use Rattle.gl_waiting.specs.Delivering.{Carries, DeliveryView, registry_in}
 use Rattle.gl_waiting.specs.Keys.{keys_in}
-use Rattle.gl_waiting.specs.Waiters.{waits_as}
 use Rattle.gl_waiting.specs.declared.keys.RowKeys.{RowKeys}
-use Rattle.gl_waiting.specs.declared.waiter.Came.{Came}
-use Rattle.gl_waiting.specs.declared.waiter.Came.TheVariants as came
 use Rattle.gl_waiting.specs.declared.waiter.Outcome.{Outcome}
 use Rattle.gl_waiting.specs.declared.waiter.Outcome.TheVariants as end
 
@@ -54,28 +48,6 @@ pub record LocksRowWith (d : DeliveryView) (t : TxnId) (row : Row) (keys : RowKe
   pub same : lent.now ≡ keys_in keys
   pub ended : Slots
   pub locks : LocksRowIn d (record { txn = t; row = row; keys = lent; mode = mode }) result told ended d'
-
--- the outcome for a row that is held by this node, by whether it has the keys of the request
-abbrev pub row_held : NodeId → Mode → Bool → Outcome
-row_held node mode own_keys = if own_keys then end.RowGranted node mode else end.OtherKeys node mode
-
--- what a request for a row came to, by the lock of its node
-abbrev pub row_came_as : State → TxnId → NodeId → Locked → Bool → Came
-row_came_as s t node (locked.Granted mode) own_keys = came.Ended (row_held node mode own_keys)
-row_came_as s t node locked.Victim own_keys = came.Ended (end.Victim node)
-row_came_as s t node locked.Waiting own_keys = waits_as s t
-
--- the same of a lock that may be refused
-abbrev pub row_came_of : State → TxnId → Result RowLocked RowRefusal → Came
-row_came_of s t (Ok x) = row_came_as s t x.node x.locked x.own_keys
-row_came_of s t (Err (row_no.Refused r)) = came.Ended (end.Refused r)
-row_came_of s t (Err row_no.NotRows) = came.Ended end.NotRows
-
--- a request for a row is carried out, and came to this
-pub record RequestsRow (d : DeliveryView) (t : TxnId) (row : Row) (keys : RowKeys) (mode : Mode) (c : Came) (told : Told) (d' : DeliveryView) : Type 0 where
-  pub result : Result RowLocked RowRefusal
-  pub locks : LocksRowWith d t row keys mode result told d'
-  pub came : c ≡ row_came_of (state_of d'.manager) t result
 
 -- the node and the mode of a row that was granted and has the keys of its request
 abbrev pub own_granted : NodeId → Locked → Bool → Option (NodeId × Mode)

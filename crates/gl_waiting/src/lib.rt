@@ -1,5 +1,5 @@
-//! Waiters of a table that threads share: who waits for which request, whose wait a command ends and how, and who goes
-//! on by that. Nothing here has threads: the caller serializes all calls by its latch.
+//! Waiters of a table that threads share: who waits for which request, whose wait is over, how each goes on by that, and
+//! how it ends. Nothing here has threads: the caller serializes all calls by its latch.
 #![tactic(auto)]
 
 mod begins;
@@ -7,12 +7,7 @@ mod delivery;
 mod keys;
 pub mod laws;
 mod places;
-#[cfg(test)]
-mod row_tests;
-mod rows;
 mod set_off;
-#[cfg(test)]
-mod tests;
 mod tries;
 mod waiter;
 mod waiter_table;
@@ -24,5 +19,5 @@ pub use delivery::Delivery;
 pub use keys::RowKeys;
 pub use set_off::SetOff;
 pub use tries::{Keep, RowTried, Tried};
-pub use waiter::{Came, Outcome, Request, Waiter};
+pub use waiter::{Came, Next, Outcome, Request, Waiter};
 pub use waiting::Waiting;

@@ -1,21 +1,23 @@
-//! What belongs to each slot: nothing, a waiter, or the end of its wait.
+//! What belongs to each slot: nothing, or a waiter.
 
 ghost use Rattle.gl_slots.specs.Limit.{most_slots};
-ghost use Rattle.std.specs.Prelude.{◌≡◌, ◌<◌, ℕ, IfNone, IfSome, length, replicate, slice_set};
-ghost use Rattle.gl_waiting.specs.Waiters.{AnswersIn, HasWaiter, TakesEnd, earliest_until, place_at, waiter_in};
+ghost use Rattle.std.specs.Prelude.{◌≡◌, ◌<◌, IfNone, IfSome, length, replicate, slice_set};
+ghost use Rattle.std.specs.List.{position};
+ghost use Rattle.gl_waiting.specs.Begins.{is_over};
+ghost use Rattle.gl_waiting.specs.Waiters.{HasWaiter, earliest_until, first_late, place_at, until_in, waiter_in};
 ghost use Rattle.gl_waiting.specs.declared.waiter.Place.TheVariants.{Empty as empty};
 ghost use Rattle.gl_waiting.specs.declared.waiter.Waiter.{Waiter as AWaiter};
 
-use crate::waiter::{Came, Outcome, Place, Waiter};
-use gl_slots::{SLOTS, Slot, Slots};
+use crate::begins::is_over;
+use crate::waiter::{Place, Waiter};
+use gl_slots::{SLOTS, Slot};
 use gl_table::TxnId;
 use std::marker::Model;
 
-/// What belongs to each slot, and the set of the slots whose end is to be taken.
+/// What belongs to each slot.
 #[derive(Drop)]
 pub(crate) struct Places {
     places: [Place; SLOTS],
-    ends: Slots,
 }
 
 impl Model for Places {
@@ -24,11 +26,9 @@ impl Model for Places {
 
     ghost Value = { List Place };
 
-    ghost use Rattle.gl_waiting.specs.Owned.{places_of, KnowsEnds};
+    ghost use Rattle.gl_waiting.specs.Owned.{places_of};
 
     ghost view = { places_of };
-
-    ghost invariant = { KnowsEnds };
 }
 
 impl Places {
@@ -38,7 +38,23 @@ impl Places {
     {
         Places {
             places: [Place::Empty; SLOTS],
-            ends: Slots::empty(),
+        }
+    }
+
+    /// What belongs to a slot.
+    pub(crate) fn at(&self, slot: Slot) -> Place
+        ensures { result ≡ place_at self.now slot }
+    {
+        self.place(slot as usize)
+    }
+
+    /// The same of its place in the list.
+    fn place(&self, index: usize) -> Place
+        ensures { result ≡ place_at self.now index }
+    {
+        match self.places.get(index) {
+            Some(place) => *place,
+            None => Place::Empty,
         }
     }
 
@@ -46,10 +62,7 @@ impl Places {
     pub(crate) fn waiter(&self, slot: Slot) -> Option<Waiter>
         ensures { result ≡ waiter_in (place_at self.now slot) }
     {
-        match self.places.get(slot as usize) {
-            Some(Place::Waits(waiter)) => Some(*waiter),
-            _ => None,
-        }
+        self.at(slot).waiter()
     }
 
     /// The waiter of a transaction.
@@ -72,44 +85,25 @@ impl Places {
         ensures slots { length self.old ≡ most_slots }
     {
         self.places[slot as usize] = place;
-        if matches!(place, Place::Ended(_, _)) {
-            self.ends.insert(slot);
-        } else {
-            self.ends.remove(slot);
+    }
+
+    /// The transaction of the lowest slot whose wait should have ended by now.
+    pub(crate) fn first_late(&self, now: u64) -> Option<TxnId>
+        ensures { result ≡ first_late now self.now }
+    {
+        match self.index_of_late(now) {
+            Some(index) => self.place(index).txn(),
+            None => None,
         }
     }
 
-    /// Takes the end of a wait, that of the lowest slot; `None` if there is none.
-    pub(crate) fn take_end(&mut self) -> Option<(TxnId, Outcome)>
-        ensures { TakesEnd self.old result self.new }
+    /// The place in the list of the first wait that should have ended by now.
+    fn index_of_late(&self, now: u64) -> Option<usize>
+        ensures { result ≡ position (λ p. is_over now (until_in p)) self.now }
     {
-        let slot = self.ends.take_lowest()?;
-        let place = self.places[slot as usize];
-        self.places[slot as usize] = Place::Empty;
-        match place {
-            Place::Ended(txn, outcome) => Some((txn, outcome)),
-            _ => None,
-        }
-    }
-
-    /// What a request came to whose waiter a slot had: it still waits, or its end is taken. `otherwise` if the slot has
-    /// neither.
-    pub(crate) fn answer(&mut self, slot: Slot, otherwise: Came) -> Came
-        ensures { AnswersIn (place_at self.old slot) slot self.old otherwise result self.new }
-    {
-        match self.places.get(slot as usize) {
-            Some(Place::Waits(waiter)) => Came::Waits {
-                at: waiter.at,
-                wanted: waiter.wanted,
-            },
-            Some(Place::Ended(_, outcome)) => {
-                let outcome = *outcome;
-                self.places[slot as usize] = Place::Empty;
-                self.ends.remove(slot);
-                Came::Ended(outcome)
-            }
-            _ => otherwise,
-        }
+        self.places
+            .iter()
+            .position(|place| is_over(place.until(), now))
     }
 
     /// The earliest time at which a wait ends at the latest; `None` if no waiter has one.

@@ -1,7 +1,20 @@
 //! What a waiter requested, and how its wait ends.
 
 ghost use Rattle.std.specs.Prelude.{◌≡◌};
-ghost use Rattle.gl_waiting.specs.Waiters.{has_more, is_granted_so, next_of, node_in, outcome_of, place_of, until_in};
+ghost use Rattle.gl_waiting.specs.Waiters.{
+  closing,
+  granted_to,
+  has_more,
+  is_granted_so,
+  is_held,
+  next_of,
+  node_in,
+  outcome_of,
+  place_of,
+  txn_by,
+  until_in,
+  waiter_in,
+};
 
 use crate::keys::RowKeys;
 use gl_modes::{Mode, NodeId, Refusal};
@@ -22,7 +35,7 @@ pub enum Request {
 
 impl Request {
     /// The node that it requests; a request for a row names none.
-    pub(crate) fn node(&self) -> NodeId
+    pub fn node(&self) -> NodeId
         ensures { result ≡ node_in self.now }
     {
         match self {
@@ -56,8 +69,6 @@ pub enum Outcome {
     RowGranted { node: NodeId, mode: Mode },
     /// The row of the request is held by this node, in this mode, and the caller must look at its keys again.
     OtherKeys { node: NodeId, mode: Mode },
-    /// The file of the row is no file of rows.
-    NotRows,
     /// The transaction was chosen as victim while it waited for this node.
     Victim(NodeId),
     /// This node, for which it waited, has other parents or keys now.
@@ -72,7 +83,7 @@ pub enum Outcome {
 
 impl Outcome {
     /// Whether the request was for a node and was granted.
-    pub(crate) fn is_granted(&self) -> bool
+    fn is_granted(&self) -> bool
         ensures { result ≡ is_granted_so self.now }
     {
         matches!(self, Outcome::Granted(_))
@@ -85,22 +96,37 @@ pub enum Came {
     Ended(Outcome),
     /// It waits for this node, in this mode.
     Waits { at: NodeId, wanted: Mode },
+    /// It holds this node, in this mode, and goes on with the next call: with the rest of its path, or to give back its
+    /// lock for an instant.
+    Holds { at: NodeId, mode: Mode },
+}
+
+impl Came {
+    /// Whether it holds a node, and goes on.
+    pub(crate) fn is_held(&self) -> bool
+        ensures { result ≡ is_held self.now }
+    {
+        matches!(self, Came::Holds { .. })
+    }
 }
 
 /// What belongs to a slot.
 #[derive(Clone, Copy, PartialEq, Eq, Debug)]
 pub enum Place {
     Empty,
+    /// A waiter whose wait may be over.
     Waits(Waiter),
-    /// The end of a wait, to be taken.
-    Ended(TxnId, Outcome),
+    /// A waiter that was granted the node for which it waited, in this mode.
+    Holds(Waiter, Mode),
 }
 
 /// What comes after a wait.
 #[derive(Clone, Copy, PartialEq, Eq, Debug)]
-pub(crate) enum Next {
+pub enum Next {
     /// The request has ended.
     End(Outcome),
+    /// The lock was for an instant: it is released, and the request has ended.
+    GiveBack(Outcome),
     /// The rest of a path is to be locked, up to this node in this mode.
     GoOn {
         node: NodeId,
@@ -121,15 +147,23 @@ impl Waiter {
         ensures { result ≡ place_of self.now came }
     {
         match came {
-            Came::Ended(outcome) => Place::Ended(self.txn, outcome),
-            Came::Waits { at, wanted } => Place::Waits(Waiter {
-                txn: self.txn,
-                request: self.request,
-                instant: self.instant,
-                at,
-                wanted,
-                until: self.until,
-            }),
+            Came::Ended(_) => Place::Empty,
+            Came::Waits { at, wanted } => Place::Waits(self.at(at, wanted)),
+            Came::Holds { at, mode } => Place::Holds(self.at(at, self.wanted), mode),
+        }
+    }
+
+    /// The same waiter, which waits for this node in this mode.
+    fn at(&self, at: NodeId, wanted: Mode) -> Waiter
+        ensures { result ≡ record self.now { at = at; wanted = wanted } }
+    {
+        Waiter {
+            txn: self.txn,
+            request: self.request,
+            instant: self.instant,
+            at,
+            wanted,
+            until: self.until,
         }
     }
 
@@ -147,8 +181,31 @@ impl Waiter {
                 mode,
                 granted: grant.mode,
             },
-            _ => Next::End(outcome_of(self.at, verdict)),
+            (Request::Row { .. }, Err(_)) => Next::End(outcome_of(self.at, verdict)),
+            _ => closing(self.instant, outcome_of(self.at, verdict)),
         }
+    }
+
+    /// That it was granted the node for which it waited, in this mode.
+    pub(crate) fn granted(&self, mode: Mode) -> Result<Grant, Stop>
+        ensures { result ≡ granted_to self.now mode }
+    {
+        Ok(Grant {
+            txn: self.txn,
+            node: self.at,
+            mode,
+        })
+    }
+}
+
+/// What comes after a wait for a node that ended so: a lock for an instant that was granted is given back.
+fn closing(instant: bool, outcome: Outcome) -> Next
+    ensures { result ≡ closing instant outcome }
+{
+    if instant && outcome.is_granted() {
+        Next::GiveBack(outcome)
+    } else {
+        Next::End(outcome)
     }
 }
 
@@ -164,7 +221,7 @@ fn has_more(node: NodeId, at: NodeId, verdict: Result<Grant, Stop>) -> bool
 }
 
 /// The end of a wait for this node, by what became of it.
-fn outcome_of(at: NodeId, verdict: Result<Grant, Stop>) -> Outcome
+pub(crate) fn outcome_of(at: NodeId, verdict: Result<Grant, Stop>) -> Outcome
     ensures { result ≡ outcome_of at verdict }
 {
     match verdict {
@@ -177,13 +234,27 @@ fn outcome_of(at: NodeId, verdict: Result<Grant, Stop>) -> Outcome
 }
 
 impl Place {
+    /// The waiter, whether it waits or goes on.
+    pub(crate) fn waiter(&self) -> Option<Waiter>
+        ensures { result ≡ waiter_in self.now }
+    {
+        match self {
+            Place::Waits(waiter) | Place::Holds(waiter, _) => Some(*waiter),
+            Place::Empty => None,
+        }
+    }
+
+    /// The waiter's transaction.
+    pub(crate) fn txn(&self) -> Option<TxnId>
+        ensures { result ≡ txn_by (waiter_in self.now) }
+    {
+        Some(self.waiter()?.txn)
+    }
+
     /// When its wait ends at the latest.
     pub(crate) fn until(&self) -> Option<u64>
         ensures { result ≡ until_in self.now }
     {
-        match self {
-            Place::Waits(waiter) => waiter.until,
-            _ => None,
-        }
+        self.waiter()?.until
     }
 }

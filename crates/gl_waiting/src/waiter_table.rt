@@ -1,51 +1,44 @@
 //! The table of waiters, with each call carried out alone: begins are handed on by `Waiting`.
 
 ghost use Rattle.gl_slots.specs.Limit.{most_slots};
-ghost use Rattle.std.specs.Prelude.{◌≡◌, ◌<◌, ◌≤◌, ◌==◌, ℕ, Some, [], drop, not, replicate, slice_get};
-ghost use Rattle.gl_slots.specs.Slots.{HasNoSlot};
+ghost use Rattle.std.specs.Prelude.{◌≡◌, ◌==◌, ◌&&◌, ◌||◌, ℕ, [], drop, not, replicate, slice_get};
+ghost use Rattle.gl_slots.specs.Slots.{has_slot};
+ghost use Rattle.gl_waiting.specs.Waiters.{is_held};
 ghost use Rattle.gl_catalog.specs.Manager.{IsLawfulManager, state_of};
 ghost use Rattle.gl_rows.specs.Rows.{name_of};
-ghost use Rattle.gl_graph.specs.Refusals.{max_count};
-ghost use Rattle.gl_waiting.specs.Ends.{CallInTime, EndsInTime, PlaceGoes};
-ghost use Rattle.gl_waiting.specs.Going.{CallsOf};
-ghost use Rattle.gl_waiting.specs.Asking.{Asks, Awaits, Begins, BeginsInTurn, BeginsNext};
-ghost use Rattle.gl_waiting.specs.Asking.{Expires, GoesOnAtOnce, HandsOnAfter, HandsOnIf, IsInTurn, LocksPath};
-ghost use Rattle.gl_waiting.specs.Asking.{KeepsTurns, RollsBackTo, Serves, ServesRow};
-ghost use Rattle.gl_waiting.specs.Asking.{TimesOut, TriesRowThere, TriesThere, is_done, is_for_instant};
+ghost use Rattle.gl_waiting.specs.Asking.{Awaits, Begins, BeginsInTurn, BeginsNext, GoesOn, HandsOnAfter, HandsOnIf, IsInTurn, LocksPath};
+ghost use Rattle.gl_waiting.specs.Asking.{RollsBackTo, Serves, ServesRow, TimesOut, TriesRowThere, TriesThere, WithdrawsWaiter, is_done};
 ghost use Rattle.gl_waiting.specs.Begins.{earliest_of, has_word, is_late, without_first};
 ghost use Rattle.std.specs.List.{find, list_any};
-ghost use Rattle.gl_waiting.specs.Waiters.{Await, IsInTime, TakesEnd, earliest_until, place_at};
+ghost use Rattle.gl_waiting.specs.Ends.{IsNext, next_at};
+ghost use Rattle.gl_waiting.specs.Waiters.{earliest_until, first_late};
 ghost use Rattle.gl_wakes.specs.Boxes.{verdict_of};
 ghost use Rattle.gl_waiting.specs.Waiting.{delivery_in};
 ghost use Rattle.gl_waiting.specs.declared.waiter.Place.TheVariants.{Empty as empty};
 
-use crate::begins::{
-    BeginQueue, Begun, QueuedBegin, Turn, begin_command, begun_in, is_over, is_too_many,
-};
+use crate::begins::{BeginQueue, Begun, QueuedBegin, Turn, begin_command, begun_in, is_too_many};
 use crate::delivery::Delivery;
 use crate::places::Places;
 use crate::set_off::SetOff;
 use crate::tries::{Keep, RowTried, Tried};
-use crate::waiter::{Came, Outcome, Place, Request, Waiter};
-use crate::waiters::{continue_by, give_back, request_now, settle};
+use crate::waiter::{Came, Next, Outcome, Place, Waiter, outcome_of};
+use crate::waiters::continue_by;
 use gl_catalog::{Answer, Command, Manager, Reached};
 use gl_modes::{Mode, NodeId, Refusal};
 use gl_rows::{Row, RowAnswer, RowCall};
-use gl_slots::{SLOTS, Slot, Slots};
+use gl_slots::{Slot, Slots};
 use gl_table::{Told, TxnId};
 use gl_wakes::{Grant, Stop};
 use std::alloc::Global;
 use std::marker::Model;
 
-/// A registry with a notice box and a place for each slot: its waiter, or the end of its wait.
-///
-/// Each waiter waits: its transaction is in the queue of the node for which it waits. After each call every waiter that
-/// can go on has gone on: a path that was granted a node has requested the next, and a row that was granted has been locked
-/// again.
+/// A registry with a notice box for each slot, and its waiter, if it has one. A slot is due if its waiter's wait may be
+/// over: a call that ends waits notes their slots, and `go_on` looks at no others.
 #[derive(Drop)]
 pub(crate) struct WaiterTable {
     delivery: Delivery,
     places: Places,
+    due: Slots,
     begins: BeginQueue,
 }
 
@@ -72,14 +65,14 @@ impl WaiterTable {
         WaiterTable {
             delivery,
             places: Places::new(),
+            due: Slots::empty(),
             begins: BeginQueue::new(alloc),
         }
     }
 
     /// The law of every table of waiters.
     pub(crate) fn law(&self)
-        ensures manager { IsLawfulManager self.now.manager }
-        ensures awaits { Await (state_of self.now.manager) self.now.places }
+        ensures { IsLawfulManager self.now.manager }
     {
         self.delivery.law();
     }
@@ -110,24 +103,20 @@ impl WaiterTable {
         self.delivery.verdict(txn, node, mode)
     }
 
-    /// Carries out a command, as `Registry::serve`, with its notices put into an empty list. Waiters whose wait it ends
-    /// go on or end.
+    /// Carries out a command, as `Registry::serve`, with its notices put into an empty list.
     #[inline(always)]
-    pub(crate) fn serve(
-        &mut self,
-        command: Command<'_>,
-        told: &mut Told,
-    ) -> (Option<Answer>, SetOff)
+    pub(crate) fn serve(&mut self, command: Command<'_>, told: &mut Told) -> (Option<Answer>, Slots)
         requires empty { told.old.items ≡ [] }
         ensures { Serves self.old command.entry result.0 told.new.items result.1 self.new }
     {
         self.delivery.law();
         let (answer, ended) = self.delivery.serve(command, told);
-        (answer, settle(&mut self.delivery, &mut self.places, ended))
+        self.due = self.due.union(ended);
+        (answer, ended)
     }
 
     /// Locks a node with what must be held above it, as `Registry::lock_path`, with the notices put into an empty list: up
-    /// to its end, or to a lock that waits or makes victims. Waiters whose wait it ends go on or end.
+    /// to its end, or to a lock that waits or makes victims.
     #[inline(always)]
     pub(crate) fn lock_path(
         &mut self,
@@ -135,49 +124,47 @@ impl WaiterTable {
         node: NodeId,
         mode: Mode,
         told: &mut Told,
-    ) -> (Result<Reached, Refusal>, SetOff)
+    ) -> (Result<Reached, Refusal>, Slots)
         requires empty { told.old.items ≡ [] }
         ensures { LocksPath self.old txn (node, mode) result.0 told.new.items result.1 self.new }
     {
         self.delivery.law();
         let (reached, ended) = self.delivery.lock_path(txn, node, mode, told);
-        (reached, settle(&mut self.delivery, &mut self.places, ended))
+        self.due = self.due.union(ended);
+        (reached, ended)
     }
 
     /// Carries out a call about rows, as `Registry::apply`, with its notices put into an empty list. Waiters whose wait it
     /// ends go on or end.
     #[inline(always)]
-    pub(crate) fn serve_row(&mut self, call: RowCall<'_>, told: &mut Told) -> (RowAnswer, SetOff)
+    pub(crate) fn serve_row(&mut self, call: RowCall<'_>, told: &mut Told) -> (RowAnswer, Slots)
         requires empty { told.old.items ≡ [] }
         ensures { ServesRow self.old call.entry result.0 told.new.items result.1 self.new }
     {
         self.delivery.law();
         let (answer, ended) = self.delivery.serve_row(call, told);
-        (answer, settle(&mut self.delivery, &mut self.places, ended))
+        self.due = self.due.union(ended);
+        (answer, ended)
     }
 
-    /// Rolls back to a savepoint, as `Registry::release_since`, with its notices put into an empty list. Waiters whose
-    /// wait it ends go on or end.
+    /// Rolls back to a savepoint, as `Registry::release_since`, with its notices put into an empty list.
     #[inline(always)]
     pub(crate) fn release_since(
         &mut self,
         txn: TxnId,
         mark: usize,
         told: &mut Told,
-    ) -> (Result<usize, Refusal>, SetOff)
+    ) -> (Result<usize, Refusal>, Slots)
         requires empty { told.old.items ≡ [] }
         ensures { RollsBackTo self.old txn mark result.0 told.new.items result.1 self.new }
     {
         self.delivery.law();
         let (released, ended) = self.delivery.release_since(txn, mark, told);
-        (
-            released,
-            settle(&mut self.delivery, &mut self.places, ended),
-        )
+        self.due = self.due.union(ended);
+        (released, ended)
     }
 
-    /// Tries to lock a node with what must be held above it, as `Delivery::try_path`. Waiters whose wait a rollback ends
-    /// go on or end.
+    /// Tries to lock a node with what must be held above it, as `Delivery::try_path`.
     pub(crate) fn try_path(
         &mut self,
         txn: TxnId,
@@ -185,16 +172,17 @@ impl WaiterTable {
         mode: Mode,
         keep: Keep,
         told: &mut Told,
-    ) -> (Tried, SetOff)
+    ) -> (Tried, Slots)
         requires empty { told.old.items ≡ [] }
         ensures { TriesThere self.old txn (node, mode) keep result.0 told.new.items result.1 self.new }
     {
         self.delivery.law();
         let (tried, ended) = self.delivery.try_path(txn, node, mode, keep, told);
-        (tried, settle(&mut self.delivery, &mut self.places, ended))
+        self.due = self.due.union(ended);
+        (tried, ended)
     }
 
-    /// Tries to lock a row that has these keys, as `Delivery::try_row`. Waiters whose wait a release ends go on or end.
+    /// Tries to lock a row that has these keys, as `Delivery::try_row`.
     pub(crate) fn try_row(
         &mut self,
         txn: TxnId,
@@ -202,134 +190,120 @@ impl WaiterTable {
         keys: &[u64],
         mode: Mode,
         told: &mut Told,
-    ) -> (RowTried, SetOff)
+    ) -> (RowTried, Slots)
         requires empty { told.old.items ≡ [] }
         ensures { TriesRowThere self.old (record { txn = txn; row = row; keys = keys.entry; mode = mode }) result.0 told.new.items result.1 self.new }
     {
         self.delivery.law();
         let (tried, ended) = self.delivery.try_row(txn, row, keys, mode, told);
-        (tried, settle(&mut self.delivery, &mut self.places, ended))
+        self.due = self.due.union(ended);
+        (tried, ended)
     }
 
-    /// Carries out a request, with the notices of a single lock put into an empty list. If it waits, its transaction is a
-    /// waiter from now on, with at most this time to wait. A node that the transaction does not hold may be requested for
-    /// an instant: its lock is released as it is granted. `instant` says nothing of a row. Waiters whose wait the request
-    /// ends go on or end; it may be one of them.
-    pub(crate) fn ask(
-        &mut self,
-        txn: TxnId,
-        request: Request,
-        instant: bool,
-        until: Option<u64>,
-        told: &mut Told,
-    ) -> (Came, SetOff)
-        requires empty { told.old.items ≡ [] }
-        ensures { Asks self.old txn request instant until result.0 told.new.items result.1 self.new }
-    {
-        self.delivery.law();
-        let instant = is_for_instant(self.delivery.manager(), txn, request, instant);
-        let (came, ended) = request_now(&mut self.delivery, txn, request, told);
-        self.delivery.law();
-        match came {
-            Came::Ended(outcome) => {
-                let more = give_back(&mut self.delivery, instant, txn, request, outcome);
-                let due = ended.union(more);
-                (came, settle(&mut self.delivery, &mut self.places, due))
-            }
-            Came::Waits { at, wanted } => {
-                let waiter = Waiter {
-                    txn,
-                    request,
-                    instant,
-                    at,
-                    wanted,
-                    until,
-                };
-                self.places.put(txn.slot, Place::Waits(waiter));
-                let off = settle(&mut self.delivery, &mut self.places, ended);
-                (self.places.answer(txn.slot, came), off)
-            }
-        }
-    }
-
-    /// Takes the end of a wait, that of the lowest slot; `None` if there is none.
-    pub(crate) fn take_end(&mut self) -> Option<(TxnId, Outcome)>
-        ensures ends { TakesEnd self.old.places result self.new.places }
+    /// Registers the waiter of a request that a command left waiting. Answers that it waits, or, if its wait is over by
+    /// then, how; then it is not registered. `None` if the slot of its transaction has a waiter already.
+    pub(crate) fn await_request(&mut self, waiter: Waiter) -> Option<Came>
+        ensures awaits { Awaits self.old waiter result self.new }
         ensures rest { self.new ≡ record self.old { places = self.new.places } }
     {
-        self.places.take_end()
+        if self.places.waiter(waiter.txn.slot).is_some() {
+            return None;
+        }
+        match self.delivery.verdict(waiter.txn, waiter.at, waiter.wanted) {
+            Some(verdict) => Some(Came::Ended(outcome_of(waiter.at, verdict))),
+            None => {
+                self.delivery.law();
+                self.places.put(waiter.txn.slot, Place::Waits(waiter));
+                Some(Came::Waits {
+                    at: waiter.at,
+                    wanted: waiter.wanted,
+                })
+            }
+        }
     }
 
-    /// Registers the waiter of a request that a command left waiting. If its wait is over by then it goes on at once, and
-    /// others by that. Answers what the request came to; `None` if its transaction has a waiter already.
-    pub(crate) fn await_request(&mut self, waiter: Waiter) -> (Option<Came>, SetOff)
-        ensures { Awaits self.old waiter result.0 result.1 self.new }
+    /// Removes the waiter of a transaction, whose wait goes on; whether it had one.
+    pub(crate) fn withdraw_waiter(&mut self, txn: TxnId) -> bool
+        ensures { WithdrawsWaiter self.old txn result self.new }
     {
-        self.delivery.law();
-        if self.places.waiter_of(waiter.txn).is_some() {
-            return (None, SetOff::nothing());
+        if self.places.waiter_of(txn).is_none() {
+            return false;
         }
-        let Some(verdict) = self.delivery.verdict(waiter.txn, waiter.at, waiter.wanted) else {
-            self.places.put(waiter.txn.slot, Place::Waits(waiter));
-            let Waiter { at, wanted, .. } = waiter;
-            return (Some(Came::Waits { at, wanted }), SetOff::nothing());
+        self.places.put(txn.slot, Place::Empty);
+        true
+    }
+
+    /// Continues the waiter of the lowest slot whose wait is over, with the notices put into an empty list. Answers its
+    /// transaction and what its request came to; `None` if there is no such waiter.
+    pub(crate) fn go_on(&mut self, told: &mut Told) -> (Option<(TxnId, Came)>, Slots)
+        requires empty { told.old.items ≡ [] }
+        ensures { GoesOn self.old result.0 told.new.items result.1 self.new }
+    {
+        let Some((waiter, next)) = self.next() else {
+            self.due = Slots::empty();
+            return (None, Slots::empty());
         };
-        let (came, off) = self.go_on_at_once(waiter, verdict);
-        (Some(came), off)
+        self.delivery.law();
+        let (came, ended) = continue_by(&mut self.delivery, waiter, next, told);
+        self.places.put(waiter.txn.slot, waiter.place(came));
+        self.due = due_after(self.due, waiter.txn.slot, came, ended);
+        (Some((waiter.txn, came)), ended)
     }
 
-    /// Continues a waiter whose wait is over, and then others.
-    fn go_on_at_once(&mut self, waiter: Waiter, verdict: Result<Grant, Stop>) -> (Came, SetOff)
-        requires became { verdict_of (state_of self.old.manager) self.old.boxes waiter.txn waiter.at waiter.wanted ≡ Some verdict }
-        ensures { GoesOnAtOnce self.old waiter result.0 result.1 self.new }
+    /// The waiter of the lowest slot whose wait is over, and what it does next.
+    pub(crate) fn next(&self) -> Option<(Waiter, Next)>
+        ensures { IsNext self.now result }
     {
-        let before = self.delivery.manager().accepted();
-        self.delivery.law();
-        let (came, ended) = continue_by(&mut self.delivery, waiter, verdict);
-        self.delivery.law();
-        match came {
-            Came::Ended(outcome) => {
-                settle(&mut self.delivery, &mut self.places, ended);
-                (Came::Ended(outcome), went_on_since(&self.delivery, before))
+        let mut left = self.due;
+        'slots: while let Some(slot) = left.take_lowest() {
+            let next = self.next_at(slot);
+            if next.is_some() {
+                return next;
             }
-            Came::Waits { at, wanted } => {
-                let waits = Came::Waits { at, wanted };
-                self.places.put(waiter.txn.slot, waiter.place(waits));
-                settle(&mut self.delivery, &mut self.places, ended);
-                let came = self.places.answer(waiter.txn.slot, waits);
-                (came, went_on_since(&self.delivery, before))
+        }
+        None
+    }
+
+    /// The waiter of a slot and what it does next, if its wait is over.
+    fn next_at(&self, slot: Slot) -> Option<(Waiter, Next)>
+        ensures { result ≡ next_at self.now slot }
+    {
+        match self.places.at(slot) {
+            Place::Waits(waiter) => {
+                let verdict = self.delivery.verdict(waiter.txn, waiter.at, waiter.wanted)?;
+                Some((waiter, waiter.next(verdict)))
             }
+            Place::Holds(waiter, mode) => Some((waiter, waiter.next(waiter.granted(mode)))),
+            Place::Empty => None,
         }
     }
 
-    /// Ends the wait of a transaction whose time is over, if it has a waiter: its end is to be taken. Waiters whose wait
-    /// that ends go on or end. It waits on only if no command can be counted any more (`WornOut`).
-    pub(crate) fn time_out(&mut self, txn: TxnId) -> SetOff
-        ensures { TimesOut self.old txn result self.new }
+    /// Cancels the wait of a transaction whose time is over, as `RowCall::Cancel`, with the notices put into an empty list.
+    /// A row for which it waited is let go. Answers the end;
+    /// `None` if the transaction has no waiter, or if its wait cannot be cancelled, since it is over or no command can be
+    /// counted any more.
+    pub(crate) fn time_out(&mut self, txn: TxnId, told: &mut Told) -> (Option<Outcome>, Slots)
+        requires empty { told.old.items ≡ [] }
+        ensures { TimesOut self.old txn result.0 told.new.items result.1 self.new }
     {
         self.delivery.law();
         let Some(waiter) = self.places.waiter_of(txn) else {
-            return SetOff::nothing();
+            return (None, Slots::empty());
         };
-        let mut told = Told::new();
-        let (answer, ended) = self.delivery.serve(Command::Cancel { txn }, &mut told);
+        let (answer, ended) = self.delivery.serve_row(RowCall::Cancel { txn }, told);
+        self.due = self.due.union(ended);
         if !is_done(answer) {
-            return settle(&mut self.delivery, &mut self.places, ended);
+            return (None, ended);
         }
-        self.places
-            .put(txn.slot, Place::Ended(txn, Outcome::TimedOut(waiter.at)));
-        settle(&mut self.delivery, &mut self.places, ended)
+        self.places.put(txn.slot, Place::Empty);
+        (Some(Outcome::TimedOut(waiter.at)), ended)
     }
 
-    /// Ends each wait whose time is at or before now, as `time_out`.
-    pub(crate) fn expire(&mut self, now: u64) -> SetOff
-        ensures { Expires self.old now result self.new }
+    /// The transaction of the lowest slot whose wait should have ended by now.
+    pub(crate) fn first_late(&self, now: u64) -> Option<TxnId>
+        ensures { result ≡ first_late now self.now.places }
     {
-        let before = self.delivery.manager().accepted();
-        'slots: for slot in 0..SLOTS {
-            self.expire_at(slot as Slot, now);
-        }
-        went_on_since(&self.delivery, before)
+        self.places.first_late(now)
     }
 
     /// The earliest time at which a wait ends; `None` if none has one.
@@ -339,25 +313,8 @@ impl WaiterTable {
         self.places.earliest()
     }
 
-    /// Ends the wait of a slot, if its time is over.
-    fn expire_at(&mut self, slot: Slot, now: u64)
-        ensures calls { CallsOf (CallInTime now self.old.places) (delivery_in self.old) (delivery_in self.new) }
-        ensures low { self.old.manager.accepted ≤ self.new.manager.accepted }
-        ensures places { (u : ℕ) → PlaceGoes (EndsInTime now (delivery_in self.old) (delivery_in self.new)) (place_at self.old.places u)
-            (place_at self.new.places u) }
-        ensures turns { KeepsTurns self.old self.new }
-        ensures over { self.new.manager.accepted < max_count → IsInTime now (place_at self.new.places slot) }
-    {
-        let Some(waiter) = self.places.waiter(slot) else {
-            return;
-        };
-        if is_over(waiter.until, now) {
-            self.time_out(waiter.txn);
-        }
-    }
-
     /// Begins a transaction, for new work or for work since an earlier begin. It does not ask who waits for a slot.
-    pub(crate) fn begin(&mut self, since: Option<u64>) -> (Result<TxnId, Refusal>, SetOff)
+    pub(crate) fn begin(&mut self, since: Option<u64>) -> (Result<TxnId, Refusal>, Slots)
         ensures { Begins self.old since result.0 result.1 self.new }
     {
         self.delivery.law();
@@ -365,43 +322,48 @@ impl WaiterTable {
         let (answer, ended) = self.delivery.serve(begin_command(since), &mut told);
         let Some(answer) = answer else { unreachable!() };
         match begun_in(answer) {
-            Ok(txn) => (Ok(txn), settle(&mut self.delivery, &mut self.places, ended)),
-            Err(refusal) => (Err(refusal), SetOff::nothing()),
+            Ok(txn) => {
+                self.due = self.due.union(ended);
+                (Ok(txn), ended)
+            }
+            Err(refusal) => (Err(refusal), Slots::empty()),
         }
     }
 
     /// Begins a transaction if nobody waits for a slot and one is free; otherwise the begin waits for one, after all who
     /// wait already.
-    pub(crate) fn begin_in_turn(&mut self, begin: QueuedBegin) -> (Turn, SetOff)
+    pub(crate) fn begin_in_turn(&mut self, begin: QueuedBegin) -> (Turn, Slots)
         requires turn { IsInTurn self.old }
         ensures { BeginsInTurn self.old begin result.0 result.1 self.new }
     {
         if self.begins.is_empty() {
-            let (came, off) = self.begin(begin.since);
+            let (came, ended) = self.begin(begin.since);
             if !is_too_many(came) {
-                return (Turn::Came(came), off);
+                return (Turn::Came(came), ended);
             }
         }
         match self.begins.enter(begin) {
-            Ok(()) => (Turn::Queued, SetOff::nothing()),
-            Err(_) => (Turn::NoMemory, SetOff::nothing()),
+            Ok(()) => (Turn::Queued, Slots::empty()),
+            Err(_) => (Turn::NoMemory, Slots::empty()),
         }
     }
 
-    /// Hands on begins until nobody waits for a slot, or every slot is taken. `own` is what the call set off before that; the
-    /// answer is what it set off in all.
+    /// Hands on begins until nobody waits for a slot, or every slot is taken. The call ended the waits of the slots `own`
+    /// before that. Answers what it set off in all.
     #[inline(always)]
-    pub(crate) fn hand_on(&mut self, own: SetOff) -> SetOff
+    pub(crate) fn hand_on(&mut self, own: Slots) -> SetOff
         ensures hands { HandsOnAfter own self.old result self.new }
         ensures turn { IsInTurn self.new }
     {
         if self.begins.is_empty() {
-            return own;
+            return SetOff {
+                ended: own,
+                went_on: false,
+            };
         }
-        let more = self.hand_on_some();
         SetOff {
-            ended: own.ended,
-            went_on: own.went_on || more,
+            ended: own,
+            went_on: self.hand_on_some(),
         }
     }
 
@@ -427,7 +389,7 @@ impl WaiterTable {
         let Some(first) = self.begins.first() else {
             return false;
         };
-        let (came, _off) = self.begin(first.since);
+        let (came, _ended) = self.begin(first.since);
         if is_too_many(came) {
             return false;
         }
@@ -467,33 +429,20 @@ impl WaiterTable {
     }
 }
 
-/// What was set off by no command of the caller's own, since so many commands had been counted.
-fn went_on_since(delivery: &Delivery, before: u64) -> SetOff
-    ensures ended { HasNoSlot result.ended }
-    ensures went_on { result.went_on ≡ not (delivery.now.manager.accepted == before) }
+/// The slots that are due after the waiter of this one came to this, and the waits of these slots ended.
+fn due_after(due: Slots, slot: Slot, came: Came, ended: Slots) -> Slots
+    ensures { (u : ℕ) → has_slot result u ≡ (has_slot due u && not (u == slot && not (is_held came)) || has_slot ended u) }
 {
-    SetOff {
-        ended: Slots::empty(),
-        went_on: delivery.manager().accepted() != before,
+    let mut left = due;
+    if !came.is_held() {
+        left.remove(slot);
     }
+    left.union(ended)
 }
 
-/// Whether a request is for an instant: it is said so, and its transaction does not hold the node. No request for a row
-/// is.
-fn is_for_instant(manager: &Manager, txn: TxnId, request: Request, instant: bool) -> bool
-    ensures { result ≡ is_for_instant (state_of manager.now) txn request instant }
-{
-    match request {
-        Request::Node { node, .. } | Request::Path { node, .. } => {
-            instant && matches!(manager.mode_on(txn, node), Some(Mode::NL))
-        }
-        Request::Row { .. } => false,
-    }
-}
-
-/// Whether a command was done.
-fn is_done(answer: Option<Answer>) -> bool
+/// Whether a call was done.
+fn is_done(answer: RowAnswer) -> bool
     ensures { result ≡ is_done answer }
 {
-    matches!(answer, Some(Answer::Done))
+    matches!(answer, RowAnswer::Answered(Answer::Done))
 }

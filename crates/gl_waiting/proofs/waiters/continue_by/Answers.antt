@@ -1,39 +1,29 @@
-use Rattle.std.proofs.Common.{inr, refl, sym}
-use Rattle.gl_waiting.proofs.GoingOn.{again_row, ends_by_row, ends_by_verdict, ends_now, goes_on_path, granted_in}
-use Rattle.gl_waiting.proofs.OwnCalls.{that_calls, unlocks_own}
+use Rattle.std.proofs.Common.{refl, inr}
+use Rattle.gl_catalog.specs.Manager.{state_of}
+use Rattle.gl_steps.specs.declared.command.Command.TheVariants as command
+use Rattle.gl_waiting.proofs.Runs.{call_made, run_none}
 use Rattle.gl_waiting.proofs.waiters.continue_by.Goals as goal
 
-pub returns-in-End-clause-place : goal.returns-in-End-clause-place
-returns-in-End-clause-place c =
-    inr (
-      c.in-End.outcome,
-      refl,
-      ends_now c.args.delivery.now c.give_back-ended.new.delivery c.args.waiter c.in-End.outcome
-          (ends_by_verdict c.args.delivery.now c.args.waiter c.args.verdict c.in-End.outcome (sym c.requires.became) c.in-End.ensures)
-          c.give_back-ended.ensures.gives,
-    )
+pub returns-in-End-clause-call : goal.returns-in-End-clause-call
+returns-in-End-clause-call c = (
+  call_made c.args.delivery.now c.args.delivery.now command.Begin c.args.told.now.items c.empty.result
+      (inr (record { same = refl; untold = c.requires.empty; none = c.empty.ensures.none })) (run_none (state_of c.args.delivery.now.manager)),
+  refl,
+  refl,
+)
 
-pub returns-in-End-clause-calls : goal.returns-in-End-clause-calls
-returns-in-End-clause-calls c = unlocks_own c.args.waiter c.args.delivery.now c.give_back-ended.new.delivery c.give_back-ended.ensures.calls
+pub returns-in-GoOn-clause-call : goal.returns-in-GoOn-clause-call
+returns-in-GoOn-clause-call c = (
+  call_made c.args.delivery.now c.lock_path-reached.new.self _ c.lock_path-reached.new.told.items c.lock_path-reached.result.1
+      c.lock_path-reached.ensures.carries c.lock_path-reached.ensures.run,
+  refl,
+  refl,
+)
 
-pub go_on-requires : goal.go_on-requires
-go_on-requires c = record { path = goes_on_path c.args.waiter c.args.verdict c.in-GoOn.node c.in-GoOn.mode c.in-GoOn.ensures }
-
-pub lock_again-end-requires : goal.lock_again-end-requires
-lock_again-end-requires c =
-    let is = again_row c.args.waiter c.args.verdict c.in-LockAgain.row c.in-LockAgain.keys c.in-LockAgain.mode c.in-LockAgain.granted
-    c.in-LockAgain.ensures in
-    record {
-      asked = is.0;
-      became = granted_in c.args.delivery.now c.args.waiter c.in-LockAgain.granted c.args.verdict (sym c.requires.became) is.1;
-    }
-
-pub returns-in-LockAgain-clause-place : goal.returns-in-LockAgain-clause-place
-returns-in-LockAgain-clause-place c =
-    let again = c.lock_again-end.ensures in
-    inr (
-      c.lock_again-end.result.0,
-      refl,
-      ends_by_row c.args.delivery.now c.lock_again-end.new.delivery c.args.waiter c.lock_again-end.result.0
-          (that_calls c.args.delivery.now c.lock_again-end.new.delivery _ again.calls) again.ends,
-    )
+pub returns-in-LockAgain-clause-call : goal.returns-in-LockAgain-clause-call
+returns-in-LockAgain-clause-call c = (
+  call_made c.args.delivery.now c.lock_row-locked.new.self _ c.lock_row-locked.new.told.items c.lock_row-locked.result.1
+      c.lock_row-locked.ensures.carries c.lock_row-locked.ensures.run,
+  refl,
+  refl,
+)

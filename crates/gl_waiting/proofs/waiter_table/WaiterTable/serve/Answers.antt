@@ -1,41 +1,29 @@
-use Rattle.std.proofs.Common.{refl, subst, sym}
-use Rattle.gl_slots.specs.declared.slots.Slots.{Slots}
-use Rattle.gl_waiting.specs.Delivering.{Carries}
-use Rattle.gl_waiting.specs.Ends.{NoneAwaits}
+use Rattle.std.proofs.Common.{refl, subst}
 use Rattle.gl_catalog.specs.Manager.{state_of}
 use Rattle.gl_waiting.specs.Asking.{Serves}
 use Rattle.gl_waiting.specs.Waiting.{WaitingView}
 use Rattle.gl_waiting.proofs.Counting.{carries_or_not, nothing_counted}
-use Rattle.gl_waiting.proofs.Awaiting.{await_on, carries_ended, waiting_with}
-use Rattle.gl_waiting.proofs.Idle.{none_awaits}
+use Rattle.gl_waiting.proofs.Awaiting.{carries_ended, due_on, waiting_with}
 use Rattle.gl_waiting.proofs.waiter_table.WaiterTable.serve.Goals as goal
 
-pub settle-requires : goal.settle-requires
-settle-requires c = record {
-  awaits = await_on (state_of c.self.inside.delivery.manager) (state_of c.serve-answer.new.self.manager) c.self.inside.places c.serve-answer.result.1
-      c.self.invariant c.law.ensures.lawful
-      (carries_ended c.self.inside.delivery c.serve-answer.new.self c.args.command c.serve-answer.new.told.items c.serve-answer.result.1
-      c.serve-answer.ensures.carries);
-}
+pub invariant_of-self : goal.invariant_of-self
+invariant_of-self c =
+    due_on (state_of c.self.inside.delivery.manager) (state_of c.serve-answer.new.self.manager) c.serve-answer.result.1 c.law.ensures.lawful
+    (carries_ended c.self.inside.delivery c.serve-answer.new.self _ c.serve-answer.new.told.items c.serve-answer.result.1 c.serve-answer.ensures.carries)
+    c.self.inside.due c.union-self-inside.result c.self.inside.places
+    c.union-self-inside.ensures c.self.invariant
 
 pub returns : goal.returns
 returns c =
     subst
-    (λ (v : WaitingView). Serves v c.args.command c.serve-answer.result.0 c.serve-answer.new.told.items
-    c.settle.result (waiting_with c.settle.new.delivery c.settle.new.places c.self.inside.begins)) c.self.view_is
+    (λ (v : WaitingView). Serves v c.args.command c.serve-answer.result.0 c.serve-answer.new.told.items c.serve-answer.result.1
+    (waiting_with c.serve-answer.new.self c.self.inside.places c.self.inside.begins)) c.self.view_is
     (record {
-      served = c.serve-answer.new.self;
       serves = c.serve-answer.ensures.serves;
-      delivers = subst (λ (ended : Slots). Carries c.self.inside.delivery c.args.command c.serve-answer.new.told.items ended c.serve-answer.new.self)
-          (sym c.settle.ensures.ended) c.serve-answer.ensures.carries;
+      delivers = c.serve-answer.ensures.carries;
       run = c.serve-answer.ensures.run;
-      goes = c.settle.ensures.goes;
-      idle = λ h. c.settle.ensures.idle (subst (λ (ended : Slots). NoneAwaits ended c.self.inside.places) c.settle.ensures.ended h);
-      went_on = c.settle.ensures.went_on;
-      turns = (refl, refl);
-      nothing = nothing_counted c.self.inside.delivery c.serve-answer.new.self c.settle.new.delivery c.serve-answer.result.1 c.self.inside.places
-          c.settle.new.places
-          c.self.inside.begins
-          (carries_or_not c.self.inside.delivery c.serve-answer.new.self c.args.command c.serve-answer.new.told.items c.serve-answer.result.1
-          c.serve-answer.ensures.carries) c.settle.ensures.low (λ none. c.settle.ensures.idle (none_awaits _ _ none));
+      beside = (refl, refl, refl);
+      nothing = nothing_counted c.self.inside.delivery c.serve-answer.new.self c.serve-answer.result.1 c.self.inside.places c.self.inside.begins
+          (carries_or_not c.self.inside.delivery c.serve-answer.new.self _ c.serve-answer.new.told.items c.serve-answer.result.1
+          c.serve-answer.ensures.carries);
     })

@@ -11,6 +11,6 @@ returns c =
     let txn = c.args.txn in
     let ask : Ask = (c.args.node, c.args.mode) in
     let told = call.new.told.items in
-    subst (λ (v : WaitingView). InTurn v (λ off mid. LocksPath v txn ask call.result.0 told off mid) c.hand_on.result c.hand_on.new.self)
+    subst (λ (v : WaitingView). InTurn v (λ ended mid. LocksPath v txn ask call.result.0 told ended mid) c.hand_on.result c.hand_on.new.self)
     c.self.view_is (in_turn c.self.inside.table _ call.result.1 call.new.self c.hand_on.result c.hand_on.new.self c.self.invariant call.ensures
     c.hand_on.ensures.hands)

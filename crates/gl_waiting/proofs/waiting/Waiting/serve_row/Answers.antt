@@ -7,6 +7,6 @@ use Rattle.gl_waiting.proofs.waiting.Waiting.serve_row.Goals as goal
 pub returns : goal.returns
 returns c =
     let call = c.serve_row-answer in
-    subst (λ (v : WaitingView). InTurn v (λ off mid. ServesRow v c.args.call call.result.0 call.new.told.items off mid) c.hand_on.result c.hand_on.new.self)
+    subst (λ (v : WaitingView). InTurn v (λ ended mid. ServesRow v c.args.call call.result.0 call.new.told.items ended mid) c.hand_on.result c.hand_on.new.self)
     c.self.view_is (in_turn c.self.inside.table _ call.result.1 call.new.self c.hand_on.result c.hand_on.new.self c.self.invariant call.ensures
     c.hand_on.ensures.hands)

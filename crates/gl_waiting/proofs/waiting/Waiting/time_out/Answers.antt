@@ -6,7 +6,7 @@ use Rattle.gl_waiting.proofs.waiting.Waiting.time_out.Goals as goal
 
 pub returns : goal.returns
 returns c =
-    subst
-    (λ (v : WaitingView). InTurn v (λ off mid. TimesOut v c.args.txn off mid) c.hand_on.result c.hand_on.new.self) c.self.view_is
-    (in_turn c.self.inside.table _ c.time_out-own.result c.time_out-own.new.self c.hand_on.result c.hand_on.new.self c.self.invariant c.time_out-own.ensures
+    let call = c.time_out-end in
+    subst (λ (v : WaitingView). InTurn v (λ ended mid. TimesOut v c.args.txn call.result.0 call.new.told.items ended mid) c.hand_on.result c.hand_on.new.self)
+    c.self.view_is (in_turn c.self.inside.table _ call.result.1 call.new.self c.hand_on.result c.hand_on.new.self c.self.invariant call.ensures
     c.hand_on.ensures.hands)

@@ -9,6 +9,6 @@ pub returns : goal.returns
 returns c =
     let call = c.try_row-tried in
     let wish : Wish = record { txn = c.args.txn; row = c.args.row; keys = c.args.keys; mode = c.args.mode } in
-    subst (λ (v : WaitingView). InTurn v (λ off mid. TriesRowThere v wish call.result.0 call.new.told.items off mid) c.hand_on.result c.hand_on.new.self)
+    subst (λ (v : WaitingView). InTurn v (λ ended mid. TriesRowThere v wish call.result.0 call.new.told.items ended mid) c.hand_on.result c.hand_on.new.self)
     c.self.view_is (in_turn c.self.inside.table _ call.result.1 call.new.self c.hand_on.result c.hand_on.new.self c.self.invariant call.ensures
     c.hand_on.ensures.hands)
