@@ -26,9 +26,7 @@ use Rattle.gl_rows.specs.declared.answer.RowAnswer.{RowAnswer}
 use Rattle.gl_rows.specs.declared.call.RowCall.{RowCall}
 use Rattle.gl_waiting.specs.Asking.{LocksPath, RollsBackTo, Serves, ServesRow, TriesRowThere, TriesThere}
 use Rattle.gl_waiting.specs.Delivering.{ComesToNothing, DeliveryView, registry_in}
-use Rattle.gl_waiting.specs.Going.{WentOn}
 use Rattle.gl_waiting.specs.Waiting.{WaitingView, delivery_in}
-use Rattle.gl_waiting.specs.declared.set_off.SetOff.{SetOff}
 use Rattle.gl_waiting.specs.declared.tries.Keep.{Keep}
 use Rattle.gl_waiting.specs.declared.tries.RowTried.{RowTried}
 use Rattle.gl_waiting.specs.declared.tries.Tried.{Tried}
@@ -49,25 +47,20 @@ known_all : (s : State) (shown : Option Strip) (parties : Option Slots) → Know
 known_all s shown None known = tt
 known_all s shown (Some set) known = known
 
-module _ (v : WaitingView) (shown : Option Strip) (parties : Option Slots) (knows : KnowsWaits (state_of v.manager) shown parties) (off : SetOff)
-    (v' : WaitingView) (quiet : off.went_on ≡ false) where
+module _ (v : WaitingView) (shown : Option Strip) (parties : Option Slots) (knows : KnowsWaits (state_of v.manager) shown parties) (ended : Slots)
+    (v' : WaitingView) where
   -- after any of them this is known
   abbrev Known : (Slots → Bool) → Type 0
   Known spares = KnowsWaits (state_of v'.manager) shown (still_known parties spares)
 
-  -- nobody went on from the call itself
-  alone : (served : DeliveryView) → WentOn off.went_on served (delivery_in v') → delivery_in v' ≡ served
-  alone served went_on = subst (λ (b : Bool). WentOn b served (delivery_in v')) quiet went_on
-
   module _ (law : IsLawful (state_of v.manager)) (few : (state_of v.manager).most ≤ most_slots) where
     -- a command
-    pub command_known : (c : Command) (a : Option Answer) (told : Told) → Serves v c a told off v' → Known (spared_by c a told)
+    pub command_known : (c : Command) (a : Option Answer) (told : Told) → Serves v c a told ended v' → Known (spared_by c a told)
     command_known c a told h =
-        subst (λ (d : DeliveryView). KnowsWaits (state_of d.manager) shown (still_known parties (spared_by c a told))) (sym (alone h.served h.went_on))
-        (by a (touches_rows (registry_in (delivery_in v)) c) h.serves)
+        by a (touches_rows (registry_in (delivery_in v)) c) h.serves
       where
-        by : (o : Option Answer) (b : Bool) → ServesBy b (registry_in (delivery_in v)) c o told (registry_in h.served)
-            → KnowsWaits (state_of h.served.manager) shown (still_known parties (spared_by c o told))
+        by : (o : Option Answer) (b : Bool) → ServesBy b (registry_in (delivery_in v)) c o told (registry_in (delivery_in v'))
+            → KnowsWaits (state_of v'.manager) shown (still_known parties (spared_by c o told))
         by None true same =
             subst (λ (r : RegistryView). KnowsWaits (state_of r.manager) shown (still_known parties (λ known. true))) (sym same.2)
             (known_all (state_of v.manager) shown parties knows)
@@ -75,29 +68,24 @@ module _ (v : WaitingView) (shown : Option Strip) (parties : Option Slots) (know
         by None false some = absurd (cc some.1)
         by (Some x) false (y, is, applies, rows) =
             let same : x ≡ y = cc is in
-            knows_still (state_of v.manager) (state_of h.served.manager) shown parties c x told law few
-            (subst (λ (z : Answer). Step (state_of v.manager) c z told (state_of h.served.manager)) (sym same) applies.step) knows
+            knows_still (state_of v.manager) (state_of v'.manager) shown parties c x told law few
+            (subst (λ (z : Answer). Step (state_of v.manager) c z told (state_of v'.manager)) (sym same) applies.step) knows
 
     -- a path
-    pub path_knows : (t : TxnId) (ask : Ask) (result : Result Reached Refusal) (told : Told) → LocksPath v t ask result told off v'
+    pub path_knows : (t : TxnId) (ask : Ask) (result : Result Reached Refusal) (told : Told) → LocksPath v t ask result told ended v'
         → Known (λ known. leaves_on_path known t result told)
     path_knows t ask result told h =
-        subst (λ (d : DeliveryView). KnowsWaits (state_of d.manager) shown (still_known parties (λ known. leaves_on_path known t result told)))
-        (sym (alone h.served h.went_on))
-        (path_known t ask v.manager h.served.manager told result h.path.untold h.path.path law few shown parties knows)
+        path_known t ask v.manager v'.manager told result h.path.untold h.path.path law few shown parties knows
 
     -- a call about rows that is counted
-    pub row_knows : (c : RowCall) (a : RowAnswer) (told : Told) → ServesRow v c a told off v' → (v'.manager.accepted ≡ v.manager.accepted → ⊥)
+    pub row_knows : (c : RowCall) (a : RowAnswer) (told : Told) → ServesRow v c a told ended v' → (v'.manager.accepted ≡ v.manager.accepted → ⊥)
         → Known (spared_by (own_command unnamed c) (answer_in a) told)
     row_knows c a told h more = by (answer_in a) refl
       where
-        is : delivery_in v' ≡ h.served
-        is = alone h.served h.went_on
-
         some : comes_to_nothing (answer_in a) ≡ true → ⊥
         some so =
-            let same = nothing_done v.manager v.rows a told h.served.manager h.served.rows so c h.applies in
-            more (ap (λ (d : DeliveryView). d.manager.accepted) is ∙ ap (λ (m : ManagerView). m.accepted) same.1)
+            let same = nothing_done v.manager v.rows a told v'.manager v'.rows so c h.applies in
+            more (ap (λ (m : ManagerView). m.accepted) same.1)
 
         by : (o : Option Answer) → answer_in a ≡ o → Known (spared_by (own_command unnamed c) o told)
         by None so = absurd (some (ap comes_to_nothing so))
@@ -106,30 +94,25 @@ module _ (v : WaitingView) (shown : Option Strip) (parties : Option Slots) (know
             refuses : (b : Bool) → is_refused x ≡ b → Known (λ known. leaves_waits known (own_command unnamed c) x told)
             refuses true e = absurd (some (ap comes_to_nothing so ∙ e))
             refuses false e =
-                subst (λ (d : DeliveryView). KnowsWaits (state_of d.manager) shown
-                (still_known parties (λ known. leaves_waits known (own_command unnamed c) x told))) (sym is)
-                (row_known (registry_in (delivery_in v)) c a told (registry_in h.served) h.own x so e law few shown parties knows)
+                row_known (registry_in (delivery_in v)) c a told (registry_in (delivery_in v')) h.own x so e law few shown parties knows
 
   -- if nobody waited, nobody waits
-  nobody : (served : DeliveryView) → WentOn off.went_on served (delivery_in v') → (NobodyWaits (state_of v.manager) → NobodyWaits (state_of served.manager))
-      → Known has_none
-  nobody served went_on idle =
-      subst (λ (d : DeliveryView). KnowsWaits (state_of d.manager) shown (still_known parties has_none)) (sym (alone served went_on))
-      (knows_nobody (state_of v.manager) (state_of served.manager) shown parties idle knows)
+  nobody : (NobodyWaits (state_of v.manager) → NobodyWaits (state_of v'.manager)) → Known has_none
+  nobody idle = knows_nobody (state_of v.manager) (state_of v'.manager) shown parties idle knows
 
   -- a rollback to a savepoint
-  pub back_knows : (t : TxnId) (mark : ℕ) (result : Result ℕ Refusal) (told : Told) → RollsBackTo v t mark result told off v' → Known has_none
-  back_knows t mark result told h = nobody h.served h.went_on (by result h.back h.refused)
+  pub back_knows : (t : TxnId) (mark : ℕ) (result : Result ℕ Refusal) (told : Told) → RollsBackTo v t mark result told ended v' → Known has_none
+  back_knows t mark result told h = nobody (by result h.back h.refused)
     where
-      by : (x : Result ℕ Refusal) → GoesBackTo t mark v.manager v.rows x told h.served.manager h.served.rows
-          → OnErr x (ComesToNothing (delivery_in v) told off.ended h.served) → NobodyWaits (state_of v.manager) → NobodyWaits (state_of h.served.manager)
-      by (Ok k) back none idle = back_quiet (registry_in (delivery_in v)) (registry_in h.served) t mark k told back idle
+      by : (x : Result ℕ Refusal) → GoesBackTo t mark v.manager v.rows x told v'.manager v'.rows
+          → OnErr x (ComesToNothing (delivery_in v) told ended (delivery_in v')) → NobodyWaits (state_of v.manager) → NobodyWaits (state_of v'.manager)
+      by (Ok k) back none idle = back_quiet (registry_in (delivery_in v)) (registry_in (delivery_in v')) t mark k told back idle
       by (Err r) back none idle = subst (λ (d : DeliveryView). NobodyWaits (state_of d.manager)) (sym none.same) idle
 
   -- a path that is tried
-  pub tried_knows : (k : Keep) (t : TxnId) (ask : Ask) (came : Tried) (told : Told) → TriesThere v t ask k came told off v' → Known has_none
-  tried_knows k t ask came told h = nobody h.served h.went_on (path_idle k t ask (delivery_in v) came told off.ended h.served h.tries)
+  pub tried_knows : (k : Keep) (t : TxnId) (ask : Ask) (came : Tried) (told : Told) → TriesThere v t ask k came told ended v' → Known has_none
+  tried_knows k t ask came told h = nobody (path_idle k t ask (delivery_in v) came told ended (delivery_in v') h.tries)
 
   -- a row that is tried
-  pub tried_row_knows : (w : Wish) (came : RowTried) (told : Told) → TriesRowThere v w came told off v' → Known has_none
-  tried_row_knows w came told h = nobody h.served h.went_on (λ idle u. h.waits u (idle u))
+  pub tried_row_knows : (w : Wish) (came : RowTried) (told : Told) → TriesRowThere v w came told ended v' → Known has_none
+  tried_row_knows w came told h = nobody (λ idle u. h.waits u (idle u))

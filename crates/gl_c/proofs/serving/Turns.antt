@@ -19,7 +19,6 @@ use Rattle.gl_waiting.specs.Waiting.{WaitingView, delivery_in}
 use Rattle.gl_waiting.specs.declared.begins.QueuedBegin.{QueuedBegin}
 use Rattle.gl_waiting.specs.declared.begins.Turn.{Turn}
 use Rattle.gl_waiting.specs.declared.begins.Turn.TheVariants as turn
-use Rattle.gl_waiting.specs.declared.set_off.SetOff.{SetOff}
 use Rattle.gl_waiting.proofs.Beginning.{begin_made}
 use Rattle.gl_waiting.proofs.Runs.{run_same}
 use Rattle.gl_waiting.proofs.TurnRuns.{TurnRun, begin_run}
@@ -34,10 +33,10 @@ use Rattle.gl_c.proofs.serving.Known.{command_known}
 same_state : (v v' : WaitingView) → state_of v'.manager ≡ state_of v.manager → TurnRun v v'
 same_state v v' same = run_same (state_of v.manager) (state_of v'.manager) same
 
-pub turn_is_run : (v : WaitingView) (b : QueuedBegin) (came : Turn) (off : SetOff) (v' : WaitingView) → BeginsInTurn v b came off v' → TurnRun v v'
-turn_is_run v b (turn.Came result) off v' h = begin_run v b.since result off v' h.2
-turn_is_run v b turn.Queued off v' h = same_state v v' (ap (λ (x : WaitingView). state_of x.manager) h.2)
-turn_is_run v b turn.NoMemory off v' h = same_state v v' (ap (λ (x : WaitingView). state_of x.manager) h.2)
+pub turn_is_run : (v : WaitingView) (b : QueuedBegin) (came : Turn) (ended : Slots) (v' : WaitingView) → BeginsInTurn v b came ended v' → TurnRun v v'
+turn_is_run v b (turn.Came result) ended v' h = begin_run v b.since result ended v' h.2
+turn_is_run v b turn.Queued ended v' h = same_state v v' (ap (λ (x : WaitingView). state_of x.manager) h.2)
+turn_is_run v b turn.NoMemory ended v' h = same_state v v' (ap (λ (x : WaitingView). state_of x.manager) h.2)
 
 -- a begin tells nobody
 module _ (s : State) (a : Answer) (told : Told) (s' : State) where
@@ -65,21 +64,21 @@ known_less s shown (Some set) spares known = by (spares set)
     by true = known
     by false = tt
 
-module _ (v : WaitingView) (shown : Option Strip) (parties : Option Slots) (knows : KnowsWaits (state_of v.manager) shown parties) (off : SetOff)
-    (v' : WaitingView) (quiet : off.went_on ≡ false) (law : IsLawful (state_of v.manager)) (few : (state_of v.manager).most ≤ most_slots) where
+module _ (v : WaitingView) (shown : Option Strip) (parties : Option Slots) (knows : KnowsWaits (state_of v.manager) shown parties) (ended : Slots)
+    (v' : WaitingView) (law : IsLawful (state_of v.manager)) (few : (state_of v.manager).most ≤ most_slots) where
   same_known : (spares : Slots → Bool) → state_of v'.manager ≡ state_of v.manager → KnowsWaits (state_of v'.manager) shown (still_known parties spares)
   same_known spares same =
       subst (λ (s : State). KnowsWaits s shown (still_known parties spares)) (sym same) (known_less (state_of v.manager) shown parties spares knows)
 
-  pub turn_knows : (b : QueuedBegin) (came : Turn) → BeginsInTurn v b came off v'
+  pub turn_knows : (b : QueuedBegin) (came : Turn) → BeginsInTurn v b came ended v'
       → KnowsWaits (state_of v'.manager) shown (still_known parties (spared_by (begin_of b.since) (turn_said came) []))
   turn_knows b (turn.Came (Ok t)) begins =
       let told = begins.2.0 in
       let h = begins.2.1 in
-      let made = begin_made b.since (registry_in (delivery_in v)) (registry_in h.served) (Some (answer.Begun t)) told h.serves in
-      let untold : told ≡ [] = begin_told (state_of v.manager) made.0 told (state_of h.served.manager) b.since made.2.step in
+      let made = begin_made b.since (registry_in (delivery_in v)) (registry_in (delivery_in v')) (Some (answer.Begun t)) told h.serves in
+      let untold : told ≡ [] = begin_told (state_of v.manager) made.0 told (state_of v'.manager) b.since made.2.step in
       subst (λ (l : Told). KnowsWaits (state_of v'.manager) shown (still_known parties (spared_by (begin_of b.since) (Some (answer.Begun t)) l))) untold
-      (command_known v shown parties knows off v' quiet law few (begin_of b.since) (Some (answer.Begun t)) told h)
+      (command_known v shown parties knows ended v' law few (begin_of b.since) (Some (answer.Begun t)) told h)
   turn_knows b (turn.Came (Err r)) h = same_known _ (ap (λ (x : WaitingView). state_of x.manager) h.2.2)
   turn_knows b turn.Queued h = same_known _ (ap (λ (x : WaitingView). state_of x.manager) h.2)
   turn_knows b turn.NoMemory h = same_known _ (ap (λ (x : WaitingView). state_of x.manager) h.2)

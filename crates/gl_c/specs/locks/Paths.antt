@@ -60,7 +60,7 @@ leaves_on_path parties t result told =
 -- the call that locks a node after what must be held above it
 abbrev pub path_call : TxnId → Ask → CallOf (Result Reached Refusal)
 path_call t ask = record {
-  does = λ v result told off v'. InTurn v (λ own mid. LocksPath v t ask result told own mid) off v';
+  does = λ v result told off v'. InTurn v (λ ended mid. LocksPath v t ask result told ended mid) off v';
   spares = λ result told known. leaves_on_path known t result told;
   says = path_reply ask.0;
 }

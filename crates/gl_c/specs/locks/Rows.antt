@@ -35,7 +35,7 @@ call_reply row_answer.NotRows = status_reply not_rows
 -- a call about rows; whether it is known to leave all waits does not depend on their nodes
 abbrev pub row_call : RowCall → CallOf RowAnswer
 row_call c = record {
-  does = λ v a told off v'. InTurn v (λ own mid. ServesRow v c a told own mid) off v';
+  does = λ v a told off v'. InTurn v (λ ended mid. ServesRow v c a told ended mid) off v';
   spares = λ a told known. spared_by (own_command unnamed c) (answer_in a) told known;
   says = call_reply;
 }

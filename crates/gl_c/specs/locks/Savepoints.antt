@@ -16,7 +16,7 @@ back_reply (Err r) = refused_reply r
 -- the call by which a transaction rolls back to a savepoint
 abbrev pub back_call : TxnId → ℕ → CallOf (Result ℕ Refusal)
 back_call t mark = record {
-  does = λ v result told off v'. InTurn v (λ own mid. RollsBackTo v t mark result told own mid) off v';
+  does = λ v result told off v'. InTurn v (λ ended mid. RollsBackTo v t mark result told ended mid) off v';
   spares = λ result told known. has_none known;
   says = back_reply;
 }

@@ -40,7 +40,7 @@ tried_row_reply row.NotRows = status_reply not_rows
 -- the call that tries a path
 abbrev pub tried_path_call : Keep → TxnId → Ask → CallOf Tried
 tried_path_call k t ask = record {
-  does = λ v came told off v'. InTurn v (λ own mid. TriesThere v t ask k came told own mid) off v';
+  does = λ v came told off v'. InTurn v (λ ended mid. TriesThere v t ask k came told ended mid) off v';
   spares = λ came told known. has_none known;
   says = tried_reply;
 }
@@ -48,7 +48,7 @@ tried_path_call k t ask = record {
 -- the call that tries a row
 abbrev pub tried_row_call : Wish → CallOf RowTried
 tried_row_call w = record {
-  does = λ v came told off v'. InTurn v (λ own mid. TriesRowThere v w came told own mid) off v';
+  does = λ v came told off v'. InTurn v (λ ended mid. TriesRowThere v w came told ended mid) off v';
   spares = λ came told known. has_none known;
   says = tried_row_reply;
 }

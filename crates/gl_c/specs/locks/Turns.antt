@@ -33,7 +33,7 @@ turn_reply turn.NoMemory = refused_reply no.NoMemory
 -- the call that begins in turn; it notifies nobody
 abbrev pub turn_call : QueuedBegin → CallOf Turn
 turn_call b = record {
-  does = λ v came told off v'. BeginsInTurn v b came off v';
+  does = λ v came told off v'. BeginsInTurn v b came off.ended v' × (off.went_on ≡ false);
   spares = λ came told known. spared_by (begin_of b.since) (turn_said came) told known;
   says = turn_reply;
 }

@@ -35,7 +35,7 @@ spared_by c (Some a) told known = leaves_waits known c a told
 -- the call that carries out a command, unless it would insert, delete or change a record of a file of rows
 abbrev pub command_call : Command → CallOf (Option Answer)
 command_call c = record {
-  does = λ v a told off v'. InTurn v (λ own mid. Serves v c a told own mid) off v';
+  does = λ v a told off v'. InTurn v (λ ended mid. Serves v c a told ended mid) off v';
   spares = spared_by c;
   says = served_reply;
 }

@@ -9,7 +9,8 @@ ghost use Rattle.gl_c.specs.locks.Savepoints.{back_reply};
 ghost use Rattle.gl_c.specs.locks.Tries.{tried_reply, tried_row_reply};
 ghost use Rattle.gl_c.specs.locks.Turns.{begun_reply, found_reply, turn_reply, word_reply};
 ghost use Rattle.gl_c.specs.locks.Verdicts.{verdict_reply};
-ghost use Rattle.gl_c.specs.locks.Waiters.{awaited_reply, end_reply, outcome_reply, time_reply};
+ghost use Rattle.gl_c.specs.Numbers.{mode_number};
+ghost use Rattle.gl_c.specs.locks.Waiters.{awaited_reply, came_reply, late_reply, next_by, next_reply, on_reply, outcome_reply, time_reply, txn_reply};
 ghost use Rattle.gl_waiting.specs.Asking.{begin_said};
 
 use crate::names::{Node, Txn};
@@ -21,7 +22,7 @@ use gl_catalog::{Answer, Reached};
 use gl_modes::{Mode, NodeId, Refusal};
 use gl_rows::RowAnswer;
 use gl_table::{Locked, TxnId};
-use gl_waiting::{Came, Outcome, QueuedBegin, RowTried, Tried, Turn};
+use gl_waiting::{Came, Next, Outcome, QueuedBegin, RowTried, Tried, Turn, Waiter};
 use gl_wakes::{Grant, Stop};
 
 /// The answer of a call: a status, what the call answers, and zero in all other fields.
@@ -262,7 +263,6 @@ impl Reply {
             Outcome::OtherKeys { node, mode } => {
                 Reply::of_row_lock(Locked::Granted(mode), false).at(node)
             }
-            Outcome::NotRows => Reply::with_status(NOT_ROWS),
             Outcome::Victim(node) => Reply::about(VICTIM, node),
             Outcome::Moved(node) => Reply::about(MOVED, node),
             Outcome::Gone(node) => Reply::about(GONE, node),
@@ -271,28 +271,99 @@ impl Reply {
         }
     }
 
-    /// The reply for a request whose waiter was to be registered.
+    /// The reply for what a request came to.
+    fn of_came(came: Came) -> Reply
+        ensures { result ≡ came_reply came }
+    {
+        match came {
+            Came::Ended(outcome) => Reply::of_outcome(outcome),
+            Came::Waits { at, wanted } => Reply {
+                mode: mode_number(wanted),
+                ..Reply::about(WAITING, at)
+            },
+            Came::Holds { at, mode } => Reply {
+                mode: mode_number(mode),
+                ..Reply::about(ON_THE_WAY, at)
+            },
+        }
+    }
+
+    /// The reply to who awaits a request; `None` if its slot has a waiter already.
     pub(crate) fn of_awaited(came: Option<Came>) -> Reply
         ensures { result ≡ awaited_reply came }
     {
         match came {
-            Some(Came::Ended(outcome)) => Reply::of_outcome(outcome),
-            Some(Came::Waits { at, wanted }) => Reply {
-                mode: mode_number(wanted),
-                ..Reply::about(WAITING, at)
-            },
+            Some(came) => Reply::of_came(came),
             None => Reply::with_status(IN_USE),
         }
     }
 
-    /// The reply for the end of a wait, with its transaction.
-    pub(crate) fn of_end(end: Option<(TxnId, Outcome)>) -> Reply
-        ensures { result ≡ end_reply end }
+    /// The reply for a waiter that went on; `None` if there was none.
+    pub(crate) fn of_gone_on(came: Option<(TxnId, Came)>) -> Reply
+        ensures { result ≡ on_reply came }
+    {
+        match came {
+            Some((txn, came)) => Reply {
+                txn: Txn::of(txn),
+                ..Reply::of_came(came)
+            },
+            None => Reply::with_status(NO_PLACE),
+        }
+    }
+
+    /// The reply for a wait that was cancelled since its time is over; `None` if none was.
+    pub(crate) fn of_late(end: Option<Outcome>) -> Reply
+        ensures { result ≡ late_reply end }
     {
         match end {
-            Some((txn, outcome)) => Reply {
+            Some(outcome) => Reply::of_outcome(outcome),
+            None => Reply::with_status(NO_PLACE),
+        }
+    }
+
+    /// The reply for what a waiter does next: a number for it, its node, and its mode.
+    fn of_waiter(waiter: Waiter, next: Next) -> Reply
+        ensures { result ≡ next_by waiter next }
+    {
+        match next {
+            Next::End(_) => Reply::with_count(0),
+            Next::GiveBack(_) => Reply::with_count(1).at(waiter.request.node()),
+            Next::GoOn { node, mode } => Reply::in_mode(2, mode).at(node),
+            Next::LockAgain { mode, .. } => Reply::in_mode(3, mode).at(waiter.at),
+        }
+    }
+
+    /// A number and a mode.
+    fn in_mode(count: u64, mode: Mode) -> Reply
+        ensures { result ≡ record (count_reply count) { mode = mode_number mode } }
+    {
+        Reply {
+            mode: mode_number(mode),
+            ..Reply::with_count(count)
+        }
+    }
+
+    /// The same with its transaction; `None` if no wait is over.
+    pub(crate) fn of_next(next: Option<(Waiter, Next)>) -> Reply
+        ensures { result ≡ next_reply next }
+    {
+        match next {
+            Some((waiter, next)) => Reply {
+                txn: Txn::of(waiter.txn),
+                ..Reply::of_waiter(waiter, next)
+            },
+            None => Reply::with_status(NO_PLACE),
+        }
+    }
+
+    /// The reply with a transaction; `None` if there is none.
+    pub(crate) fn of_txn(txn: Option<TxnId>) -> Reply
+        ensures { result ≡ txn_reply txn }
+    {
+        match txn {
+            Some(txn) => Reply {
                 txn: Txn::of(txn),
-                ..Reply::of_outcome(outcome)
+                ..Reply::with_status(DONE)
             },
             None => Reply::with_status(NO_PLACE),
         }

@@ -1,17 +1,18 @@
-//! Waiters of requests. A request that a call left waiting is registered, with how it goes on: each call
-//! that ends its wait continues it, and the caller takes its end before it releases its latch. `until` is
-//! the latest time at which a wait ends, by the caller's clock, in nanoseconds; the greatest number says
-//! that it has none.
+//! Waiters of requests. A request that a call left waiting is registered, with how it goes on. The caller
+//! continues those whose wait is over by `bs_call_go_on`, until none is, before it releases its latch.
+//! `until` is the latest time at which a wait ends, by the caller's clock, in nanoseconds; the greatest
+//! number says that it has none.
 
 ghost use Rattle.std.specs.Prelude.{◌≡◌, take};
 ghost use Rattle.gl_waiting.specs.Keys.{keys_in};
 ghost use Rattle.gl_waiting.specs.declared.keys.RowKeys.{RowKeys as AKeys};
 ghost use Rattle.gl_c.specs.Names.{txn_id};
 ghost use Rattle.gl_c.specs.Numbers.{bad_number, mode_at};
-ghost use Rattle.gl_c.specs.locks.Waiters.{TakesAnEnd, await_call, expire_call, late_call, node_waiter, path_waiter, row_waiter};
-ghost use Rattle.gl_c.specs.managers.Carries.{Asks, Declines, Where};
+ghost use Rattle.gl_c.specs.locks.Waiters.{AwaitsIn, FindsTime, FindsWaitLate, NextIn, WithdrawsIn, late_call, node_waiter, on_call, path_waiter, row_waiter};
+ghost use Rattle.gl_c.specs.managers.Carries.{Carries, Declines, Where};
 ghost use Rattle.gl_c.specs.managers.Handle.{guarded_in};
 
+use crate::answers::notices::Notices;
 use crate::answers::reply::Reply;
 use crate::managers::handle::Handle;
 use crate::names::{Node, Txn};
@@ -20,7 +21,8 @@ use gl_modes::MOST_PARENTS;
 use gl_waiting::{Request, RowKeys, Waiter};
 
 /// Registers the waiter of a lock that waits. `instant` is not zero if it is for an instant: then it is
-/// released as it is granted. The reply has the end of the wait, if it is over by now.
+/// released as it is granted. The reply is `BS_WAITING`, with the node and the mode; `BS_IN_USE` if the slot
+/// of its transaction has a waiter already; or what became of the wait, if it is over by now.
 #[unsafe(no_mangle)]
 pub extern "C" fn bs_call_await_node(
     manager: &mut Handle,
@@ -30,7 +32,7 @@ pub extern "C" fn bs_call_await_node(
     instant: u32,
     until: u64,
 ) -> Reply
-    ensures { Where (mode_at mode) (λ wanted. Asks (guarded_in manager.old) (await_call (node_waiter txn node wanted instant until)) result
+    ensures { Where (mode_at mode) (λ wanted. AwaitsIn (guarded_in manager.old) (node_waiter txn node wanted instant until) result
         (guarded_in manager.new)) (Declines (guarded_in manager.old) bad_number result (guarded_in manager.new)) }
 {
     let Some(mode) = mode_at(mode) else {
@@ -60,7 +62,7 @@ pub extern "C" fn bs_call_await_path(
     until: u64,
 ) -> Reply
     ensures { Where (mode_at mode) (λ asked. Where (mode_at wanted)
-        (λ above. Asks (guarded_in manager.old) (await_call (path_waiter txn node asked instant at above until)) result (guarded_in manager.new))
+        (λ above. AwaitsIn (guarded_in manager.old) (path_waiter txn node asked instant at above until) result (guarded_in manager.new))
         (Declines (guarded_in manager.old) bad_number result (guarded_in manager.new)))
         (Declines (guarded_in manager.old) bad_number result (guarded_in manager.new)) }
 {
@@ -93,7 +95,7 @@ pub extern "C" fn bs_call_await_row(
     until: u64,
 ) -> Reply
     ensures { Where (mode_at mode) (λ wanted. (k : AKeys) × (keys_in k ≡ take MOST_PARENTS keys.now)
-        × Asks (guarded_in manager.old) (await_call (row_waiter txn file number k wanted at until)) result (guarded_in manager.new))
+        × AwaitsIn (guarded_in manager.old) (row_waiter txn file number k wanted at until) result (guarded_in manager.new))
         (Declines (guarded_in manager.old) bad_number result (guarded_in manager.new)) }
 {
     let Some(mode) = mode_at(mode) else {
@@ -111,27 +113,56 @@ pub extern "C" fn bs_call_await_row(
     })
 }
 
-/// Takes the end of a wait, that of the lowest slot: as the reply to its request would be, with its
-/// transaction.
+/// Removes the waiter of a transaction, whose wait goes on. `BS_NO_PLACE` if it has none.
 #[unsafe(no_mangle)]
-pub extern "C" fn bs_call_take_end(manager: &mut Handle) -> Reply
-    ensures { TakesAnEnd (guarded_in manager.old) result (guarded_in manager.new) }
+pub extern "C" fn bs_call_withdraw_waiter(manager: &mut Handle, txn: Txn) -> Reply
+    ensures { WithdrawsIn (guarded_in manager.old) (txn_id txn) result (guarded_in manager.new) }
 {
-    manager.take_end()
+    manager.withdraw_waiter(txn.id())
 }
 
-/// Ends the wait of a transaction whose time is over, if it has a waiter: its end is to be taken.
+/// Continues the waiter of the lowest slot whose wait is over, by one command at most. The reply has its
+/// transaction and what its request came to: as the reply to the request would be if it has ended,
+/// `BS_WAITING` with the node and the mode if it waits, and `BS_ON_THE_WAY` if it goes on with the next
+/// call. `BS_NO_PLACE` if no wait is over.
 #[unsafe(no_mangle)]
-pub extern "C" fn bs_call_time_out(manager: &mut Handle, txn: Txn) -> Reply
-    ensures { Asks (guarded_in manager.old) (late_call (txn_id txn)) result (guarded_in manager.new) }
+pub extern "C" fn bs_call_go_on(manager: &mut Handle, told: &mut Notices) -> Reply
+    ensures { Carries (guarded_in manager.old) on_call result told.new (guarded_in manager.new) }
 {
-    manager.time_out(txn.id())
+    manager.go_on(told)
 }
 
-/// Ends each wait whose time is at or before now. Answers the earliest time of those that are left.
+/// What `bs_call_go_on` does next, in `count`: 0 ends a request, 1 gives back a lock for an instant, 2 locks
+/// a path, 3 a row again; with the transaction, and the node and the mode of the command. `BS_NO_PLACE` if
+/// no wait is over.
 #[unsafe(no_mangle)]
-pub extern "C" fn bs_call_expire(manager: &mut Handle, now: u64) -> Reply
-    ensures { Asks (guarded_in manager.old) (expire_call now) result (guarded_in manager.new) }
+pub extern "C" fn bs_call_next_waiter(manager: &mut Handle) -> Reply
+    ensures { NextIn (guarded_in manager.old) result (guarded_in manager.new) }
 {
-    manager.expire(now)
+    manager.next_waiter()
+}
+
+/// Cancels the wait of a transaction whose time is over. The reply has its end. `BS_NO_PLACE` if it has no
+/// waiter, or if its wait cannot be cancelled, since it is over or no command can be counted any more.
+#[unsafe(no_mangle)]
+pub extern "C" fn bs_call_time_out(manager: &mut Handle, txn: Txn, told: &mut Notices) -> Reply
+    ensures { Carries (guarded_in manager.old) (late_call (txn_id txn)) result told.new (guarded_in manager.new) }
+{
+    manager.time_out(txn.id(), told)
+}
+
+/// The transaction of the lowest slot whose wait should have ended by now. `BS_NO_PLACE` if there is none.
+#[unsafe(no_mangle)]
+pub extern "C" fn bs_call_first_late(manager: &mut Handle, now: u64) -> Reply
+    ensures { FindsWaitLate (guarded_in manager.old) now result (guarded_in manager.new) }
+{
+    manager.first_late(now)
+}
+
+/// The earliest time at which a wait ends. `BS_NO_PLACE` if none has one.
+#[unsafe(no_mangle)]
+pub extern "C" fn bs_call_earliest_wait(manager: &mut Handle) -> Reply
+    ensures { FindsTime (guarded_in manager.old) result (guarded_in manager.new) }
+{
+    manager.earliest_wait()
 }

@@ -17,7 +17,8 @@ ghost use Rattle.gl_c.specs.locks.Rows.{named_reply, row_call};
 ghost use Rattle.gl_c.specs.locks.Tries.{tried_path_call, tried_row_call};
 ghost use Rattle.gl_c.specs.locks.Turns.{begun_reply, found_reply, turn_call, word_reply};
 ghost use Rattle.gl_c.specs.locks.Verdicts.{verdict_reply};
-ghost use Rattle.gl_c.specs.locks.Waiters.{TakesAnEnd, await_call, expire_call, late_call};
+ghost use Rattle.gl_c.specs.locks.Waiters.{AwaitsThere, LooksNext, WithdrawsThere, late_call, on_call, time_reply, txn_reply};
+ghost use Rattle.gl_waiting.specs.Waiters.{earliest_until, first_late};
 ghost use Rattle.gl_waiting.specs.Begins.{has_word, is_late, without_first};
 ghost use Rattle.std.specs.List.{find, list_any};
 ghost use Rattle.gl_c.specs.watchers.Watching.{OnlyShows};
@@ -27,7 +28,6 @@ ghost use Rattle.gl_c.specs.managers.Session.{IsIdle, guarded_of};
 use crate::answers::notices::Notices;
 use crate::answers::reply::Reply;
 use crate::managers::guarded::Guarded;
-use crate::numbers::DONE;
 use crate::questions::look::{Query, look};
 use gl_catalog::{Command, Manager};
 use gl_modes::{Mode, NodeId, Refusal};
@@ -196,31 +196,57 @@ impl Session {
 
     /// Registers the waiter of a request that a call left waiting.
     pub(crate) fn await_request(&mut self, waiter: Waiter) -> Reply
-        ensures { Answers self.old (await_call waiter) result self.new }
+        ensures { AwaitsThere self.old waiter result self.new }
     {
         Reply::of_awaited(self.guarded.await_request(waiter))
     }
 
-    /// Ends the wait of a transaction whose time is over.
-    pub(crate) fn time_out(&mut self, txn: TxnId) -> Reply
-        ensures { Answers self.old (late_call txn) result self.new }
+    /// Removes the waiter of a transaction.
+    pub(crate) fn withdraw_waiter(&mut self, txn: TxnId) -> Reply
+        ensures { WithdrawsThere self.old txn result self.new }
     {
-        self.guarded.time_out(txn);
-        Reply::with_status(DONE)
+        Reply::of_found(self.guarded.withdraw_waiter(txn))
     }
 
-    /// Ends each wait whose time is over by now.
-    pub(crate) fn expire(&mut self, now: u64) -> Reply
-        ensures { Answers self.old (expire_call now) result self.new }
+    /// Continues the waiter of the lowest slot whose wait is over, and writes the notices.
+    pub(crate) fn go_on(&mut self, notices: &mut Notices) -> Reply
+        ensures { Replies self.old on_call result notices.new self.new }
     {
-        Reply::of_time(self.guarded.expire(now))
+        let came = self.guarded.go_on(&mut self.told);
+        notices.put(self.told.as_slice());
+        self.told.clear();
+        Reply::of_gone_on(came)
     }
 
-    /// Takes the end of a wait.
-    pub(crate) fn take_end(&mut self) -> Reply
-        ensures { TakesAnEnd (Some self.old) result (Some self.new) }
+    /// Cancels the wait of a transaction whose time is over, and writes the notices.
+    pub(crate) fn time_out(&mut self, txn: TxnId, notices: &mut Notices) -> Reply
+        ensures { Replies self.old (late_call txn) result notices.new self.new }
     {
-        Reply::of_end(self.guarded.take_end())
+        let end = self.guarded.time_out(txn, &mut self.told);
+        notices.put(self.told.as_slice());
+        self.told.clear();
+        Reply::of_late(end)
+    }
+
+    /// What the waiter of the lowest slot does next whose wait is over.
+    pub(crate) fn next_waiter(&self) -> Reply
+        ensures { LooksNext self.now result }
+    {
+        Reply::of_next(self.guarded.next())
+    }
+
+    /// The transaction of the lowest slot whose wait should have ended by now.
+    pub(crate) fn first_late(&self, now: u64) -> Reply
+        ensures { result ≡ txn_reply (first_late now self.now.places) }
+    {
+        Reply::of_txn(self.guarded.first_late(now))
+    }
+
+    /// The earliest time at which a wait ends.
+    pub(crate) fn earliest_wait(&self) -> Reply
+        ensures { result ≡ time_reply (earliest_until self.now.places) }
+    {
+        Reply::of_time(self.guarded.earliest_wait())
     }
 
     /// Takes the first of the begins that were handed on.

@@ -21,13 +21,13 @@ impl Guarded {
     {
         self.waiting.law();
         let before = self.waiting.manager().accepted();
-        let (turn, off) = self.waiting.begin_in_turn(begin);
+        let (turn, ended) = self.waiting.begin_in_turn(begin);
         if self.waiting.manager().accepted() == before {
             return turn;
         }
-        self.ended = off.ended;
+        self.ended = ended;
         let command = begin_command(begin.since);
-        keep(&mut self.showing, off.went_on, &command, said(turn), &[]);
+        keep(&mut self.showing, false, &command, said(turn), &[]);
         self.show_if_due();
         turn
     }

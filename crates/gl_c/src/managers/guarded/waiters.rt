@@ -1,66 +1,88 @@
 //! Waiters of requests.
 
 ghost use Rattle.std.specs.Prelude.{◌≡◌, []};
-ghost use Rattle.gl_waiting.specs.Waiters.{TakesEnd};
-ghost use Rattle.gl_c.specs.locks.Waiters.{await_call, expire_call, late_call};
+ghost use Rattle.gl_waiting.specs.Asking.{Awaits, WithdrawsWaiter};
+ghost use Rattle.gl_waiting.specs.Ends.{IsNext};
+ghost use Rattle.gl_waiting.specs.Waiters.{earliest_until, first_late};
+ghost use Rattle.gl_c.specs.locks.Waiters.{late_call, on_call};
 ghost use Rattle.gl_c.specs.managers.Carries.{Performs};
+ghost use Rattle.gl_c.specs.managers.Guarded.{waiting_in};
 
 use super::Guarded;
 use crate::managers::showing::keep_nobody;
-use gl_table::TxnId;
-use gl_waiting::{Came, Outcome, Waiter};
+use gl_table::{Told, TxnId};
+use gl_waiting::{Came, Next, Outcome, Waiter};
 
 impl Guarded {
-    /// Registers the waiter of a request that a call left waiting. If its wait is over by then it goes
-    /// on at once, and others by that. `None` if its transaction has a waiter already.
+    /// Registers the waiter of a request that a call left waiting. Answers that it waits, or, if its wait
+    /// is over by then, how. `None` if the slot of its transaction has a waiter already.
     pub(crate) fn await_request(&mut self, waiter: Waiter) -> Option<Came>
-        ensures { Performs self.old (await_call waiter) result [] self.new }
+        ensures awaits { Awaits (waiting_in self.old) waiter result (waiting_in self.new) }
+        ensures rest { self.new ≡ record self.old { places = self.new.places } }
+    {
+        self.waiting.await_request(waiter)
+    }
+
+    /// Removes the waiter of a transaction, whose wait goes on; whether it had one.
+    pub(crate) fn withdraw_waiter(&mut self, txn: TxnId) -> bool
+        ensures withdraws { WithdrawsWaiter (waiting_in self.old) txn result (waiting_in self.new) }
+        ensures rest { self.new ≡ record self.old { places = self.new.places } }
+    {
+        self.waiting.withdraw_waiter(txn)
+    }
+
+    /// Continues the waiter of the lowest slot whose wait is over, and puts the notices into an empty
+    /// list. `None` if there is no such waiter.
+    pub(crate) fn go_on(&mut self, told: &mut Told) -> Option<(TxnId, Came)>
+        requires empty { told.old.items ≡ [] }
+        ensures { Performs self.old on_call result told.new.items self.new }
     {
         let before = self.waiting.manager().accepted();
-        let (came, off) = self.waiting.await_request(waiter);
+        let (came, off) = self.waiting.go_on(told);
         if self.waiting.manager().accepted() == before {
             return came;
         }
         self.ended = off.ended;
-        keep_nobody(&mut self.showing, off.went_on);
+        keep_nobody(&mut self.showing, true);
         self.show_if_due();
         came
     }
 
-    /// Ends the wait of a transaction whose time is over, if it has a waiter.
-    pub(crate) fn time_out(&mut self, txn: TxnId)
-        ensures { Performs self.old (late_call txn) tt [] self.new }
+    /// Cancels the wait of a transaction whose time is over, and puts the notices into an empty list.
+    /// `None` if it has no waiter, or its wait cannot be cancelled.
+    pub(crate) fn time_out(&mut self, txn: TxnId, told: &mut Told) -> Option<Outcome>
+        requires empty { told.old.items ≡ [] }
+        ensures { Performs self.old (late_call txn) result told.new.items self.new }
     {
         let before = self.waiting.manager().accepted();
-        let off = self.waiting.time_out(txn);
+        let (end, off) = self.waiting.time_out(txn, told);
         if self.waiting.manager().accepted() == before {
-            return;
+            return end;
         }
         self.ended = off.ended;
         keep_nobody(&mut self.showing, true);
         self.show_if_due();
+        end
     }
 
-    /// Ends each wait whose time is at or before now. Answers the earliest time of those that are left.
-    pub(crate) fn expire(&mut self, now: u64) -> Option<u64>
-        ensures { Performs self.old (expire_call now) result [] self.new }
+    /// The waiter of the lowest slot whose wait is over, and what it does next.
+    pub(crate) fn next(&self) -> Option<(Waiter, Next)>
+        ensures { IsNext (waiting_in self.now) result }
     {
-        let before = self.waiting.manager().accepted();
-        let (next, off) = self.waiting.expire(now);
-        if self.waiting.manager().accepted() == before {
-            return next;
-        }
-        self.ended = off.ended;
-        keep_nobody(&mut self.showing, true);
-        self.show_if_due();
-        next
+        self.waiting.next()
     }
 
-    /// Takes the end of a wait, that of the lowest slot; `None` if there is none.
-    pub(crate) fn take_end(&mut self) -> Option<(TxnId, Outcome)>
-        ensures ends { TakesEnd self.old.places result self.new.places }
-        ensures rest { self.new ≡ record self.old { places = self.new.places } }
+    /// The transaction of the lowest slot whose wait should have ended by now.
+    pub(crate) fn first_late(&self, now: u64) -> Option<TxnId>
+        ensures { result ≡ first_late now self.now.places }
     {
-        self.waiting.take_end()
+        self.waiting.first_late(now)
+    }
+
+    /// The earliest time at which a wait ends; `None` if none has one.
+    pub(crate) fn earliest_wait(&self) -> Option<u64>
+        ensures { result ≡ earliest_until self.now.places }
+    {
+        self.waiting.earliest_wait()
     }
 }

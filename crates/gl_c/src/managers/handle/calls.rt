@@ -23,7 +23,7 @@ ghost use Rattle.gl_c.specs.locks.Rows.{FindsRow, row_call};
 ghost use Rattle.gl_c.specs.locks.Tries.{tried_path_call, tried_row_call};
 ghost use Rattle.gl_c.specs.locks.Turns.{TakesBegun, TakesLate, Withdraws, turn_call};
 ghost use Rattle.gl_c.specs.locks.Verdicts.{Judges};
-ghost use Rattle.gl_c.specs.locks.Waiters.{TakesAnEnd, await_call, expire_call, late_call};
+ghost use Rattle.gl_c.specs.locks.Waiters.{AwaitsIn, FindsTime, FindsWaitLate, NextIn, WithdrawsIn, late_call, on_call};
 ghost use Rattle.gl_c.specs.watchers.Watching.{Attends};
 
 use super::Handle;
@@ -259,7 +259,7 @@ impl Handle {
 
     /// Registers the waiter of a request that a call left waiting.
     pub(crate) fn await_request(&mut self, waiter: Waiter) -> Reply
-        ensures { Asks (guarded_in self.old) (await_call waiter) result (guarded_in self.new) }
+        ensures { AwaitsIn (guarded_in self.old) waiter result (guarded_in self.new) }
     {
         let alloc = self.alloc;
         let Some(mut session) = self.take() else {
@@ -270,41 +270,80 @@ impl Handle {
         reply
     }
 
-    /// Ends the wait of a transaction whose time is over.
-    pub(crate) fn time_out(&mut self, txn: TxnId) -> Reply
-        ensures { Asks (guarded_in self.old) (late_call txn) result (guarded_in self.new) }
+    /// Removes the waiter of a transaction.
+    pub(crate) fn withdraw_waiter(&mut self, txn: TxnId) -> Reply
+        ensures { WithdrawsIn (guarded_in self.old) txn result (guarded_in self.new) }
     {
         let alloc = self.alloc;
         let Some(mut session) = self.take() else {
             return Reply::with_status(NO_MANAGER);
         };
-        let reply = session.time_out(txn);
+        let reply = session.withdraw_waiter(txn);
         *self = Handle::of(alloc, session);
         reply
     }
 
-    /// Ends each wait whose time is over by now.
-    pub(crate) fn expire(&mut self, now: u64) -> Reply
-        ensures { Asks (guarded_in self.old) (expire_call now) result (guarded_in self.new) }
+    /// Continues the waiter of the lowest slot whose wait is over, and writes the notices.
+    pub(crate) fn go_on(&mut self, told: &mut Notices) -> Reply
+        ensures { Carries (guarded_in self.old) on_call result told.new (guarded_in self.new) }
     {
         let alloc = self.alloc;
         let Some(mut session) = self.take() else {
-            return Reply::with_status(NO_MANAGER);
+            return declined(told);
         };
-        let reply = session.expire(now);
+        let reply = session.go_on(told);
         *self = Handle::of(alloc, session);
         reply
     }
 
-    /// Takes the end of a wait.
-    pub(crate) fn take_end(&mut self) -> Reply
-        ensures { TakesAnEnd (guarded_in self.old) result (guarded_in self.new) }
+    /// Cancels the wait of a transaction whose time is over, and writes the notices.
+    pub(crate) fn time_out(&mut self, txn: TxnId, told: &mut Notices) -> Reply
+        ensures { Carries (guarded_in self.old) (late_call txn) result told.new (guarded_in self.new) }
     {
         let alloc = self.alloc;
         let Some(mut session) = self.take() else {
+            return declined(told);
+        };
+        let reply = session.time_out(txn, told);
+        *self = Handle::of(alloc, session);
+        reply
+    }
+
+    /// What the waiter of the lowest slot does next whose wait is over.
+    pub(crate) fn next_waiter(&mut self) -> Reply
+        ensures { NextIn (guarded_in self.old) result (guarded_in self.new) }
+    {
+        let alloc = self.alloc;
+        let Some(session) = self.take() else {
             return Reply::with_status(NO_MANAGER);
         };
-        let reply = session.take_end();
+        let reply = session.next_waiter();
+        *self = Handle::of(alloc, session);
+        reply
+    }
+
+    /// The transaction of the lowest slot whose wait should have ended by now.
+    pub(crate) fn first_late(&mut self, now: u64) -> Reply
+        ensures { FindsWaitLate (guarded_in self.old) now result (guarded_in self.new) }
+    {
+        let alloc = self.alloc;
+        let Some(session) = self.take() else {
+            return Reply::with_status(NO_MANAGER);
+        };
+        let reply = session.first_late(now);
+        *self = Handle::of(alloc, session);
+        reply
+    }
+
+    /// The earliest time at which a wait ends.
+    pub(crate) fn earliest_wait(&mut self) -> Reply
+        ensures { FindsTime (guarded_in self.old) result (guarded_in self.new) }
+    {
+        let alloc = self.alloc;
+        let Some(session) = self.take() else {
+            return Reply::with_status(NO_MANAGER);
+        };
+        let reply = session.earliest_wait();
         *self = Handle::of(alloc, session);
         reply
     }

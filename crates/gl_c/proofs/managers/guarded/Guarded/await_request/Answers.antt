@@ -1,58 +1,9 @@
-use Rattle.std.specs.Prelude.{[]}
-use Rattle.std.proofs.Common.{◌≡◌, refl, subst, sym, ◌∙◌}
-use Rattle.gl_slots.specs.Slots.{has_none}
-use Rattle.gl_c.specs.locks.Waiters.{await_call}
-use Rattle.gl_c.specs.managers.Carries.{Performs}
-use Rattle.gl_c.specs.managers.Guarded.{GuardedView, with_waiting}
-use Rattle.gl_c.specs.managers.Showing.{parties_in, shown_in}
-use Rattle.gl_c.specs.managers.Sound.{view_of}
-use Rattle.gl_c.proofs.serving.Serving.{counted_as, leaves_counted, leaves_idle, sound_counted, sound_idle}
-use Rattle.gl_c.proofs.serving.Waiters.{await_knows}
-use Rattle.gl_waiting.proofs.TurnRuns.{await_run, turn_alone, turn_run}
+use Rattle.std.proofs.Common.{subst}
+use Rattle.gl_waiting.specs.Asking.{Awaits}
+use Rattle.gl_c.specs.managers.Guarded.{GuardedView, waiting_in}
 use Rattle.gl_c.proofs.managers.guarded.Guarded.await_request.Goals as goal
 
--- no command was counted
-
-same : (c : goal.Then-accepted-before) → c.await_request-came.new.self.manager.accepted ≡ c.self.inside.waiting.manager.accepted
-same c =
-    sym (counted_as _ _ _ c.accepted.ensures c.manager-2.ensures) ∙ c.if-accepted-before.true ∙ counted_as _ _ _ c.accepted-before.ensures c.manager.ensures
-
-pub invariant_of-self : goal.invariant_of-self
-invariant_of-self c =
-    sound_idle c.self.inside c.await_request-came.new.self
-    (turn_run c.self.inside.waiting _ c.await_request-came.result.1 c.await_request-came.new.self c.await_request-came.ensures
-    (λ own mid h. await_run c.self.inside.waiting c.args.waiter c.await_request-came.result.0 own mid h)) c.self.invariant (same c)
-
-pub returns-then-accepted-before : goal.returns-then-accepted-before
-returns-then-accepted-before c =
-    subst (λ (g : GuardedView). Performs g (await_call c.args.waiter) c.await_request-came.result.0 [] (with_waiting (view_of c.self.inside)
-    c.await_request-came.new.self)) c.self.view_is
-    (leaves_idle c.self.inside c.await_request-came.new.self
-    (turn_run c.self.inside.waiting _ c.await_request-came.result.1 c.await_request-came.new.self c.await_request-came.ensures
-    (λ own mid h. await_run c.self.inside.waiting c.args.waiter c.await_request-came.result.0 own mid h)) c.self.invariant (same c) _ has_none
-    c.await_request-came.result.1 c.await_request-came.ensures)
-
--- some were
-
-pub invariant_of-self-2 : goal.invariant_of-self-2
-invariant_of-self-2 c =
-    sound_counted c.self.inside c.await_request-came.new.self
-    (turn_run c.self.inside.waiting _ c.await_request-came.result.1 c.await_request-came.new.self c.await_request-came.ensures
-    (λ own mid h. await_run c.self.inside.waiting c.args.waiter c.await_request-came.result.0 own mid h)) c.self.invariant
-    c.await_request-came.result.1.went_on has_none c.keep_nobody.new.showing c.keep_nobody.ensures.shown
-    c.keep_nobody.ensures.parties c.await_request-came.result.1.ended
-    (λ quiet. await_knows c.self.inside.waiting (shown_in c.self.inside.showing) (parties_in c.self.inside.showing) c.self.invariant.known
-    c.await_request-came.result.1 c.await_request-came.new.self quiet c.args.waiter c.await_request-came.result.0
-    (turn_alone c.self.inside.waiting _ c.await_request-came.result.1 c.await_request-came.new.self c.await_request-came.ensures quiet))
-
-pub returns : goal.returns
-returns c =
-    subst (λ (g : GuardedView). Performs g (await_call c.args.waiter) c.await_request-came.result.0 [] c.show_if_due.new.self) c.self.view_is
-    (leaves_counted c.self.inside c.await_request-came.new.self
-    (turn_run c.self.inside.waiting _ c.await_request-came.result.1 c.await_request-came.new.self c.await_request-came.ensures
-    (λ own mid h. await_run c.self.inside.waiting c.args.waiter c.await_request-came.result.0 own mid h)) c.self.invariant
-    c.await_request-came.result.1.went_on has_none c.keep_nobody.new.showing c.keep_nobody.ensures.shown
-    c.keep_nobody.ensures.parties _ c.await_request-came.result.1 c.show_if_due.new.self refl c.await_request-came.ensures
-    (λ is. c.if-accepted-before.false (counted_as _ _ _ c.accepted.ensures c.manager-2.ensures ∙ is
-    ∙ sym (counted_as _ _ _ c.accepted-before.ensures c.manager.ensures))) c.show_if_due.ensures.kept c.show_if_due.ensures.shown
-    c.show_if_due.ensures.known)
+pub returns-clause-awaits : goal.returns-clause-awaits
+returns-clause-awaits c =
+    subst (λ (g : GuardedView). Awaits (waiting_in g) c.args.waiter c.await_request.result c.await_request.new.self) c.self.view_is
+    c.await_request.ensures.awaits

@@ -1,4 +1,4 @@
-use Rattle.std.specs.Prelude.{[], Bool, Option}
+use Rattle.std.specs.Prelude.{[], Bool, false, Option}
 use Rattle.gl_slots.specs.declared.slots.Slots.{Slots}
 use Rattle.std.proofs.Common.{◌≡◌, ap, refl, subst, sym, ◌∙◌}
 use Rattle.gl_steps.specs.declared.command.Answer.{Answer}
@@ -35,7 +35,7 @@ returns-then-accepted-before c =
     (leaves_idle c.self.inside c.begin_in_turn-turn.new.self
     (turn_is_run c.self.inside.waiting c.args.begin c.begin_in_turn-turn.result.0 c.begin_in_turn-turn.result.1 c.begin_in_turn-turn.new.self
     c.begin_in_turn-turn.ensures) c.self.invariant (same c) _ (spared_by (begin_of c.args.begin.since) (turn_said c.begin_in_turn-turn.result.0) [])
-    c.begin_in_turn-turn.result.1 c.begin_in_turn-turn.ensures)
+    (record { ended = c.begin_in_turn-turn.result.1; went_on = false }) (c.begin_in_turn-turn.ensures, refl))
 
 -- some were
 
@@ -51,13 +51,14 @@ pub invariant_of-self-2 : goal.invariant_of-self-2
 invariant_of-self-2 c =
     sound_counted c.self.inside c.begin_in_turn-turn.new.self
     (turn_is_run c.self.inside.waiting c.args.begin c.begin_in_turn-turn.result.0 c.begin_in_turn-turn.result.1 c.begin_in_turn-turn.new.self
-    c.begin_in_turn-turn.ensures) c.self.invariant c.begin_in_turn-turn.result.1.went_on
+    c.begin_in_turn-turn.ensures) c.self.invariant false
     (spared_by (begin_of c.args.begin.since) (turn_said c.begin_in_turn-turn.result.0) []) c.keep.new.showing c.keep.ensures.shown
-    (noted (parties_in c.keep.new.showing) c.begin_in_turn-turn.result.1.went_on (parties_in c.self.inside.showing) c.args.begin
+    (noted (parties_in c.keep.new.showing) false (parties_in c.self.inside.showing) c.args.begin
     c.begin_in_turn-turn.result.0 c.begin_command-command.result c.said.result c.keep.ensures.parties c.begin_command-command.ensures c.said.ensures)
-    c.begin_in_turn-turn.result.1.ended
+    c.begin_in_turn-turn.result.1
     (λ quiet. turn_knows c.self.inside.waiting (shown_in c.self.inside.showing) (parties_in c.self.inside.showing) c.self.invariant.known
-    c.begin_in_turn-turn.result.1 c.begin_in_turn-turn.new.self quiet c.law.ensures.manager.lawful c.law.ensures.manager.few c.args.begin
+    c.begin_in_turn-turn.result.1
+    c.begin_in_turn-turn.new.self c.law.ensures.manager.lawful c.law.ensures.manager.few c.args.begin
     c.begin_in_turn-turn.result.0 c.begin_in_turn-turn.ensures)
 
 pub returns : goal.returns
@@ -65,11 +66,11 @@ returns c =
     subst (λ (g : GuardedView). Performs g (turn_call c.args.begin) c.begin_in_turn-turn.result.0 [] c.show_if_due.new.self) c.self.view_is
     (leaves_counted c.self.inside c.begin_in_turn-turn.new.self
     (turn_is_run c.self.inside.waiting c.args.begin c.begin_in_turn-turn.result.0 c.begin_in_turn-turn.result.1 c.begin_in_turn-turn.new.self
-    c.begin_in_turn-turn.ensures) c.self.invariant c.begin_in_turn-turn.result.1.went_on
+    c.begin_in_turn-turn.ensures) c.self.invariant false
     (spared_by (begin_of c.args.begin.since) (turn_said c.begin_in_turn-turn.result.0) []) c.keep.new.showing c.keep.ensures.shown
-    (noted (parties_in c.keep.new.showing) c.begin_in_turn-turn.result.1.went_on (parties_in c.self.inside.showing) c.args.begin
+    (noted (parties_in c.keep.new.showing) false (parties_in c.self.inside.showing) c.args.begin
     c.begin_in_turn-turn.result.0 c.begin_command-command.result c.said.result c.keep.ensures.parties c.begin_command-command.ensures c.said.ensures) _
-    c.begin_in_turn-turn.result.1 c.show_if_due.new.self refl c.begin_in_turn-turn.ensures
+    (record { ended = c.begin_in_turn-turn.result.1; went_on = false }) c.show_if_due.new.self refl (c.begin_in_turn-turn.ensures, refl)
     (λ is. c.if-accepted-before.false (counted_as _ _ _ c.accepted.ensures c.manager-2.ensures ∙ is
     ∙ sym (counted_as _ _ _ c.accepted-before.ensures c.manager.ensures))) c.show_if_due.ensures.kept c.show_if_due.ensures.shown
     c.show_if_due.ensures.known)

@@ -7,7 +7,7 @@ use Rattle.gl_c.specs.managers.Showing.{parties_in, shown_in}
 use Rattle.gl_c.specs.managers.Sound.{view_of}
 use Rattle.gl_c.proofs.serving.Serving.{counted_as, leaves_counted, leaves_idle, sound_counted, sound_idle}
 use Rattle.gl_c.proofs.serving.Known.{command_known}
-use Rattle.gl_waiting.proofs.TurnRuns.{serves_run, turn_alone, turn_run}
+use Rattle.gl_waiting.proofs.TurnRuns.{turn_alone, turn_run}
 use Rattle.gl_c.specs.managers.Carries.{spared_by}
 use Rattle.gl_c.specs.managers.Carries.{command_call}
 use Rattle.gl_c.proofs.managers.guarded.Guarded.serve.Goals as goal
@@ -21,14 +21,14 @@ same c =
 pub invariant_of-self : goal.invariant_of-self
 invariant_of-self c =
     sound_idle c.self.inside c.serve-answer.new.self (turn_run c.self.inside.waiting _ c.serve-answer.result.1 c.serve-answer.new.self c.serve-answer.ensures
-    (λ own mid h. serves_run c.self.inside.waiting c.args.command c.serve-answer.result.0 c.serve-answer.new.told.items own mid h)) c.self.invariant (same c)
+    (λ own mid h. h.run)) c.self.invariant (same c)
 
 pub returns-then-accepted-before : goal.returns-then-accepted-before
 returns-then-accepted-before c =
     subst (λ (g : GuardedView). Performs g (command_call c.args.command) c.serve-answer.result.0 c.serve-answer.new.told.items (with_waiting
     (view_of c.self.inside) c.serve-answer.new.self)) c.self.view_is
     (leaves_idle c.self.inside c.serve-answer.new.self (turn_run c.self.inside.waiting _ c.serve-answer.result.1 c.serve-answer.new.self c.serve-answer.ensures
-    (λ own mid h. serves_run c.self.inside.waiting c.args.command c.serve-answer.result.0 c.serve-answer.new.told.items own mid h)) c.self.invariant
+    (λ own mid h. h.run)) c.self.invariant
     (same c) _ (spared_by c.args.command c.serve-answer.result.0 c.serve-answer.new.told.items) c.serve-answer.result.1
     c.serve-answer.ensures)
 
@@ -37,14 +37,14 @@ returns-then-accepted-before c =
 pub invariant_of-self-2 : goal.invariant_of-self-2
 invariant_of-self-2 c =
     sound_counted c.self.inside c.serve-answer.new.self (turn_run c.self.inside.waiting _ c.serve-answer.result.1 c.serve-answer.new.self c.serve-answer.ensures
-    (λ own mid h. serves_run c.self.inside.waiting c.args.command c.serve-answer.result.0 c.serve-answer.new.told.items own mid h)) c.self.invariant
+    (λ own mid h. h.run)) c.self.invariant
     c.serve-answer.result.1.went_on
     (spared_by c.args.command c.serve-answer.result.0 c.serve-answer.new.told.items) c.keep.new.showing c.keep.ensures.shown (c.keep.ensures.parties ∙ ap
     (λ (l : Told). known_after c.serve-answer.result.1.went_on (parties_in c.self.inside.showing)
     (spared_by c.args.command c.serve-answer.result.0 l)) c.as_slice.ensures.value) c.serve-answer.result.1.ended
     (λ quiet. command_known c.self.inside.waiting (shown_in c.self.inside.showing)
-    (parties_in c.self.inside.showing) c.self.invariant.known c.serve-answer.result.1
-    c.serve-answer.new.self quiet c.law.ensures.manager.lawful c.law.ensures.manager.few c.args.command c.serve-answer.result.0
+    (parties_in c.self.inside.showing) c.self.invariant.known c.serve-answer.result.1.ended
+    c.serve-answer.new.self c.law.ensures.manager.lawful c.law.ensures.manager.few c.args.command c.serve-answer.result.0
     c.serve-answer.new.told.items (turn_alone c.self.inside.waiting _ c.serve-answer.result.1 c.serve-answer.new.self c.serve-answer.ensures quiet))
 
 pub returns : goal.returns
@@ -53,7 +53,7 @@ returns c =
     (command_call c.args.command) c.serve-answer.result.0 c.serve-answer.new.told.items c.show_if_due.new.self) c.self.view_is
     (leaves_counted c.self.inside c.serve-answer.new.self
     (turn_run c.self.inside.waiting _ c.serve-answer.result.1 c.serve-answer.new.self c.serve-answer.ensures
-    (λ own mid h. serves_run c.self.inside.waiting c.args.command c.serve-answer.result.0 c.serve-answer.new.told.items own mid h)) c.self.invariant
+    (λ own mid h. h.run)) c.self.invariant
     c.serve-answer.result.1.went_on
     (spared_by c.args.command c.serve-answer.result.0 c.serve-answer.new.told.items) c.keep.new.showing c.keep.ensures.shown (c.keep.ensures.parties ∙ ap
     (λ (l : Told). known_after c.serve-answer.result.1.went_on (parties_in c.self.inside.showing)

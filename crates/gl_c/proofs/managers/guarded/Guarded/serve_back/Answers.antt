@@ -5,7 +5,7 @@ use Rattle.gl_c.specs.managers.Showing.{parties_in, shown_in}
 use Rattle.gl_c.specs.managers.Sound.{view_of}
 use Rattle.gl_c.proofs.serving.Serving.{counted_as, leaves_counted, leaves_idle, sound_counted, sound_idle}
 use Rattle.gl_c.proofs.serving.Known.{back_knows}
-use Rattle.gl_waiting.proofs.TurnRuns.{back_run, turn_alone, turn_run}
+use Rattle.gl_waiting.proofs.TurnRuns.{turn_alone, turn_run}
 use Rattle.gl_slots.specs.Slots.{has_none}
 use Rattle.gl_c.specs.locks.Savepoints.{back_call}
 use Rattle.gl_c.proofs.managers.guarded.Guarded.serve_back.Goals as goal
@@ -20,8 +20,7 @@ pub invariant_of-self : goal.invariant_of-self
 invariant_of-self c =
     sound_idle c.self.inside c.release_since-released.new.self
     (turn_run c.self.inside.waiting _ c.release_since-released.result.1 c.release_since-released.new.self c.release_since-released.ensures
-    (λ own mid h. back_run c.self.inside.waiting c.args.txn c.args.mark c.release_since-released.result.0 c.release_since-released.new.told.items own mid
-    h)) c.self.invariant (same c)
+    (λ own mid h. h.run)) c.self.invariant (same c)
 
 pub returns-then-accepted-before : goal.returns-then-accepted-before
 returns-then-accepted-before c =
@@ -29,8 +28,7 @@ returns-then-accepted-before c =
     (with_waiting (view_of c.self.inside) c.release_since-released.new.self)) c.self.view_is
     (leaves_idle c.self.inside c.release_since-released.new.self
     (turn_run c.self.inside.waiting _ c.release_since-released.result.1 c.release_since-released.new.self c.release_since-released.ensures
-    (λ own mid h. back_run c.self.inside.waiting c.args.txn c.args.mark c.release_since-released.result.0 c.release_since-released.new.told.items own mid
-    h)) c.self.invariant (same c) _ (has_none) c.release_since-released.result.1
+    (λ own mid h. h.run)) c.self.invariant (same c) _ (has_none) c.release_since-released.result.1
     c.release_since-released.ensures)
 
 -- some were
@@ -39,12 +37,11 @@ pub invariant_of-self-2 : goal.invariant_of-self-2
 invariant_of-self-2 c =
     sound_counted c.self.inside c.release_since-released.new.self
     (turn_run c.self.inside.waiting _ c.release_since-released.result.1 c.release_since-released.new.self c.release_since-released.ensures
-    (λ own mid h. back_run c.self.inside.waiting c.args.txn c.args.mark c.release_since-released.result.0 c.release_since-released.new.told.items own mid
-    h)) c.self.invariant c.release_since-released.result.1.went_on
+    (λ own mid h. h.run)) c.self.invariant c.release_since-released.result.1.went_on
     (has_none) c.keep_nobody.new.showing c.keep_nobody.ensures.shown (c.keep_nobody.ensures.parties) c.release_since-released.result.1.ended
     (λ quiet. back_knows c.self.inside.waiting (shown_in c.self.inside.showing)
-    (parties_in c.self.inside.showing) c.self.invariant.known c.release_since-released.result.1
-    c.release_since-released.new.self quiet c.args.txn c.args.mark c.release_since-released.result.0 c.release_since-released.new.told.items
+    (parties_in c.self.inside.showing) c.self.invariant.known c.release_since-released.result.1.ended
+    c.release_since-released.new.self c.args.txn c.args.mark c.release_since-released.result.0 c.release_since-released.new.told.items
     (turn_alone c.self.inside.waiting _ c.release_since-released.result.1 c.release_since-released.new.self c.release_since-released.ensures quiet))
 
 pub returns : goal.returns
@@ -53,8 +50,7 @@ returns c =
     (back_call c.args.txn c.args.mark) c.release_since-released.result.0 c.release_since-released.new.told.items c.show_if_due.new.self) c.self.view_is
     (leaves_counted c.self.inside c.release_since-released.new.self
     (turn_run c.self.inside.waiting _ c.release_since-released.result.1 c.release_since-released.new.self c.release_since-released.ensures
-    (λ own mid h. back_run c.self.inside.waiting c.args.txn c.args.mark c.release_since-released.result.0 c.release_since-released.new.told.items own mid
-    h)) c.self.invariant c.release_since-released.result.1.went_on
+    (λ own mid h. h.run)) c.self.invariant c.release_since-released.result.1.went_on
     (has_none) c.keep_nobody.new.showing c.keep_nobody.ensures.shown
     (c.keep_nobody.ensures.parties) _ c.release_since-released.result.1 c.show_if_due.new.self refl
     c.release_since-released.ensures (λ is. c.if-accepted-before.false (counted_as _ _ _ c.accepted.ensures c.manager-2.ensures ∙ is

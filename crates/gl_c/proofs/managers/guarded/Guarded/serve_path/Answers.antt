@@ -7,7 +7,7 @@ use Rattle.gl_c.specs.managers.Showing.{parties_in, shown_in}
 use Rattle.gl_c.specs.managers.Sound.{view_of}
 use Rattle.gl_c.proofs.serving.Serving.{counted_as, leaves_counted, leaves_idle, sound_counted, sound_idle}
 use Rattle.gl_c.proofs.serving.Known.{path_knows}
-use Rattle.gl_waiting.proofs.TurnRuns.{path_run, turn_alone, turn_run}
+use Rattle.gl_waiting.proofs.TurnRuns.{turn_alone, turn_run}
 use Rattle.gl_c.specs.locks.Paths.{leaves_on_path}
 use Rattle.gl_c.specs.locks.Paths.{path_call}
 use Rattle.gl_c.proofs.managers.guarded.Guarded.serve_path.Goals as goal
@@ -22,8 +22,7 @@ pub invariant_of-self : goal.invariant_of-self
 invariant_of-self c =
     sound_idle c.self.inside c.lock_path-reached.new.self
     (turn_run c.self.inside.waiting _ c.lock_path-reached.result.1 c.lock_path-reached.new.self c.lock_path-reached.ensures
-    (λ own mid h. path_run c.self.inside.waiting c.args.txn
-    (c.args.node, c.args.mode) c.lock_path-reached.result.0 c.lock_path-reached.new.told.items own mid h)) c.self.invariant (same c)
+    (λ own mid h. h.run)) c.self.invariant (same c)
 
 pub returns-then-accepted-before : goal.returns-then-accepted-before
 returns-then-accepted-before c =
@@ -32,8 +31,7 @@ returns-then-accepted-before c =
     (view_of c.self.inside) c.lock_path-reached.new.self)) c.self.view_is
     (leaves_idle c.self.inside c.lock_path-reached.new.self
     (turn_run c.self.inside.waiting _ c.lock_path-reached.result.1 c.lock_path-reached.new.self c.lock_path-reached.ensures
-    (λ own mid h. path_run c.self.inside.waiting c.args.txn
-    (c.args.node, c.args.mode) c.lock_path-reached.result.0 c.lock_path-reached.new.told.items own mid h)) c.self.invariant (same c) _
+    (λ own mid h. h.run)) c.self.invariant (same c) _
     (λ known. leaves_on_path known c.args.txn c.lock_path-reached.result.0 c.lock_path-reached.new.told.items) c.lock_path-reached.result.1
     c.lock_path-reached.ensures)
 
@@ -43,15 +41,14 @@ pub invariant_of-self-2 : goal.invariant_of-self-2
 invariant_of-self-2 c =
     sound_counted c.self.inside c.lock_path-reached.new.self
     (turn_run c.self.inside.waiting _ c.lock_path-reached.result.1 c.lock_path-reached.new.self c.lock_path-reached.ensures
-    (λ own mid h. path_run c.self.inside.waiting c.args.txn
-    (c.args.node, c.args.mode) c.lock_path-reached.result.0 c.lock_path-reached.new.told.items own mid h)) c.self.invariant c.lock_path-reached.result.1.went_on
+    (λ own mid h. h.run)) c.self.invariant c.lock_path-reached.result.1.went_on
     (λ known. leaves_on_path known c.args.txn c.lock_path-reached.result.0 c.lock_path-reached.new.told.items) c.keep_on_path.new.showing
     c.keep_on_path.ensures.shown (c.keep_on_path.ensures.parties ∙ ap (λ (l : Told). known_after c.lock_path-reached.result.1.went_on
     (parties_in c.self.inside.showing)
     (λ known. leaves_on_path known c.args.txn c.lock_path-reached.result.0 l)) c.as_slice.ensures.value) c.lock_path-reached.result.1.ended
     (λ quiet. path_knows c.self.inside.waiting (shown_in c.self.inside.showing)
-    (parties_in c.self.inside.showing) c.self.invariant.known c.lock_path-reached.result.1
-    c.lock_path-reached.new.self quiet c.law.ensures.manager.lawful c.law.ensures.manager.few c.args.txn
+    (parties_in c.self.inside.showing) c.self.invariant.known c.lock_path-reached.result.1.ended
+    c.lock_path-reached.new.self c.law.ensures.manager.lawful c.law.ensures.manager.few c.args.txn
     (c.args.node, c.args.mode) c.lock_path-reached.result.0 c.lock_path-reached.new.told.items
     (turn_alone c.self.inside.waiting _ c.lock_path-reached.result.1 c.lock_path-reached.new.self c.lock_path-reached.ensures quiet))
 
@@ -61,8 +58,7 @@ returns c =
     (c.args.node, c.args.mode)) c.lock_path-reached.result.0 c.lock_path-reached.new.told.items c.show_if_due.new.self) c.self.view_is
     (leaves_counted c.self.inside c.lock_path-reached.new.self
     (turn_run c.self.inside.waiting _ c.lock_path-reached.result.1 c.lock_path-reached.new.self c.lock_path-reached.ensures
-    (λ own mid h. path_run c.self.inside.waiting c.args.txn
-    (c.args.node, c.args.mode) c.lock_path-reached.result.0 c.lock_path-reached.new.told.items own mid h)) c.self.invariant c.lock_path-reached.result.1.went_on
+    (λ own mid h. h.run)) c.self.invariant c.lock_path-reached.result.1.went_on
     (λ known. leaves_on_path known c.args.txn c.lock_path-reached.result.0 c.lock_path-reached.new.told.items) c.keep_on_path.new.showing
     c.keep_on_path.ensures.shown (c.keep_on_path.ensures.parties ∙ ap (λ (l : Told). known_after c.lock_path-reached.result.1.went_on
     (parties_in c.self.inside.showing)

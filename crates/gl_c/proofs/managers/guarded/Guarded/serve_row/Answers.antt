@@ -12,7 +12,7 @@ use Rattle.gl_c.specs.managers.Showing.{parties_in, shown_in}
 use Rattle.gl_c.specs.managers.Sound.{view_of}
 use Rattle.gl_c.proofs.serving.Serving.{counted_as, leaves_counted, leaves_idle, sound_counted, sound_idle}
 use Rattle.gl_c.proofs.serving.Known.{row_knows}
-use Rattle.gl_waiting.proofs.TurnRuns.{row_run, turn_alone, turn_run}
+use Rattle.gl_waiting.proofs.TurnRuns.{turn_alone, turn_run}
 use Rattle.gl_c.specs.managers.Carries.{spared_by}
 use Rattle.gl_rows.specs.Applying.{answer_in, own_command, unnamed}
 use Rattle.gl_c.specs.locks.Rows.{row_call}
@@ -37,7 +37,7 @@ pub invariant_of-self : goal.invariant_of-self
 invariant_of-self c =
     sound_idle c.self.inside c.serve_row-answer.new.self
     (turn_run c.self.inside.waiting _ c.serve_row-answer.result.1 c.serve_row-answer.new.self c.serve_row-answer.ensures
-    (λ own mid h. row_run c.self.inside.waiting c.args.call c.serve_row-answer.result.0 c.serve_row-answer.new.told.items own mid h)) c.self.invariant (same c)
+    (λ own mid h. h.run)) c.self.invariant (same c)
 
 pub returns-then-accepted-before : goal.returns-then-accepted-before
 returns-then-accepted-before c =
@@ -45,7 +45,7 @@ returns-then-accepted-before c =
     (view_of c.self.inside) c.serve_row-answer.new.self)) c.self.view_is
     (leaves_idle c.self.inside c.serve_row-answer.new.self
     (turn_run c.self.inside.waiting _ c.serve_row-answer.result.1 c.serve_row-answer.new.self c.serve_row-answer.ensures
-    (λ own mid h. row_run c.self.inside.waiting c.args.call c.serve_row-answer.result.0 c.serve_row-answer.new.told.items own mid h)) c.self.invariant
+    (λ own mid h. h.run)) c.self.invariant
     (same c) _ (spared_by (own_command unnamed c.args.call)
     (answer_in c.serve_row-answer.result.0) c.serve_row-answer.new.told.items) c.serve_row-answer.result.1
     c.serve_row-answer.ensures)
@@ -56,7 +56,7 @@ pub invariant_of-self-2 : goal.invariant_of-self-2
 invariant_of-self-2 c =
     sound_counted c.self.inside c.serve_row-answer.new.self
     (turn_run c.self.inside.waiting _ c.serve_row-answer.result.1 c.serve_row-answer.new.self c.serve_row-answer.ensures
-    (λ own mid h. row_run c.self.inside.waiting c.args.call c.serve_row-answer.result.0 c.serve_row-answer.new.told.items own mid h)) c.self.invariant
+    (λ own mid h. h.run)) c.self.invariant
     c.serve_row-answer.result.1.went_on
     (spared_by (own_command unnamed c.args.call)
     (answer_in c.serve_row-answer.result.0) c.serve_row-answer.new.told.items) c.keep.new.showing c.keep.ensures.shown
@@ -64,8 +64,8 @@ invariant_of-self-2 c =
     (answer_in c.serve_row-answer.result.0) c.answer_of.result c.serve_row-answer.new.told.items c.as_slice.result.now
     (parties_in c.keep.new.showing) c.keep.ensures.parties c.command.ensures c.answer_of.ensures c.as_slice.ensures.value) c.serve_row-answer.result.1.ended
     (λ quiet. row_knows c.self.inside.waiting (shown_in c.self.inside.showing)
-    (parties_in c.self.inside.showing) c.self.invariant.known c.serve_row-answer.result.1
-    c.serve_row-answer.new.self quiet c.law.ensures.manager.lawful c.law.ensures.manager.few c.args.call c.serve_row-answer.result.0
+    (parties_in c.self.inside.showing) c.self.invariant.known c.serve_row-answer.result.1.ended
+    c.serve_row-answer.new.self c.law.ensures.manager.lawful c.law.ensures.manager.few c.args.call c.serve_row-answer.result.0
     c.serve_row-answer.new.told.items
     (turn_alone c.self.inside.waiting _ c.serve_row-answer.result.1 c.serve_row-answer.new.self c.serve_row-answer.ensures quiet)
     (λ is. c.if-accepted-before.false (counted_as _ _ _ c.accepted.ensures c.manager-2.ensures ∙ is
@@ -77,7 +77,7 @@ returns c =
     (row_call c.args.call) c.serve_row-answer.result.0 c.serve_row-answer.new.told.items c.show_if_due.new.self) c.self.view_is
     (leaves_counted c.self.inside c.serve_row-answer.new.self
     (turn_run c.self.inside.waiting _ c.serve_row-answer.result.1 c.serve_row-answer.new.self c.serve_row-answer.ensures
-    (λ own mid h. row_run c.self.inside.waiting c.args.call c.serve_row-answer.result.0 c.serve_row-answer.new.told.items own mid h)) c.self.invariant
+    (λ own mid h. h.run)) c.self.invariant
     c.serve_row-answer.result.1.went_on
     (spared_by (own_command unnamed c.args.call)
     (answer_in c.serve_row-answer.result.0) c.serve_row-answer.new.told.items) c.keep.new.showing c.keep.ensures.shown

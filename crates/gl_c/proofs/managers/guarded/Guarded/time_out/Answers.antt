@@ -1,4 +1,4 @@
-use Rattle.std.specs.Prelude.{[], false}
+use Rattle.std.specs.Prelude.{false}
 use Rattle.std.proofs.Common.{◌≡◌, refl, subst, sym, ◌∙◌}
 use Rattle.gl_c.specs.locks.Waiters.{late_call}
 use Rattle.gl_c.specs.managers.Carries.{Performs}
@@ -12,41 +12,42 @@ use Rattle.gl_c.proofs.managers.guarded.Guarded.time_out.Goals as goal
 
 -- no command was counted
 
-same : (c : goal.Then-accepted-before) → c.time_out-off.new.self.manager.accepted ≡ c.self.inside.waiting.manager.accepted
+same : (c : goal.Then-accepted-before) → c.time_out-end.new.self.manager.accepted ≡ c.self.inside.waiting.manager.accepted
 same c =
     sym (counted_as _ _ _ c.accepted.ensures c.manager-2.ensures) ∙ c.if-accepted-before.true ∙ counted_as _ _ _ c.accepted-before.ensures c.manager.ensures
 
 pub invariant_of-self : goal.invariant_of-self
 invariant_of-self c =
-    sound_idle c.self.inside c.time_out-off.new.self
-    (turn_run c.self.inside.waiting _ c.time_out-off.result c.time_out-off.new.self c.time_out-off.ensures (λ own mid h. h.run)) c.self.invariant (same c)
+    sound_idle c.self.inside c.time_out-end.new.self
+    (turn_run c.self.inside.waiting _ c.time_out-end.result.1 c.time_out-end.new.self c.time_out-end.ensures (λ own mid h. h.run)) c.self.invariant (same c)
 
 pub returns-then-accepted-before : goal.returns-then-accepted-before
 returns-then-accepted-before c =
-    subst (λ (g : GuardedView). Performs g (late_call c.args.txn) tt [] (with_waiting (view_of c.self.inside) c.time_out-off.new.self)) c.self.view_is
-    (leaves_idle c.self.inside c.time_out-off.new.self
-    (turn_run c.self.inside.waiting _ c.time_out-off.result c.time_out-off.new.self c.time_out-off.ensures (λ own mid h. h.run)) c.self.invariant (same c) _
-    (λ known. false) c.time_out-off.result c.time_out-off.ensures)
+    subst (λ (g : GuardedView). Performs g (late_call c.args.txn) c.time_out-end.result.0 c.time_out-end.new.told.items
+    (with_waiting (view_of c.self.inside) c.time_out-end.new.self)) c.self.view_is
+    (leaves_idle c.self.inside c.time_out-end.new.self
+    (turn_run c.self.inside.waiting _ c.time_out-end.result.1 c.time_out-end.new.self c.time_out-end.ensures (λ own mid h. h.run)) c.self.invariant (same c) _
+    (λ known. false) c.time_out-end.result.1 c.time_out-end.ensures)
 
 -- some were
 
 pub invariant_of-self-2 : goal.invariant_of-self-2
 invariant_of-self-2 c =
-    sound_counted c.self.inside c.time_out-off.new.self
-    (turn_run c.self.inside.waiting _ c.time_out-off.result c.time_out-off.new.self c.time_out-off.ensures (λ own mid h. h.run)) c.self.invariant
-    c.time_out-off.result.went_on (λ known. false) c.keep_nobody.new.showing c.keep_nobody.ensures.shown
-    (forgets c.time_out-off.result.went_on (parties_in c.self.inside.showing) (parties_in c.keep_nobody.new.showing) c.keep_nobody.ensures.parties)
-    c.time_out-off.result.ended
+    sound_counted c.self.inside c.time_out-end.new.self
+    (turn_run c.self.inside.waiting _ c.time_out-end.result.1 c.time_out-end.new.self c.time_out-end.ensures (λ own mid h. h.run)) c.self.invariant
+    c.time_out-end.result.1.went_on (λ known. false) c.keep_nobody.new.showing c.keep_nobody.ensures.shown
+    (forgets c.time_out-end.result.1.went_on (parties_in c.self.inside.showing) (parties_in c.keep_nobody.new.showing) c.keep_nobody.ensures.parties)
+    c.time_out-end.result.1.ended
     (λ quiet. knows_none _ (shown_in c.self.inside.showing) (parties_in c.self.inside.showing))
 
 pub returns : goal.returns
 returns c =
-    subst (λ (g : GuardedView). Performs g (late_call c.args.txn) tt [] c.show_if_due.new.self) c.self.view_is
-    (leaves_counted c.self.inside c.time_out-off.new.self
-    (turn_run c.self.inside.waiting _ c.time_out-off.result c.time_out-off.new.self c.time_out-off.ensures (λ own mid h. h.run)) c.self.invariant
-    c.time_out-off.result.went_on (λ known. false) c.keep_nobody.new.showing c.keep_nobody.ensures.shown
-    (forgets c.time_out-off.result.went_on (parties_in c.self.inside.showing) (parties_in c.keep_nobody.new.showing) c.keep_nobody.ensures.parties) _
-    c.time_out-off.result c.show_if_due.new.self refl c.time_out-off.ensures
+    subst (λ (g : GuardedView). Performs g (late_call c.args.txn) c.time_out-end.result.0 c.time_out-end.new.told.items c.show_if_due.new.self) c.self.view_is
+    (leaves_counted c.self.inside c.time_out-end.new.self
+    (turn_run c.self.inside.waiting _ c.time_out-end.result.1 c.time_out-end.new.self c.time_out-end.ensures (λ own mid h. h.run)) c.self.invariant
+    c.time_out-end.result.1.went_on (λ known. false) c.keep_nobody.new.showing c.keep_nobody.ensures.shown
+    (forgets c.time_out-end.result.1.went_on (parties_in c.self.inside.showing) (parties_in c.keep_nobody.new.showing) c.keep_nobody.ensures.parties) _
+    c.time_out-end.result.1 c.show_if_due.new.self refl c.time_out-end.ensures
     (λ is. c.if-accepted-before.false (counted_as _ _ _ c.accepted.ensures c.manager-2.ensures ∙ is
     ∙ sym (counted_as _ _ _ c.accepted-before.ensures c.manager.ensures))) c.show_if_due.ensures.kept c.show_if_due.ensures.shown
     c.show_if_due.ensures.known)

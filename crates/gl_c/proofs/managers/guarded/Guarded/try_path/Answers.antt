@@ -5,7 +5,7 @@ use Rattle.gl_c.specs.managers.Showing.{parties_in, shown_in}
 use Rattle.gl_c.specs.managers.Sound.{view_of}
 use Rattle.gl_c.proofs.serving.Serving.{counted_as, leaves_counted, leaves_idle, sound_counted, sound_idle}
 use Rattle.gl_c.proofs.serving.Known.{tried_knows}
-use Rattle.gl_waiting.proofs.TurnRuns.{tried_run, turn_alone, turn_run}
+use Rattle.gl_waiting.proofs.TurnRuns.{turn_alone, turn_run}
 use Rattle.gl_slots.specs.Slots.{has_none}
 use Rattle.gl_c.specs.locks.Tries.{tried_path_call}
 use Rattle.gl_c.proofs.managers.guarded.Guarded.try_path.Goals as goal
@@ -20,8 +20,7 @@ pub invariant_of-self : goal.invariant_of-self
 invariant_of-self c =
     sound_idle c.self.inside c.try_path-tried.new.self
     (turn_run c.self.inside.waiting _ c.try_path-tried.result.1 c.try_path-tried.new.self c.try_path-tried.ensures
-    (λ own mid h. tried_run c.self.inside.waiting c.args.txn
-    (c.args.node, c.args.mode) c.args.keep c.try_path-tried.result.0 c.try_path-tried.new.told.items own mid h)) c.self.invariant (same c)
+    (λ own mid h. h.run)) c.self.invariant (same c)
 
 pub returns-then-accepted-before : goal.returns-then-accepted-before
 returns-then-accepted-before c =
@@ -30,8 +29,7 @@ returns-then-accepted-before c =
     (view_of c.self.inside) c.try_path-tried.new.self)) c.self.view_is
     (leaves_idle c.self.inside c.try_path-tried.new.self
     (turn_run c.self.inside.waiting _ c.try_path-tried.result.1 c.try_path-tried.new.self c.try_path-tried.ensures
-    (λ own mid h. tried_run c.self.inside.waiting c.args.txn
-    (c.args.node, c.args.mode) c.args.keep c.try_path-tried.result.0 c.try_path-tried.new.told.items own mid h)) c.self.invariant (same c) _
+    (λ own mid h. h.run)) c.self.invariant (same c) _
     (has_none) c.try_path-tried.result.1
     c.try_path-tried.ensures)
 
@@ -41,13 +39,12 @@ pub invariant_of-self-2 : goal.invariant_of-self-2
 invariant_of-self-2 c =
     sound_counted c.self.inside c.try_path-tried.new.self
     (turn_run c.self.inside.waiting _ c.try_path-tried.result.1 c.try_path-tried.new.self c.try_path-tried.ensures
-    (λ own mid h. tried_run c.self.inside.waiting c.args.txn
-    (c.args.node, c.args.mode) c.args.keep c.try_path-tried.result.0 c.try_path-tried.new.told.items own mid h)) c.self.invariant
+    (λ own mid h. h.run)) c.self.invariant
     c.try_path-tried.result.1.went_on
     (has_none) c.keep_nobody.new.showing c.keep_nobody.ensures.shown (c.keep_nobody.ensures.parties) c.try_path-tried.result.1.ended
     (λ quiet. tried_knows c.self.inside.waiting (shown_in c.self.inside.showing)
-    (parties_in c.self.inside.showing) c.self.invariant.known c.try_path-tried.result.1
-    c.try_path-tried.new.self quiet c.args.keep c.args.txn (c.args.node, c.args.mode) c.try_path-tried.result.0 c.try_path-tried.new.told.items
+    (parties_in c.self.inside.showing) c.self.invariant.known c.try_path-tried.result.1.ended
+    c.try_path-tried.new.self c.args.keep c.args.txn (c.args.node, c.args.mode) c.try_path-tried.result.0 c.try_path-tried.new.told.items
     (turn_alone c.self.inside.waiting _ c.try_path-tried.result.1 c.try_path-tried.new.self c.try_path-tried.ensures quiet))
 
 pub returns : goal.returns
@@ -56,8 +53,7 @@ returns c =
     (c.args.node, c.args.mode)) c.try_path-tried.result.0 c.try_path-tried.new.told.items c.show_if_due.new.self) c.self.view_is
     (leaves_counted c.self.inside c.try_path-tried.new.self
     (turn_run c.self.inside.waiting _ c.try_path-tried.result.1 c.try_path-tried.new.self c.try_path-tried.ensures
-    (λ own mid h. tried_run c.self.inside.waiting c.args.txn
-    (c.args.node, c.args.mode) c.args.keep c.try_path-tried.result.0 c.try_path-tried.new.told.items own mid h)) c.self.invariant
+    (λ own mid h. h.run)) c.self.invariant
     c.try_path-tried.result.1.went_on
     (has_none) c.keep_nobody.new.showing c.keep_nobody.ensures.shown (c.keep_nobody.ensures.parties) _ c.try_path-tried.result.1 c.show_if_due.new.self refl
     c.try_path-tried.ensures (λ is. c.if-accepted-before.false (counted_as _ _ _ c.accepted.ensures c.manager-2.ensures ∙ is

@@ -5,7 +5,7 @@ use Rattle.gl_c.specs.managers.Showing.{parties_in, shown_in}
 use Rattle.gl_c.specs.managers.Sound.{view_of}
 use Rattle.gl_c.proofs.serving.Serving.{counted_as, leaves_counted, leaves_idle, sound_counted, sound_idle}
 use Rattle.gl_c.proofs.serving.Known.{tried_row_knows}
-use Rattle.gl_waiting.proofs.TurnRuns.{tried_row_run, turn_alone, turn_run}
+use Rattle.gl_waiting.proofs.TurnRuns.{turn_alone, turn_run}
 use Rattle.gl_slots.specs.Slots.{has_none}
 use Rattle.gl_c.specs.locks.Tries.{tried_row_call}
 use Rattle.gl_c.proofs.managers.guarded.Guarded.try_row.Goals as goal
@@ -20,9 +20,7 @@ pub invariant_of-self : goal.invariant_of-self
 invariant_of-self c =
     sound_idle c.self.inside c.try_row-tried.new.self
     (turn_run c.self.inside.waiting _ c.try_row-tried.result.1 c.try_row-tried.new.self c.try_row-tried.ensures
-    (λ own mid h. tried_row_run c.self.inside.waiting
-    (record { txn = c.args.txn; row = c.args.row; keys = c.args.keys; mode = c.args.mode }) c.try_row-tried.result.0 c.try_row-tried.new.told.items own mid
-    h)) c.self.invariant (same c)
+    (λ own mid h. h.run)) c.self.invariant (same c)
 
 pub returns-then-accepted-before : goal.returns-then-accepted-before
 returns-then-accepted-before c =
@@ -31,9 +29,7 @@ returns-then-accepted-before c =
     (with_waiting (view_of c.self.inside) c.try_row-tried.new.self)) c.self.view_is
     (leaves_idle c.self.inside c.try_row-tried.new.self
     (turn_run c.self.inside.waiting _ c.try_row-tried.result.1 c.try_row-tried.new.self c.try_row-tried.ensures
-    (λ own mid h. tried_row_run c.self.inside.waiting
-    (record { txn = c.args.txn; row = c.args.row; keys = c.args.keys; mode = c.args.mode }) c.try_row-tried.result.0 c.try_row-tried.new.told.items own mid
-    h)) c.self.invariant (same c) _ (has_none) c.try_row-tried.result.1
+    (λ own mid h. h.run)) c.self.invariant (same c) _ (has_none) c.try_row-tried.result.1
     c.try_row-tried.ensures)
 
 -- some were
@@ -42,13 +38,11 @@ pub invariant_of-self-2 : goal.invariant_of-self-2
 invariant_of-self-2 c =
     sound_counted c.self.inside c.try_row-tried.new.self
     (turn_run c.self.inside.waiting _ c.try_row-tried.result.1 c.try_row-tried.new.self c.try_row-tried.ensures
-    (λ own mid h. tried_row_run c.self.inside.waiting
-    (record { txn = c.args.txn; row = c.args.row; keys = c.args.keys; mode = c.args.mode }) c.try_row-tried.result.0 c.try_row-tried.new.told.items own mid
-    h)) c.self.invariant c.try_row-tried.result.1.went_on
+    (λ own mid h. h.run)) c.self.invariant c.try_row-tried.result.1.went_on
     (has_none) c.keep_nobody.new.showing c.keep_nobody.ensures.shown (c.keep_nobody.ensures.parties) c.try_row-tried.result.1.ended
     (λ quiet. tried_row_knows c.self.inside.waiting (shown_in c.self.inside.showing)
-    (parties_in c.self.inside.showing) c.self.invariant.known c.try_row-tried.result.1
-    c.try_row-tried.new.self quiet
+    (parties_in c.self.inside.showing) c.self.invariant.known c.try_row-tried.result.1.ended
+    c.try_row-tried.new.self
     (record { txn = c.args.txn; row = c.args.row; keys = c.args.keys; mode = c.args.mode }) c.try_row-tried.result.0 c.try_row-tried.new.told.items
     (turn_alone c.self.inside.waiting _ c.try_row-tried.result.1 c.try_row-tried.new.self c.try_row-tried.ensures quiet))
 
@@ -59,9 +53,7 @@ returns c =
     c.show_if_due.new.self) c.self.view_is
     (leaves_counted c.self.inside c.try_row-tried.new.self
     (turn_run c.self.inside.waiting _ c.try_row-tried.result.1 c.try_row-tried.new.self c.try_row-tried.ensures
-    (λ own mid h. tried_row_run c.self.inside.waiting
-    (record { txn = c.args.txn; row = c.args.row; keys = c.args.keys; mode = c.args.mode }) c.try_row-tried.result.0 c.try_row-tried.new.told.items own mid
-    h)) c.self.invariant c.try_row-tried.result.1.went_on
+    (λ own mid h. h.run)) c.self.invariant c.try_row-tried.result.1.went_on
     (has_none) c.keep_nobody.new.showing c.keep_nobody.ensures.shown (c.keep_nobody.ensures.parties) _ c.try_row-tried.result.1 c.show_if_due.new.self refl
     c.try_row-tried.ensures (λ is. c.if-accepted-before.false (counted_as _ _ _ c.accepted.ensures c.manager-2.ensures ∙ is
     ∙ sym (counted_as _ _ _ c.accepted-before.ensures c.manager.ensures)))

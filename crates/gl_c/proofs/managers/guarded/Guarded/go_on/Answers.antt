@@ -1,0 +1,57 @@
+use Rattle.std.specs.Prelude.{true, false}
+use Rattle.std.proofs.Common.{◌≡◌, refl, subst, sym, ◌∙◌}
+use Rattle.gl_c.specs.locks.Waiters.{on_call}
+use Rattle.gl_c.specs.managers.Carries.{Performs}
+use Rattle.gl_c.specs.managers.Guarded.{GuardedView, with_waiting}
+use Rattle.gl_c.specs.managers.Showing.{parties_in, shown_in}
+use Rattle.gl_c.specs.managers.Sound.{view_of}
+use Rattle.gl_c.proofs.serving.Serving.{counted_as, leaves_counted, leaves_idle, sound_counted, sound_idle}
+use Rattle.gl_c.proofs.serving.Waiters.{forgets, knows_none}
+use Rattle.gl_waiting.proofs.TurnRuns.{on_run, turn_run}
+use Rattle.gl_c.proofs.managers.guarded.Guarded.go_on.Goals as goal
+
+-- no command was counted
+
+same : (c : goal.Then-accepted-before) → c.go_on-came.new.self.manager.accepted ≡ c.self.inside.waiting.manager.accepted
+same c =
+    sym (counted_as _ _ _ c.accepted.ensures c.manager-2.ensures) ∙ c.if-accepted-before.true ∙ counted_as _ _ _ c.accepted-before.ensures c.manager.ensures
+
+pub invariant_of-self : goal.invariant_of-self
+invariant_of-self c =
+    sound_idle c.self.inside c.go_on-came.new.self
+    (turn_run c.self.inside.waiting _ c.go_on-came.result.1 c.go_on-came.new.self c.go_on-came.ensures
+    (λ own mid h. on_run c.self.inside.waiting c.go_on-came.result.0 c.go_on-came.new.told.items own mid h)) c.self.invariant (same c)
+
+pub returns-then-accepted-before : goal.returns-then-accepted-before
+returns-then-accepted-before c =
+    subst (λ (g : GuardedView). Performs g on_call c.go_on-came.result.0 c.go_on-came.new.told.items
+    (with_waiting (view_of c.self.inside) c.go_on-came.new.self)) c.self.view_is
+    (leaves_idle c.self.inside c.go_on-came.new.self
+    (turn_run c.self.inside.waiting _ c.go_on-came.result.1 c.go_on-came.new.self c.go_on-came.ensures
+    (λ own mid h. on_run c.self.inside.waiting c.go_on-came.result.0 c.go_on-came.new.told.items own mid h)) c.self.invariant (same c) _
+    (λ known. false) c.go_on-came.result.1 c.go_on-came.ensures)
+
+-- some were
+
+pub invariant_of-self-2 : goal.invariant_of-self-2
+invariant_of-self-2 c =
+    sound_counted c.self.inside c.go_on-came.new.self
+    (turn_run c.self.inside.waiting _ c.go_on-came.result.1 c.go_on-came.new.self c.go_on-came.ensures
+    (λ own mid h. on_run c.self.inside.waiting c.go_on-came.result.0 c.go_on-came.new.told.items own mid h)) c.self.invariant
+    c.go_on-came.result.1.went_on (λ known. false) c.keep_nobody.new.showing c.keep_nobody.ensures.shown
+    (forgets c.go_on-came.result.1.went_on (parties_in c.self.inside.showing) (parties_in c.keep_nobody.new.showing) c.keep_nobody.ensures.parties)
+    c.go_on-came.result.1.ended
+    (λ quiet. knows_none _ (shown_in c.self.inside.showing) (parties_in c.self.inside.showing))
+
+pub returns : goal.returns
+returns c =
+    subst (λ (g : GuardedView). Performs g on_call c.go_on-came.result.0 c.go_on-came.new.told.items c.show_if_due.new.self) c.self.view_is
+    (leaves_counted c.self.inside c.go_on-came.new.self
+    (turn_run c.self.inside.waiting _ c.go_on-came.result.1 c.go_on-came.new.self c.go_on-came.ensures
+    (λ own mid h. on_run c.self.inside.waiting c.go_on-came.result.0 c.go_on-came.new.told.items own mid h)) c.self.invariant
+    c.go_on-came.result.1.went_on (λ known. false) c.keep_nobody.new.showing c.keep_nobody.ensures.shown
+    (forgets c.go_on-came.result.1.went_on (parties_in c.self.inside.showing) (parties_in c.keep_nobody.new.showing) c.keep_nobody.ensures.parties) _
+    c.go_on-came.result.1 c.show_if_due.new.self refl c.go_on-came.ensures
+    (λ is. c.if-accepted-before.false (counted_as _ _ _ c.accepted.ensures c.manager-2.ensures ∙ is
+    ∙ sym (counted_as _ _ _ c.accepted-before.ensures c.manager.ensures))) c.show_if_due.ensures.kept c.show_if_due.ensures.shown
+    c.show_if_due.ensures.known)
