@@ -92,6 +92,9 @@ bool bs_call_may_sleep(void);
 /* Gives the begins that the library has handed on to the threads that sleep for them. */
 void bs_call_hand_on(bs_table *table);
 
+/* Makes a condition variable whose times are by the clock that is never set. No latch is needed. */
+void bs_call_make_steady(pthread_cond_t *cond);
+
 /* Starts a thread that takes no signals of the process; whether it could be started. */
 bool bs_call_start(pthread_t *thread, void *(*run)(void *), void *place);
 
@@ -151,6 +154,8 @@ bs_reply bs_traced_lock_row(bs_trace *trace, bs_txn txn, bs_node file, uint64_t 
                             size_t count, bs_mode mode, bs_notices *told);
 bs_reply bs_traced_call_try_row(bs_trace *trace, bs_txn txn, bs_node file, uint64_t number, const uint64_t *keys,
                                 size_t count, bs_mode mode, bs_notices *told);
+bs_reply bs_traced_call_go_on(bs_trace *trace, bs_notices *told);
+bs_reply bs_traced_call_time_out(bs_trace *trace, bs_txn txn, bs_notices *told);
 bs_reply bs_traced_unlock_row(bs_trace *trace, bs_txn txn, bs_node file, uint64_t number, bs_notices *told);
 bs_reply bs_traced_rekey_row(bs_trace *trace, bs_txn txn, bs_node file, uint64_t number, bs_node index, uint64_t key,
                              bs_notices *told);

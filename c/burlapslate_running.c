@@ -534,15 +534,6 @@ static void *running_tell_over(void *place) {
   return NULL;
 }
 
-/* A condition variable whose times are by the clock that is never set. */
-static void running_make_steady(pthread_cond_t *cond) {
-  pthread_condattr_t steady;
-  pthread_condattr_init(&steady);
-  pthread_condattr_setclock(&steady, CLOCK_MONOTONIC);
-  pthread_cond_init(cond, &steady);
-  pthread_condattr_destroy(&steady);
-}
-
 static void running_free_teller(bs_teller *teller) {
   pthread_cond_destroy(&teller->due);
   pthread_cond_destroy(&teller->returned);
@@ -556,8 +547,8 @@ static bool running_start(bs_running *running) {
   teller = (bs_teller *)malloc(sizeof *teller);
   if (teller == NULL) return false;
   memset(teller, 0, sizeof *teller);
-  running_make_steady(&teller->due);
-  running_make_steady(&teller->returned);
+  bs_call_make_steady(&teller->due);
+  bs_call_make_steady(&teller->returned);
   running->teller = teller;
   if (bs_call_start(&teller->thread, running_tell_over, running)) return true;
   running->teller = NULL;

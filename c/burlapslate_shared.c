@@ -2,18 +2,17 @@
  * burlapslate_shared.c: the table of burlapslate_shared.h: a manager with one mutex, its latch, and a condition
  * variable for each slot.
  *
- * WHAT IS PROVED, AND WHAT IS NOT. The library is proved: what each command does and whom it tells, what became of a
- * wait (bs_verdict), whose sleepers must be woken (bs_ended), that a look gives a whole board and never an older one.
- * So are begins that wait for a slot: their order, and that each call hands on those that can begin by it. Written in
- * C here, and tested: the mutex and the condition variables. They are in table_enter and table_release, around each
- * call; table_wake, after each command; table_hand_on, after what may have ended a transaction; table_sleep, when a
- * lock waits; table_sleep_in_begin_queue, when a begin does; bs_table_end; and table_watch_over, the thread that
- * watches. So is what several calls of the manager, each of them proved, do together: table_register, for a wait,
- * which may be for an instant and is then released when it is granted. And so are asks, whose end comes by a
- * callback: table_go_on, at the end of each critical section that may have ended one, and table_tell, after it. All
- * else here makes calls of the library between these. burlapslate_running.c times the waits: table_register,
- * table_note_ended and table_time_out tell it of them. burlapslate_trace.c makes the commands of a traced table:
- * table_make_* ask it.
+ * WHAT IS PROVED, AND WHAT IS NOT. The library is proved: what each command does and whom it tells, that a look gives a
+ * whole board and never an older one, and who waits for what: which wait is over, how a request goes on by that (the
+ * rest of a path, a row again, a lock for an instant that is given back), and how it ends. So are begins that wait for
+ * a slot: their order, and that each call hands on those that can begin by it. Written in C here, and tested: the mutex
+ * and the condition variables. They are in table_enter and table_release, around each call; table_wake, after each
+ * command, which continues by table_go_on those whose wait is over; table_hand_on, after what may have ended a
+ * transaction; table_sleep, when a lock waits; table_sleep_in_begin_queue, when a begin does; bs_table_end; and
+ * table_watch_over, the thread that watches. So are the ends of asks, told by a callback: table_tell, after each
+ * critical section that has some. All else here makes calls of the library between these. burlapslate_running.c times
+ * the waits: table_register, table_note_ended, table_gone_on and table_time_out tell it of them.
+ * burlapslate_trace.c makes the commands of a traced table: table_make_* ask it.
  */
 #include "burlapslate_dump.h"
 #include "burlapslate_inside.h"
@@ -31,22 +30,13 @@ typedef struct table_queued_begin {
   pthread_cond_t came;
 } table_queued_begin;
 
-/* A thread that sleeps on a path, in the frame of its own call. */
-typedef struct table_path {
-  bs_txn txn;
-  bs_node at;        /* the node that it waits for: that of the path, or one above it */
-  bs_mode mode;      /* the mode in which it wants that */
-  bool is_last;      /* it is that of the path */
-  bool is_cancelled;
-} table_path;
-
 /* What a call was left waiting for. */
 typedef struct table_wait {
   bs_node node;
   bs_mode mode;
 } table_wait;
 
-/* A lock for an instant that waits, to be released when it is granted; and what it was granted as, once it was. */
+/* A lock for an instant that a list left waiting; and what it was granted as, once it was. */
 typedef struct table_instant {
   bs_txn txn;
   bs_node node;
@@ -55,8 +45,7 @@ typedef struct table_instant {
 
 /* The latest time at which each wait of a transaction ends; with age 0 there is none. */
 typedef struct table_deadline {
-  uint64_t age;
-  struct timespec time;
+  uint64_t age, time;
 } table_deadline;
 
 /* A row as a call names it. */
@@ -67,8 +56,26 @@ typedef struct table_row {
   size_t count;
 } table_row;
 
-/* What an ask asks for. */
-typedef enum table_asked_kind { TABLE_NODE, TABLE_PATH, TABLE_ROW } table_asked_kind;
+/* What a call requests that may wait. */
+typedef enum table_kind { TABLE_NODE, TABLE_PATH, TABLE_ROW } table_kind;
+
+typedef struct table_request {
+  table_kind kind;
+  bs_txn txn;
+  bs_node node;    /* of a row, none */
+  bs_mode mode;
+  bool is_instant; /* it is requested for an instant, and was not held */
+  table_row row;   /* of a row */
+} table_request;
+
+/* Who awaits the end of a request: a thread that sleeps, in the frame of its call, or an ask. */
+typedef struct table_waiter {
+  struct table_asked *ask;      /* null: a thread sleeps */
+  const struct timespec *until; /* the time of its call, read within that alone */
+  bs_node at;                   /* the node for which it waits */
+  bool has_ended;
+  bs_reply end;
+} table_waiter;
 
 /* An ask: it waits, its end must be told, or it is a spare one. */
 typedef struct table_asked {
@@ -76,19 +83,9 @@ typedef struct table_asked {
   bs_table *table;
   bs_txn txn;
   void *word;
-  table_asked_kind kind;
-  bs_node at;               /* the node that it waits for */
-  bs_mode wanted;           /* the mode in which it wants that */
-  bs_node node;             /* of a path, its node */
-  bs_mode mode;             /* of a path and of a row, the mode that is asked */
-  table_row row;
-  uint64_t keys[BS_MOST_PARENTS]; /* of the row: one more than any row has */
-  bool has_limit, has_time;
-  struct timespec limit;    /* of the call */
-  struct timespec time;     /* of the wait: that, or the transaction's if it is earlier */
+  table_waiter waiter;
+  bool has_time;            /* its wait has a time at which it ends */
   bool is_inside;           /* its call has not returned: so that answers its end */
-  bool has_ended;
-  bs_reply end;
 } table_asked;
 
 /* Asks in order. */
@@ -100,9 +97,6 @@ typedef struct table_asked_list {
 typedef struct table_asks {
   void (*on_end)(void *context, bs_txn txn, bs_reply end, void *word);
   void *context;
-  bs_slots asked;            /* the slots whose asks wait */
-  bs_slots due;              /* those whose wait a command of this hold may have ended */
-  table_asked *at[BS_SLOTS]; /* by slot: the ask that waits */
   table_asked_list over;     /* those whose wait ended in this hold */
   table_asked *spare;
 } table_asks;
@@ -116,7 +110,7 @@ struct bs_table {
   pthread_mutex_t latch;
   bs_manager manager;
   table_stage stage;
-  bool is_due;                    /* this hold may have ended waits: waiters are woken or told as it ends */
+  bool is_due;                    /* this hold has ended waits: waiters are woken or told as it ends */
   bool is_traced;                 /* it has a trace */
   size_t queued;                  /* how many threads sleep for a slot */
   bs_notices told;                /* by the last command whose caller wanted no list */
@@ -126,11 +120,10 @@ struct bs_table {
   bs_slots to_wake;               /* the slots whose sleepers must be woken after this hold */
   bs_table *held_before;          /* if bs_table_hold holds this one: what its holder held before */
   uint32_t looks;                 /* how often a thread that finds the latch held retries before it sleeps */
-  pthread_cond_t ended[BS_SLOTS]; /* by slot: a wait may be over */
-  table_path *paths[BS_SLOTS];    /* by slot: the thread that sleeps on a path */
+  pthread_cond_t ended[BS_SLOTS]; /* by slot: a wait is over */
+  table_waiter *waiters[BS_SLOTS]; /* by slot: who awaits its end */
   table_deadline deadlines[BS_SLOTS]; /* by slot: of the transaction of this age, and of no later one */
-  bs_slots instantly;             /* the slots that wait for a lock for an instant */
-  table_instant instants[BS_SLOTS]; /* by slot: for which, up to its next wait */
+  table_instant instants[BS_SLOTS]; /* by slot: for which lock it waited that a list requested, up to its next wait */
   size_t to_tell;                 /* how many ends of asks must be told, and asks that tell others' before they end */
   pthread_cond_t left;            /* the last sleeper has left an ending table, or the last end was told */
   bool is_watched;                /* there is a thread that watches, and it looks by `eye` */
@@ -192,6 +185,8 @@ TABLE_MAKES(lock_row, (bs_table *table, bs_txn txn, bs_node file, uint64_t numbe
             bs_mode mode, bs_notices *told), txn, file, number, keys, count, mode, told)
 TABLE_MAKES(call_try_row, (bs_table *table, bs_txn txn, bs_node file, uint64_t number, const uint64_t *keys,
             size_t count, bs_mode mode, bs_notices *told), txn, file, number, keys, count, mode, told)
+TABLE_MAKES(call_go_on, (bs_table *table, bs_notices *told), told)
+TABLE_MAKES(call_time_out, (bs_table *table, bs_txn txn, bs_notices *told), txn, told)
 TABLE_MAKES(unlock_row, (bs_table *table, bs_txn txn, bs_node file, uint64_t number, bs_notices *told),
             txn, file, number, told)
 TABLE_MAKES(rekey_row, (bs_table *table, bs_txn txn, bs_node file, uint64_t number, bs_node index, uint64_t key,
@@ -293,83 +288,57 @@ bs_status bs_call_table_shut(bs_table *table) {
   return BS_DONE;
 }
 
-/* Notes that the waits of asks in these slots may be over. */
-static void table_note_due(bs_table *table, const bs_slots *ended) {
-  table_asks *asks = table->asks;
-  size_t i;
-  for (i = 0; i < BS_SLOTS / 64; i++) asks->due.words[i] |= ended->words[i] & asks->asked.words[i];
-}
-
-/* Adds what a later command told: those are others, since a transaction that is told waits no more. */
+/* Adds what a later command told, by rising slots. A transaction that was told before has the later notice alone. */
 static void table_tell_too(bs_notices *told, const bs_notices *more) {
   size_t i;
-  for (i = 0; i < more->count && told->count < BS_SLOTS; i++) {
+  for (i = 0; i < more->count; i++) {
     const bs_notice *next = &more->at[i];
-    size_t place = told->count++;
-    for (; place > 0 && told->at[place - 1].txn.slot > next->txn.slot; place--) told->at[place] = told->at[place - 1];
+    size_t place = told->count, from;
+    while (place > 0 && told->at[place - 1].txn.slot >= next->txn.slot) place--;
+    if (place == told->count || told->at[place].txn.slot != next->txn.slot) {
+      for (from = told->count++; from > place; from--) told->at[from] = told->at[from - 1];
+    }
     told->at[place] = *next;
   }
 }
 
-/* Takes the lowest of some slots out; BS_SLOTS if there is none. */
-static uint32_t table_take_slot(bs_slots *slots) {
-  uint32_t i;
-  for (i = 0; i < BS_SLOTS / 64; i++) {
-    uint64_t *word = &slots->words[i];
-    if (*word != 0) {
-      uint32_t slot = i * 64 + (uint32_t)__builtin_ctzll(*word);
-      *word &= *word - 1;
-      return slot;
-    }
-  }
-  return BS_SLOTS;
-}
-
-/* Notes the slots to wake, whose wait the last command has ended, as `told` says; and which of them waited for an
- * instant. */
-static void table_note_ended(bs_table *table, bs_slots *granted, const bs_notices *told) {
+/* Tells the times of waits that the last command has ended the waits that bs_ended says. */
+static void table_note_ended(bs_table *table, const bs_notices *told) {
   bs_slots ended = bs_call_ended(&table->manager).slots;
-  size_t i;
   bs_call_waits_ended(&table->running, &ended, told);
-  for (i = 0; i < BS_SLOTS / 64; i++) {
-    uint64_t instantly = table->instantly.words[i] & ended.words[i];
-    table->to_wake.words[i] |= ended.words[i];
-    table->instantly.words[i] &= ~instantly;
-    granted->words[i] |= instantly;
+}
+
+static bool table_is_same_node(bs_node one, bs_node other) {
+  return one.key == other.key && one.birth == other.birth;
+}
+
+/* The request of this waiter has ended: wakes its thread as the hold ends; an ask is answered by its call, or else its
+ * end must be told. */
+static void table_end(bs_table *table, table_waiter *waiter, uint32_t slot, bs_reply end) {
+  table_asked *ask = waiter->ask;
+  table_asked_list *over;
+  table->waiters[slot] = NULL;
+  waiter->end = end;
+  waiter->end.txn = bs_call_only(BS_DONE).txn;
+  waiter->has_ended = true;
+  if (ask == NULL) {
+    table->to_wake.words[slot / 64] |= (uint64_t)1 << slot % 64;
+    table->is_due = true;
+  } else if (!ask->is_inside) {
+    over = &table->asks->over;
+    ask->next = NULL;
+    if (over->first == NULL) over->first = ask;
+    else over->last->next = ask;
+    over->last = ask;
+    table->to_tell++;
+    table->is_due = true;
   }
-  table->is_due = true;
-  if (table->asks != NULL) table_note_due(table, &ended);
 }
 
-/* Releases the locks that were granted to these for an instant, in the critical section that granted them: so nobody
- * finds them held. A release may grant others. */
-static TABLE_APART void table_give_instants_back(bs_table *table, bs_slots *granted, bs_notices *told) {
-  uint32_t slot = table_take_slot(granted);
-  for (; slot < BS_SLOTS; slot = table_take_slot(granted)) {
-    table_instant *own = &table->instants[slot];
-    bs_reply held = bs_held(&table->manager, own->txn, own->node);
-    bs_notices more;
-    if (held.status != BS_DONE || held.mode == BS_NL) continue; /* its wait has ended in another way */
-    own->came = held.mode;
-    if (table_make_unlock(table, own->txn, own->node, &more).status == BS_DONE && more.count > 0) {
-      table_note_ended(table, granted, &more);
-      table_tell_too(told, &more);
-    }
-  }
-}
-
-/* Notes the sleepers whose wait the last accepted command may have ended, as bs_ended says. */
-static TABLE_APART void table_wake_told(bs_table *table, bs_notices *told) {
-  bs_slots granted = { { 0 } };
-  table_note_ended(table, &granted, told);
-  table_give_instants_back(table, &granted, told);
-}
-
-/* The same after a command that was answered so, unless that was refused. */
-static TABLE_APART void table_wake_ended(bs_table *table, bs_status status, bs_notices *told) {
-  bool is_accepted = status == BS_DONE || status == BS_WAITING || status == BS_VICTIM || status == BS_ON_THE_WAY ||
-                     status == BS_OTHER_KEYS;
-  if (is_accepted) table_wake_told(table, told);
+/* A lock for an instant that a list left waiting has ended so. */
+static void table_end_instant(bs_table *table, bs_reply end) {
+  table_instant *own = &table->instants[end.txn.slot];
+  if (own->txn.age == end.txn.age && end.status == BS_DONE) own->came = end.mode;
 }
 
 /* After a command that is not done: if a wait began, wakes the thread that watches. If the requester was condemned,
@@ -381,23 +350,131 @@ static TABLE_APART void table_blocked(bs_table *table, bs_status status) {
   pthread_cond_signal(&table->began);
 }
 
-/* After a command that was answered so, notes the sleepers whose wait it may have ended. It does not ask for them if
- * there are none: if the command told nobody, and ends no wait by name. A cancel and an abort end one by name. */
+/* A waiter has gone on, and its request came to this. */
+static void table_gone_on(bs_table *table, bs_reply came) {
+  table_waiter *waiter = table->waiters[came.txn.slot];
+  if (came.status == BS_WAITING) {
+    bs_call_wait_began(&table->running, came.txn);
+    if (waiter != NULL) waiter->at = came.node;
+  }
+  table_blocked(table, came.status);
+  if (came.status == BS_WAITING || came.status == BS_ON_THE_WAY) return;
+  if (waiter == NULL) table_end_instant(table, came);
+  else table_end(table, waiter, came.txn.slot, came);
+}
+
+/* Continues each waiter whose wait is over, by rising slots, until none is: the library says which, and how. Adds what
+ * that tells. */
+static TABLE_APART void table_go_on(bs_table *table, bs_notices *told) {
+  bs_notices more;
+  bs_reply came = table_make_call_go_on(table, &more);
+  for (; came.status != BS_NO_PLACE; came = table_make_call_go_on(table, &more)) {
+    if (more.count > 0) {
+      table_note_ended(table, &more);
+      table_tell_too(told, &more);
+    }
+    table_gone_on(table, came);
+  }
+}
+
+/* Continues those whose wait the last accepted command has ended. */
+static TABLE_APART void table_wake_told(bs_table *table, bs_notices *told) {
+  table_note_ended(table, told);
+  table_go_on(table, told);
+}
+
+/* The same after a command that was answered so, unless that was refused. */
+static TABLE_APART void table_wake_ended(bs_table *table, bs_status status, bs_notices *told) {
+  bool is_accepted = status == BS_DONE || status == BS_WAITING || status == BS_VICTIM || status == BS_ON_THE_WAY ||
+                     status == BS_OTHER_KEYS;
+  if (is_accepted) table_wake_told(table, told);
+}
+
+/* After a command that was answered so: continues those whose wait it has ended. It does not ask for them if there are
+ * none: if the command told nobody, and ends no wait by name. A cancel and an abort end one by name. */
 static inline void table_wake(bs_table *table, bs_status status, bs_notices *told, bool by_name) {
   if (by_name || told->count > 0) table_wake_ended(table, status, told);
   if (__builtin_expect(status != BS_DONE, 0)) table_blocked(table, status);
 }
 
-/* Registers the wait of a transaction that was just left waiting, for an instant or not, before anybody is woken: what
- * is set off then may end this wait too. An earlier grant for an instant says nothing of it. */
-static TABLE_APART void table_register(bs_table *table, bs_txn txn, bs_node node, bool is_instant) {
-  table_instant *own = &table->instants[txn.slot];
-  own->came = BS_NL;
+/* Nanoseconds by CLOCK_MONOTONIC; the greatest number says that there is no time. */
+#define TABLE_NO_TIME UINT64_MAX
+
+static uint64_t table_time_of(const struct timespec *until) {
+  const uint64_t second = 1000000000u;
+  if (until == NULL) return TABLE_NO_TIME;
+  if (until->tv_sec < 0) return 0;
+  if ((uint64_t)until->tv_sec >= TABLE_NO_TIME / second) return TABLE_NO_TIME - 1;
+  return (uint64_t)until->tv_sec * second + (uint64_t)until->tv_nsec;
+}
+
+static struct timespec table_timespec_of(uint64_t time) {
+  struct timespec until;
+  until.tv_sec = (time_t)(time / 1000000000u);
+  until.tv_nsec = (long)(time % 1000000000u);
+  return until;
+}
+
+/* The latest time at which a wait that begins now ends: the earlier of the call's and the transaction's. */
+static uint64_t table_earlier(const bs_table *table, bs_txn txn, const struct timespec *until) {
+  const table_deadline *own = &table->deadlines[txn.slot];
+  uint64_t time = table_time_of(until);
+  return own->age == txn.age && own->time < time ? own->time : time;
+}
+
+/* Registers with the library a request that waits so. */
+static void table_await(bs_table *table, const table_request *request, table_wait wait, uint64_t until) {
+  const table_row *row = &request->row;
+  bs_manager *m = &table->manager;
+  bs_txn txn = request->txn;
+  bs_mode mode = request->mode;
+  switch (request->kind) {
+    case TABLE_PATH:
+      bs_call_await_path(m, txn, request->node, mode, request->is_instant, wait.node, wait.mode, until);
+      break;
+    case TABLE_ROW:
+      bs_call_await_row(m, txn, row->file, row->number, bs_call_numbers(row->keys), row->count, mode, wait.node, until);
+      break;
+    default: bs_call_await_node(m, txn, request->node, mode, request->is_instant, until); break;
+  }
+}
+
+/* A request was just left waiting so. An earlier grant for an instant says nothing of it. */
+static void table_note_wait(bs_table *table, bs_txn txn) {
+  table->instants[txn.slot].came = BS_NL;
   bs_call_wait_began(&table->running, txn);
-  if (!is_instant) return;
-  own->txn = txn;
-  own->node = node;
-  table->instantly.words[txn.slot / 64] |= (uint64_t)1 << txn.slot % 64;
+}
+
+/* The same of a request of a list, which nobody awaits yet. One for an instant is released when it is granted, whoever
+ * awaits it. */
+static void table_leave_waiting(bs_table *table, const table_request *request, table_wait wait) {
+  table_instant *own = &table->instants[request->txn.slot];
+  table_note_wait(table, request->txn);
+  if (!request->is_instant || !table_is_same_node(wait.node, request->node)) return;
+  own->txn = request->txn;
+  own->node = request->node;
+  bs_call_await_node(&table->manager, request->txn, request->node, request->mode, true, TABLE_NO_TIME);
+}
+
+/* Who awaits the end of a wait. A thread that sleeps has its own time, and an ask the library's. */
+static void table_enlist(bs_table *table, const table_request *request, table_wait wait, table_waiter *waiter) {
+  uint64_t time = waiter->ask == NULL ? TABLE_NO_TIME : table_earlier(table, request->txn, waiter->until);
+  waiter->at = wait.node;
+  table->waiters[request->txn.slot] = waiter;
+  if (waiter->ask != NULL) waiter->ask->has_time = time != TABLE_NO_TIME;
+  table_await(table, request, wait, time);
+}
+
+/* Registers the wait of a request that was just left waiting, before anybody goes on: what is set off then may end this
+ * wait too. */
+static TABLE_APART void table_register(bs_table *table, const table_request *request, table_wait wait,
+                                       table_waiter *waiter) {
+  if (waiter == NULL) {
+    table_leave_waiting(table, request, wait);
+    return;
+  }
+  table_note_wait(table, request->txn);
+  table_enlist(table, request, wait, waiter);
 }
 
 /* Sleeps on a condition variable, with the latch held before and after, at most until a time if that is not null.
@@ -417,34 +494,30 @@ static void table_woken(bs_table *table) {
   if (table->stage == TABLE_ENDING && table->sleepers == 0) pthread_cond_signal(&table->left);
 }
 
-/* Cancels the wait of a transaction whose time is over, and answers so. */
-static bs_reply table_time_out(bs_table *table, bs_txn txn) {
-  bs_reply reply = table_make_cancel(table, txn, &table->told);
-  if (reply.status == BS_DONE) bs_call_wait_late(&table->running, txn.slot);
-  table_wake(table, reply.status, &table->told, true);
-  if (reply.status == BS_DONE) reply.status = BS_TIMED_OUT;
-  return reply;
+/* Cancels the wait of this waiter, whose time is over. It waits on if no command can be counted any more. */
+static bs_reply table_time_out(bs_table *table, bs_txn txn, table_waiter *waiter) {
+  bs_reply end = table_make_call_time_out(table, txn, &table->told);
+  if (end.status != BS_TIMED_OUT) return bs_call_only(BS_WORN_OUT);
+  bs_call_wait_late(&table->running, txn.slot);
+  table_end(table, waiter, txn.slot, end);
+  table_wake_told(table, &table->told);
+  return end;
 }
 
-/* The latest time at which a wait that begins now ends: the earlier of the call's and the transaction's; or null. */
-static const struct timespec *table_earlier(const bs_table *table, bs_txn txn, const struct timespec *until) {
-  const table_deadline *own = &table->deadlines[txn.slot];
-  if (own->age != txn.age) return until;
-  if (until == NULL || own->time.tv_sec < until->tv_sec) return &own->time;
-  return own->time.tv_sec == until->tv_sec && own->time.tv_nsec < until->tv_nsec ? &own->time : until;
+/* The same for a thread that sleeps: if its transaction waits on, nobody awaits that. */
+static void table_give_up(bs_table *table, bs_txn txn, table_waiter *own) {
+  own->end = table_time_out(table, txn, own);
+  if (own->end.status == BS_TIMED_OUT) return;
+  table->waiters[txn.slot] = NULL;
+  bs_call_withdraw_waiter(&table->manager, txn);
 }
 
 /* Within a call that continues: wakes and tells those to whom this critical section has brought something, with the
- * latch held before and after; whether there were any. Others use the table meanwhile. */
-static TABLE_APART bool table_tell_between(bs_table *table) {
-  if (!table->is_due) return false;
+ * latch held before and after. Others use the table meanwhile. */
+static TABLE_APART void table_tell_between(bs_table *table) {
+  if (!table->is_due) return;
   table_release(table);
   table_take(table);
-  return true;
-}
-
-static bool table_is_same_node(bs_node one, bs_node other) {
-  return one.key == other.key && one.birth == other.birth;
 }
 
 /* What became of a lock that was left waiting. The manager knows nothing of one released when granted. */
@@ -459,49 +532,27 @@ static bs_reply table_became(bs_table *table, bs_txn txn, bs_node node, bs_mode 
   return reply;
 }
 
-/* The same for a sleeper: a table that ends answers so. */
-static bs_reply table_verdict(bs_table *table, bs_txn txn, bs_node node, bs_mode mode) {
-  return table->stage == TABLE_ENDING ? table_no_table(table) : table_became(table, txn, node, mode);
-}
-
-/* For a lock that was answered BS_WAITING: sleeps, with the latch held before and after, until it has its verdict, or
- * the time is over, or the table ends. It asks what became of the wait before it looks at the clock, and before a sleep
- * if the call has ended waits: its own may be one of them. It copies the time: a deadline that another thread sets
- * meanwhile is for later waits. It wakes or tells those whose wait it has ended before it sleeps. */
-static TABLE_APART bs_reply table_sleep(bs_table *table, bs_txn txn, bs_node node, bs_mode mode,
-                                        const struct timespec *until) {
-  struct timespec time;
-  bs_reply reply = bs_call_only(BS_WAITING);
+/* For a request that was answered BS_WAITING: sleeps, with the latch held before and after, until it has ended, or the
+ * time is over, or the table ends. It asks for the end before it looks at the clock. It computes the time once: a
+ * deadline that another thread sets meanwhile is for later calls. It wakes or tells those whose wait it has ended before
+ * it sleeps. */
+static TABLE_APART bs_reply table_sleep(bs_table *table, bs_txn txn, table_waiter *own) {
+  uint64_t time = table_earlier(table, txn, own->until);
+  struct timespec until = table_timespec_of(time);
   int late = 0;
-  until = table_earlier(table, txn, until);
-  if (until != NULL) {
-    time = *until;
-    until = &time;
-  }
   table->sleepers++;
-  if (table->is_due) reply = table_verdict(table, txn, node, mode);
-  if (reply.status == BS_WAITING && table_tell_between(table)) reply = table_verdict(table, txn, node, mode);
-  while (reply.status == BS_WAITING && late != ETIMEDOUT) {
-    late = table_doze(table, &table->ended[txn.slot], until);
-    reply = table_verdict(table, txn, node, mode);
+  if (!own->has_ended) table_tell_between(table);
+  while (!own->has_ended && late != ETIMEDOUT) {
+    late = table_doze(table, &table->ended[txn.slot], time == TABLE_NO_TIME ? NULL : &until);
   }
-  if (reply.status == BS_WAITING) reply = table_time_out(table, txn);
+  if (!own->has_ended) table_give_up(table, txn, own);
   table_woken(table);
-  return reply;
+  return own->end;
 }
 
 /* ------------------------------------------------------------------------------------------------
  * The begin queue: the threads that sleep for a slot.
  */
-
-/* A condition variable whose times are by the clock that is never set. */
-static void table_make_steady(pthread_cond_t *cond) {
-  pthread_condattr_t steady;
-  pthread_condattr_init(&steady);
-  pthread_condattr_setclock(&steady, CLOCK_MONOTONIC);
-  pthread_cond_init(cond, &steady);
-  pthread_condattr_destroy(&steady);
-}
 
 /* Of a begin for new work, which no earlier begin has tried. */
 #define TABLE_NEW_WORK UINT64_MAX
@@ -536,7 +587,7 @@ static TABLE_APART bs_reply table_sleep_in_begin_queue(bs_table *table, table_qu
                                                        const struct timespec *until) {
   int late = 0;
   own->begun = bs_call_only(BS_WAITING);
-  table_make_steady(&own->came);
+  bs_call_make_steady(&own->came);
   table->queued++;
   table->sleepers++;
   while (own->begun.status == BS_WAITING && late != ETIMEDOUT && table->stage == TABLE_OPEN) {
@@ -643,10 +694,10 @@ static bs_table *table_new_table(void) {
   memset(table, 0, sizeof *table);
   pthread_mutex_init(&table->latch, NULL);
   table->looks = sysconf(_SC_NPROCESSORS_ONLN) > 1 ? TABLE_LOOKS : 0;
-  for (slot = 0; slot < BS_SLOTS; slot++) table_make_steady(&table->ended[slot]);
-  table_make_steady(&table->left);
-  table_make_steady(&table->began);
-  table_make_steady(&table->over);
+  for (slot = 0; slot < BS_SLOTS; slot++) bs_call_make_steady(&table->ended[slot]);
+  bs_call_make_steady(&table->left);
+  bs_call_make_steady(&table->began);
+  bs_call_make_steady(&table->over);
   bs_call_run(&table->running, table, &table->manager, &table->latch);
   return table;
 }
@@ -681,11 +732,9 @@ bs_reply bs_call_table_make(bs_table **table, const bs_options *options, size_t 
   return reply;
 }
 
-/* Wakes all sleepers of a table that ends. */
+/* Wakes all who sleep for a slot of a table that ends, and its threads. */
 static void table_wake_all(bs_table *table) {
   bs_reply queued;
-  size_t slot;
-  for (slot = 0; slot < BS_SLOTS; slot++) pthread_cond_broadcast(&table->ended[slot]);
   do {
     queued = bs_call_take_late_begin(&table->manager, UINT64_MAX);
     if (queued.count != 0) pthread_cond_signal(&table_begin_named(queued.count)->came);
@@ -695,29 +744,11 @@ static void table_wake_all(bs_table *table) {
   bs_call_run_out(&table->running);
 }
 
-/* Ends an ask: its call answers the end, or else the end must be told. */
-static void table_end_ask(bs_table *table, table_asked *ask, bs_reply end) {
-  table_asks *asks = table->asks;
-  uint32_t slot = ask->txn.slot;
-  asks->at[slot] = NULL;
-  asks->asked.words[slot / 64] &= ~((uint64_t)1 << slot % 64);
-  ask->end = end;
-  ask->has_ended = true;
-  if (ask->is_inside) return;
-  ask->next = NULL;
-  if (asks->over.first == NULL) asks->over.first = ask;
-  else asks->over.last->next = ask;
-  asks->over.last = ask;
-  table->to_tell++;
-  table->is_due = true;
-}
-
-/* Ends all asks of a table that ends. */
-static void table_end_asks(bs_table *table) {
+/* Ends each wait that is awaited in a table that ends. */
+static void table_end_waits(bs_table *table) {
   uint32_t slot;
   for (slot = 0; slot < BS_SLOTS; slot++) {
-    table_asked *ask = table->asks->at[slot];
-    if (ask != NULL) table_end_ask(table, ask, table_no_table(table));
+    if (table->waiters[slot] != NULL) table_end(table, table->waiters[slot], slot, bs_call_only(BS_NO_MANAGER));
   }
 }
 
@@ -738,7 +769,7 @@ bs_reply bs_table_end(bs_table *table) {
   pthread_setcancelstate(PTHREAD_CANCEL_DISABLE, &state);
   table->stage = TABLE_ENDING;
   table_wake_all(table);
-  if (table->asks != NULL) table_end_asks(table);
+  table_end_waits(table);
   table_release(table);
   if (table->is_watched) pthread_join(table->watch, NULL);
   bs_call_run_join(&table->running);
@@ -820,7 +851,7 @@ bs_reply bs_table_deadline(bs_table *table, bs_txn txn, const struct timespec *u
   reply = bs_call_doing(&table->manager, txn);
   if (reply.status != BS_DONE) return table_leave(table, reply);
   table->deadlines[txn.slot].age = until == NULL ? 0 : txn.age;
-  if (until != NULL) table->deadlines[txn.slot].time = *until;
+  table->deadlines[txn.slot].time = table_time_of(until);
   return table_leave(table, bs_call_only(BS_DONE));
 }
 
@@ -843,41 +874,65 @@ static inline bool table_is_instant(const bs_table *table, bs_txn txn, bs_node n
   return (asked & BS_INSTANT) != 0 && bs_held(&table->manager, txn, node).mode == BS_NL;
 }
 
+static inline table_request table_request_of(table_kind kind, bs_txn txn, bs_node node, bs_mode mode,
+                                             bool is_instant) {
+  table_request request;
+  request.kind = kind;
+  request.txn = txn;
+  request.node = node;
+  request.mode = mode;
+  request.is_instant = is_instant;
+  return request;
+}
+
+/* The waiter of a thread that sleeps, up to this time. */
+static inline void table_sleeper(table_waiter *waiter, const struct timespec *until) {
+  waiter->ask = NULL;
+  waiter->until = until;
+  waiter->has_ended = false;
+}
+
 /* Inlined, with a constant, so that a lock that stays pays nothing for those for an instant. */
 #define TABLE_IN_LINE inline __attribute__((always_inline))
 
-/* Makes the call bs_lock with the latch held. */
+/* Makes the call bs_lock with the latch held, for this waiter, or for a list if that is null. */
 static TABLE_IN_LINE bs_reply table_lock_by(bs_table *table, bs_txn txn, bs_node node, bs_mode mode, bool is_instant,
-                                            bs_notices *told) {
+                                            table_waiter *waiter, bs_notices *told) {
   bs_reply reply = table_make_lock(table, txn, node, mode, told);
-  if (reply.status == BS_WAITING) table_register(table, txn, node, is_instant);
+  if (reply.status == BS_WAITING) {
+    table_request request = table_request_of(TABLE_NODE, txn, node, mode, is_instant);
+    table_wait wait = { node, mode };
+    table_register(table, &request, wait, waiter);
+  }
   table_wake(table, reply.status, told, false);
   if (is_instant && reply.status == BS_DONE) table_give_back_at_once(table, txn, node, told);
   return reply;
 }
 
 static TABLE_APART bs_reply table_lock_instantly(bs_table *table, bs_txn txn, bs_node node, bs_mode asked,
-                                                 bs_notices *told) {
+                                                 table_waiter *waiter, bs_notices *told) {
   bool is_instant = table_is_instant(table, txn, node, asked);
-  return table_lock_by(table, txn, node, table_mode_of(asked), is_instant, told);
+  return table_lock_by(table, txn, node, table_mode_of(asked), is_instant, waiter, told);
 }
 
 /* The same, of a mode as it was requested. */
 static TABLE_IN_LINE bs_reply table_lock_now(bs_table *table, bs_txn txn, bs_node node, bs_mode asked,
-                                             bs_notices *told) {
-  if ((asked & BS_INSTANT) != 0) return table_lock_instantly(table, txn, node, asked, told);
-  return table_lock_by(table, txn, node, asked, false, told);
+                                             table_waiter *waiter, bs_notices *told) {
+  if ((asked & BS_INSTANT) != 0) return table_lock_instantly(table, txn, node, asked, waiter, told);
+  return table_lock_by(table, txn, node, asked, false, waiter, told);
 }
 
-/* Makes the call bs_lock_path with the latch held. If that waits, `wait` says for what: the manager forgets the mode
- * with the wait, which may be over when others are woken. */
+/* Makes the call bs_lock_path with the latch held. If that waits for a list, the reply says in which mode. */
 static TABLE_IN_LINE bs_reply table_path_by(bs_table *table, bs_txn txn, bs_node node, bs_mode mode, bool is_instant,
-                                            bs_notices *told, table_wait *wait) {
+                                            table_waiter *waiter, bs_notices *told) {
   bs_reply reply = table_make_lock_path(table, txn, node, mode, told);
   if (reply.status == BS_WAITING) {
-    wait->node = reply.node;
-    wait->mode = bs_call_doing(&table->manager, txn).mode;
-    table_register(table, txn, node, is_instant && table_is_same_node(reply.node, node));
+    table_request request = table_request_of(TABLE_PATH, txn, node, mode, is_instant);
+    table_wait wait;
+    wait.node = reply.node;
+    wait.mode = bs_call_doing(&table->manager, txn).mode;
+    if (waiter == NULL) reply.mode = wait.mode;
+    table_register(table, &request, wait, waiter);
   }
   table_wake(table, reply.status, told, false);
   if (is_instant && reply.status == BS_DONE) table_give_back_at_once(table, txn, node, told);
@@ -885,16 +940,27 @@ static TABLE_IN_LINE bs_reply table_path_by(bs_table *table, bs_txn txn, bs_node
 }
 
 static TABLE_APART bs_reply table_path_instantly(bs_table *table, bs_txn txn, bs_node node, bs_mode asked,
-                                                 bs_notices *told, table_wait *wait) {
+                                                 table_waiter *waiter, bs_notices *told) {
   bool is_instant = table_is_instant(table, txn, node, asked);
-  return table_path_by(table, txn, node, table_mode_of(asked), is_instant, told, wait);
+  return table_path_by(table, txn, node, table_mode_of(asked), is_instant, waiter, told);
 }
 
 /* The same, of a mode as it was requested. */
-static inline bs_reply table_path_now(bs_table *table, bs_txn txn, bs_node node, bs_mode asked, bs_notices *told,
-                                      table_wait *wait) {
-  if ((asked & BS_INSTANT) != 0) return table_path_instantly(table, txn, node, asked, told, wait);
-  return table_path_by(table, txn, node, asked, false, told, wait);
+static inline bs_reply table_path_now(bs_table *table, bs_txn txn, bs_node node, bs_mode asked, table_waiter *waiter,
+                                      bs_notices *told) {
+  if ((asked & BS_INSTANT) != 0) return table_path_instantly(table, txn, node, asked, waiter, told);
+  return table_path_by(table, txn, node, asked, false, waiter, told);
+}
+
+/* Requests the locks of a path up to its end, or to one that waits. Continues if others became victims for one
+ * above. */
+static inline bs_reply table_path_through(bs_table *table, bs_txn txn, bs_node node, bs_mode asked,
+                                          table_waiter *waiter) {
+  bs_reply reply;
+  do {
+    reply = table_path_now(table, txn, node, asked, waiter, &table->told);
+  } while (reply.status == BS_ON_THE_WAY);
+  return reply;
 }
 
 /* Makes the call bs_try with the latch held. */
@@ -906,19 +972,35 @@ static inline bs_reply table_try_now(bs_table *table, bs_txn txn, bs_node node, 
 }
 
 bs_reply bs_table_lock(bs_table *table, bs_txn txn, bs_node node, bs_mode mode, const struct timespec *until) {
+  table_waiter own;
   bs_reply reply;
   if (!table_enter_to_sleep(table, until)) return table_no_sleep(table);
-  reply = table_lock_now(table, txn, node, mode, &table->told);
-  if (reply.status == BS_WAITING) reply = table_sleep(table, txn, node, table_mode_of(mode), until);
+  table_sleeper(&own, until);
+  reply = table_lock_now(table, txn, node, mode, &own, &table->told);
+  if (reply.status == BS_WAITING) reply = table_sleep(table, txn, &own);
   table_release(table);
   return reply;
 }
 
+/* Awaits a wait that a list began. Answers what became of it; BS_WAITING if it still waits, and is awaited. */
+static bs_reply table_await_left(bs_table *table, bs_txn txn, bs_node node, bs_mode mode, table_waiter *waiter) {
+  table_request request = table_request_of(TABLE_NODE, txn, node, mode, false);
+  table_wait wait = { node, mode };
+  bs_reply reply = table_became(table, txn, node, mode);
+  if (reply.status != BS_WAITING) return reply;
+  if (table->waiters[txn.slot] != NULL) return bs_call_only(BS_IN_USE);
+  request.is_instant = bs_call_withdraw_waiter(&table->manager, txn).status == BS_DONE;
+  table_enlist(table, &request, wait, waiter);
+  return reply;
+}
+
 bs_reply bs_table_await(bs_table *table, bs_txn txn, bs_node node, bs_mode mode, const struct timespec *until) {
+  table_waiter own;
   bs_reply reply;
   if (!table_enter_to_sleep(table, until)) return table_no_sleep(table);
-  reply = table_became(table, txn, node, mode);
-  if (reply.status == BS_WAITING) reply = table_sleep(table, txn, node, mode, until);
+  table_sleeper(&own, until);
+  reply = table_await_left(table, txn, node, mode, &own);
+  if (reply.status == BS_WAITING) reply = table_sleep(table, txn, &own);
   table_release(table);
   return reply;
 }
@@ -939,21 +1021,8 @@ bs_reply bs_table_unlock(bs_table *table, bs_txn txn, bs_node node, bs_notices *
   TABLE_TELL(table, told, false, table_make_unlock(table, txn, node, list));
 }
 
-/* After a cancel: if the wait was over by then, but its sleeper would wake to wait for the next node of its path, the
- * path must end instead. */
-static bs_reply table_cancel_path(bs_table *table, bs_txn txn, bs_reply cancelled) {
-  table_path *path = cancelled.status == BS_NOT_WAITING && txn.slot < BS_SLOTS ? table->paths[txn.slot] : NULL;
-  bs_status end;
-  if (path == NULL || path->txn.age != txn.age) return cancelled;
-  end = bs_call_verdict(&table->manager, txn, path->at, path->mode).status;
-  if (end != BS_MOVED && (end != BS_DONE || path->is_last)) return cancelled;
-  path->is_cancelled = true;
-  cancelled.status = BS_DONE;
-  return cancelled;
-}
-
 bs_reply bs_table_cancel(bs_table *table, bs_txn txn, bs_notices *told) {
-  TABLE_TELL(table, told, true, table_cancel_path(table, txn, table_make_cancel(table, txn, list)));
+  TABLE_TELL(table, told, true, table_make_cancel(table, txn, list));
 }
 
 bs_reply bs_table_commit(bs_table *table, bs_txn txn, bs_notices *told) {
@@ -976,36 +1045,18 @@ bs_reply bs_table_escalate(bs_table *table, bs_txn txn, bs_node node, bs_notices
   TABLE_TELL(table, told, false, table_make_escalate(table, txn, node, list));
 }
 
-/* Makes the call bs_lock_path with the latch held, and sleeps if that waits. */
-static bs_reply table_path_inside(bs_table *table, bs_txn txn, bs_node node, bs_mode mode,
-                                  const struct timespec *until) {
-  table_wait wait;
-  bs_reply reply = table_path_now(table, txn, node, mode, &table->told, &wait);
-  table_path path;
-  if (reply.status != BS_WAITING) return reply;
-  path.txn = txn;
-  path.at = wait.node;
-  path.mode = wait.mode;
-  path.is_last = table_is_same_node(path.at, node);
-  path.is_cancelled = false;
-  table->paths[txn.slot] = &path;
-  reply = table_sleep(table, txn, path.at, path.mode, until);
-  if (table->paths[txn.slot] == &path) table->paths[txn.slot] = NULL;
-  if (reply.status != BS_MOVED && (reply.status != BS_DONE || path.is_last)) return reply;
-  return bs_call_only(path.is_cancelled ? BS_NOT_WAITING : BS_ON_THE_WAY);
-}
-
 bs_reply bs_table_lock_path(bs_table *table, bs_txn txn, bs_node node, bs_mode mode, const struct timespec *until) {
+  table_waiter own;
   bs_reply reply;
   if (!table_enter_to_sleep(table, until)) return table_no_sleep(table);
-  do {
-    reply = table_path_inside(table, txn, node, mode, until);
-  } while (reply.status == BS_ON_THE_WAY);
+  table_sleeper(&own, until);
+  reply = table_path_through(table, txn, node, mode, &own);
+  if (reply.status == BS_WAITING) reply = table_sleep(table, txn, &own);
   table_release(table);
   return reply;
 }
 
-/* After a try: notes the sleepers whose wait it has ended. A try that is refused may have released what it acquired. */
+/* After a try: continues those whose wait it has ended. A try that is refused may have released what it acquired. */
 static inline bs_reply table_tried(bs_table *table, bs_reply reply) {
   if (table->told.count > 0) table_wake_told(table, &table->told);
   return reply;
@@ -1062,32 +1113,17 @@ bs_reply bs_table_index_by(bs_table *table, bs_txn txn, const bs_node *parents, 
  * Rows by the engine's own numbers.
  */
 
-/* Requests a row with the latch held, for a caller that may wait. */
-static bs_reply table_ask_row(bs_table *table, bs_txn txn, const table_row *row, bs_mode mode) {
-  bs_reply reply =
-    table_make_lock_row(table, txn, row->file, row->number, row->keys, row->count, mode, &table->told);
-  if (reply.status == BS_WAITING) table_register(table, txn, reply.node, false);
+/* Requests a row with the latch held, for this waiter, or for a list if that is null. */
+static bs_reply table_row_by(bs_table *table, const table_request *request, table_waiter *waiter) {
+  const table_row *row = &request->row;
+  bs_reply reply = table_make_lock_row(table, request->txn, row->file, row->number, row->keys, row->count,
+                                       request->mode, &table->told);
+  if (reply.status == BS_WAITING) {
+    table_wait wait = { reply.node, request->mode };
+    table_register(table, request, wait, waiter);
+  }
   table_wake(table, reply.status, &table->told, false);
   return reply;
-}
-
-/* After a wait for a row that was granted so: requests it again, since what became of the wait says nothing of its
- * keys. */
-static bs_reply table_row_again(bs_table *table, bs_txn txn, const table_row *row, bs_mode mode, bs_node node,
-                                bs_reply granted) {
-  granted.node = node;
-  if (table_ask_row(table, txn, row, mode).status != BS_DONE) granted.status = BS_OTHER_KEYS;
-  return granted;
-}
-
-/* Requests a row, and sleeps if it must be waited for. */
-static bs_reply table_row_inside(bs_table *table, bs_txn txn, const table_row *row, bs_mode mode,
-                                 const struct timespec *until) {
-  bs_reply reply = table_ask_row(table, txn, row, mode);
-  bs_node node = reply.node;
-  if (reply.status != BS_WAITING) return reply;
-  reply = table_sleep(table, txn, node, mode, until);
-  return reply.status == BS_DONE ? table_row_again(table, txn, row, mode, node, reply) : reply;
 }
 
 static table_row table_row_of(bs_node file, uint64_t number, const uint64_t *keys, size_t count) {
@@ -1099,12 +1135,32 @@ static table_row table_row_of(bs_node file, uint64_t number, const uint64_t *key
   return row;
 }
 
+/* A request for a row. It names no node. */
+static table_request table_row_request(bs_txn txn, table_row row, bs_mode mode) {
+  table_request request = table_request_of(TABLE_ROW, txn, row.file, mode, false);
+  request.row = row;
+  return request;
+}
+
+/* After a wait of a list for a row that was granted so: requests it again, since what became of the wait says nothing of
+ * its keys. */
+static bs_reply table_row_again(bs_table *table, bs_txn txn, table_row row, bs_mode mode, bs_node node,
+                                bs_reply granted) {
+  table_request request = table_row_request(txn, row, mode);
+  granted.node = node;
+  if (table_row_by(table, &request, NULL).status != BS_DONE) granted.status = BS_OTHER_KEYS;
+  return granted;
+}
+
 bs_reply bs_table_lock_row(bs_table *table, bs_txn txn, bs_node file, uint64_t number, const uint64_t *keys,
                            size_t count, bs_mode mode, const struct timespec *until) {
-  table_row row = table_row_of(file, number, keys, count);
+  table_request request = table_row_request(txn, table_row_of(file, number, keys, count), mode);
+  table_waiter own;
   bs_reply reply;
   if (!table_enter_to_sleep(table, until)) return table_no_sleep(table);
-  reply = table_row_inside(table, txn, &row, mode, until);
+  table_sleeper(&own, until);
+  reply = table_row_by(table, &request, &own);
+  if (reply.status == BS_WAITING) reply = table_sleep(table, txn, &own);
   table_release(table);
   return reply;
 }
@@ -1136,53 +1192,6 @@ bs_reply bs_table_rekey_row(bs_table *table, bs_txn txn, bs_node file, uint64_t 
  * Asks, which do not sleep: their ends come by callbacks.
  */
 
-/* Requests the locks of a path up to its end, or to one that waits. Continues if others became victims for one
- * above. */
-static bs_reply table_ask_path(bs_table *table, table_asked *ask) {
-  table_wait wait;
-  bs_reply reply;
-  do {
-    reply = table_path_now(table, ask->txn, ask->node, ask->mode, &table->told, &wait);
-  } while (reply.status == BS_ON_THE_WAY);
-  if (reply.status == BS_WAITING) {
-    ask->at = wait.node;
-    ask->wanted = wait.mode;
-  }
-  return reply;
-}
-
-/* A wait of an ask begins: notes its latest time. */
-static void table_ask_waits(bs_table *table, table_asked *ask) {
-  const struct timespec *time = table_earlier(table, ask->txn, ask->has_limit ? &ask->limit : NULL);
-  ask->has_time = time != NULL;
-  if (time != NULL) ask->time = *time;
-}
-
-/* What became of the wait of an ask. A path that has not reached its end continues. */
-static bs_reply table_ask_became(bs_table *table, table_asked *ask) {
-  bs_reply reply = table_became(table, ask->txn, ask->at, ask->wanted);
-  bool is_on_the_way = reply.status == BS_MOVED || (reply.status == BS_DONE && !table_is_same_node(ask->at, ask->node));
-  if (ask->kind == TABLE_ROW && reply.status == BS_DONE) {
-    return table_row_again(table, ask->txn, &ask->row, ask->mode, ask->at, reply);
-  }
-  if (ask->kind != TABLE_PATH || !is_on_the_way) return reply;
-  reply = table_ask_path(table, ask);
-  if (reply.status == BS_WAITING) table_ask_waits(table, ask);
-  return reply;
-}
-
-/* Before a critical section ends: looks at the asks whose wait it may have ended, by rising slots. A path that
- * continues may end more of them. */
-static void table_go_on(bs_table *table) {
-  table_asks *asks = table->asks;
-  uint32_t slot = table_take_slot(&asks->due);
-  for (; slot < BS_SLOTS; slot = table_take_slot(&asks->due)) {
-    table_asked *ask = asks->at[slot];
-    bs_reply end = ask == NULL ? bs_call_only(BS_WAITING) : table_ask_became(table, ask);
-    if (end.status != BS_WAITING) table_end_ask(table, ask, end);
-  }
-}
-
 static void table_spare(bs_table *table, table_asked *ask) {
   ask->next = table->asks->spare;
   table->asks->spare = ask;
@@ -1199,7 +1208,7 @@ static void table_was_told(bs_table *table) {
 static void table_tell_one(table_asked *ask) {
   bs_table *table = ask->table;
   table_held_outside = table_held;
-  table->asks->on_end(table->asks->context, ask->txn, ask->end, ask->word);
+  table->asks->on_end(table->asks->context, ask->txn, ask->waiter.end, ask->word);
   while (table_held != table_held_outside) bs_table_let_go(table_held);
   table_held_outside = NULL;
   table_take(table);
@@ -1233,7 +1242,6 @@ static void table_tell(table_asked_list *over) {
 static table_asked_list table_take_over(bs_table *table) {
   table_asked_list over = { NULL, NULL };
   if (table->asks == NULL) return over;
-  table_go_on(table);
   over = table->asks->over;
   table->asks->over.first = NULL;
   return over;
@@ -1297,45 +1305,32 @@ static table_asked *table_enter_to_ask(bs_table *table, bs_txn txn, const struct
   own->table = table;
   own->txn = txn;
   own->word = word;
-  own->has_limit = until != NULL;
-  if (until != NULL) own->limit = *until;
+  own->is_inside = true;
+  table_sleeper(&own->waiter, until);
+  own->waiter.ask = own;
   return own;
 }
 
-/* Leaves after an ask that waits, if others' ends must be told before it returns. If its own end comes meanwhile, that
- * is its answer, and else the node for which it waits by then. */
-static TABLE_APART bs_reply table_ask_and_tell(bs_table *table, table_asked *own, bs_reply reply) {
-  own->is_inside = true;
+/* Before an ask that waits returns: wakes and tells those whose wait it has ended. Its own may end meanwhile. */
+static TABLE_APART void table_ask_and_tell(bs_table *table) {
   table->to_tell++;
   table_release_and_tell(table);
   table_take(table);
-  own->is_inside = false;
-  if (own->has_ended) {
-    reply = own->end;
-    table_spare(table, own);
-  } else if (own->kind == TABLE_PATH) {
-    reply.node = own->at; /* It may have gone on to another node. */
-  }
   table_was_told(table);
-  pthread_mutex_unlock(&table->latch);
-  return reply;
 }
 
-/* Leaves after an ask that was answered so. One that waits, and that has ended waits, is looked at with those: its own
- * may be one of them. */
+/* Leaves after an ask that was answered so. If it waited, and its wait has ended by now, that end is its answer. A reply
+ * that names a node names the one for which it waits by now: a path may have gone on. */
 static bs_reply table_leave_asked(bs_table *table, table_asked *own, bs_reply reply) {
-  uint32_t slot = own->txn.slot;
-  uint64_t bit = (uint64_t)1 << slot % 64;
-  if (reply.status != BS_WAITING) {
-    table_spare(table, own);
-    return table_leave(table, reply);
-  }
-  table_ask_waits(table, own);
-  table->asks->at[slot] = own;
-  table->asks->asked.words[slot / 64] |= bit;
-  if (!table->is_due) return table_leave(table, reply);
-  table->asks->due.words[slot / 64] |= bit;
-  return table_ask_and_tell(table, own, reply);
+  bool waits = reply.status == BS_WAITING;
+  if (waits && !own->waiter.has_ended && table->is_due) table_ask_and_tell(table);
+  own->is_inside = false;
+  if (waits && own->waiter.has_ended) reply = own->waiter.end;
+  else if (waits && reply.node.birth != 0) reply.node = own->waiter.at;
+  if (!waits || own->waiter.has_ended) table_spare(table, own);
+  if (!waits || table->stage == TABLE_OPEN) return table_leave(table, reply);
+  pthread_mutex_unlock(&table->latch);
+  return reply;
 }
 
 bs_reply bs_table_ask(bs_table *table, bs_txn txn, bs_node node, bs_mode mode, const struct timespec *until,
@@ -1343,11 +1338,7 @@ bs_reply bs_table_ask(bs_table *table, bs_txn txn, bs_node node, bs_mode mode, c
   bs_reply reply;
   table_asked *own = table_enter_to_ask(table, txn, until, word, &reply);
   if (own == NULL) return reply;
-  own->kind = TABLE_NODE;
-  own->at = node;
-  own->wanted = table_mode_of(mode);
-  reply = table_lock_now(table, txn, node, mode, &table->told);
-  return table_leave_asked(table, own, reply);
+  return table_leave_asked(table, own, table_lock_now(table, txn, node, mode, &own->waiter, &table->told));
 }
 
 bs_reply bs_table_ask_await(bs_table *table, bs_txn txn, bs_node node, bs_mode mode, const struct timespec *until,
@@ -1355,12 +1346,7 @@ bs_reply bs_table_ask_await(bs_table *table, bs_txn txn, bs_node node, bs_mode m
   bs_reply reply;
   table_asked *own = table_enter_to_ask(table, txn, until, word, &reply);
   if (own == NULL) return reply;
-  own->kind = TABLE_NODE;
-  own->at = node;
-  own->wanted = mode;
-  reply = table_became(table, txn, node, mode);
-  if (reply.status == BS_WAITING && table->asks->at[txn.slot] != NULL) reply.status = BS_IN_USE;
-  return table_leave_asked(table, own, reply);
+  return table_leave_asked(table, own, table_await_left(table, txn, node, mode, &own->waiter));
 }
 
 bs_reply bs_table_ask_path(bs_table *table, bs_txn txn, bs_node node, bs_mode mode, const struct timespec *until,
@@ -1368,79 +1354,48 @@ bs_reply bs_table_ask_path(bs_table *table, bs_txn txn, bs_node node, bs_mode mo
   bs_reply reply;
   table_asked *own = table_enter_to_ask(table, txn, until, word, &reply);
   if (own == NULL) return reply;
-  own->kind = TABLE_PATH;
-  own->node = node;
-  own->mode = mode;
-  reply = table_ask_path(table, own);
-  return table_leave_asked(table, own, reply);
-}
-
-/* Keeps the keys of a row. If they are more than any row has, it cuts them to so many that they still differ. */
-static void table_keep_keys(table_asked *own) {
-  if (own->row.count > BS_MOST_PARENTS) own->row.count = BS_MOST_PARENTS;
-  if (own->row.count > 0) memcpy(own->keys, own->row.keys, own->row.count * sizeof own->keys[0]);
-  own->row.keys = own->keys;
+  return table_leave_asked(table, own, table_path_through(table, txn, node, mode, &own->waiter));
 }
 
 bs_reply bs_table_ask_row(bs_table *table, bs_txn txn, bs_node file, uint64_t number, const uint64_t *keys,
                           size_t count, bs_mode mode, const struct timespec *until, void *word) {
+  table_request request = table_row_request(txn, table_row_of(file, number, keys, count), mode);
   bs_reply reply;
   table_asked *own = table_enter_to_ask(table, txn, until, word, &reply);
   if (own == NULL) return reply;
-  own->kind = TABLE_ROW;
-  own->mode = mode;
-  own->row = table_row_of(file, number, keys, count);
-  reply = table_ask_row(table, txn, &own->row, mode);
-  own->at = reply.node;
-  own->wanted = mode;
-  if (reply.status == BS_WAITING) table_keep_keys(own);
-  return table_leave_asked(table, own, reply);
+  return table_leave_asked(table, own, table_row_by(table, &request, &own->waiter));
 }
 
-static bool table_is_later(const struct timespec *one, const struct timespec *other) {
-  return one->tv_sec > other->tv_sec || (one->tv_sec == other->tv_sec && one->tv_nsec > other->tv_nsec);
-}
-
-/* Cancels the wait of each ask whose time is over; how many. What one of them grants to others is theirs, before the
- * call looks whether their time is over. */
-static size_t table_end_late(bs_table *table, const struct timespec *now) {
-  size_t count = 0;
-  uint32_t slot;
-  for (slot = 0; slot < BS_SLOTS; slot++) {
-    table_asked *ask = table->asks->at[slot];
-    if (ask != NULL && ask->has_time && !table_is_later(&ask->time, now)) {
-      table_end_ask(table, ask, table_time_out(table, ask->txn));
-      table_go_on(table);
-      count++;
-    }
+/* Cancels the wait of each ask whose time is over. What one of them grants to others is theirs, before the call looks
+ * whether their time is over. */
+static void table_end_late(bs_table *table, uint64_t now) {
+  bs_reply late = bs_call_first_late(&table->manager, now);
+  while (late.status == BS_DONE) {
+    table_waiter *waiter = table->waiters[late.txn.slot];
+    if (waiter == NULL || table_time_out(table, late.txn, waiter).status != BS_TIMED_OUT) return;
+    late = bs_call_first_late(&table->manager, now);
   }
-  return count;
 }
 
-/* How many asks wait to a time; writes the earliest of these. */
-static uint64_t table_next_time(const bs_table *table, struct timespec *next) {
-  const struct timespec *first = NULL;
+/* How many asks wait to a time. */
+static uint64_t table_count_timed(const bs_table *table) {
   uint64_t count = 0;
   uint32_t slot;
   for (slot = 0; slot < BS_SLOTS; slot++) {
-    const table_asked *ask = table->asks->at[slot];
-    if (ask != NULL && ask->has_time) {
-      if (first == NULL || table_is_later(first, &ask->time)) first = &ask->time;
-      count++;
-    }
+    const table_waiter *waiter = table->waiters[slot];
+    count += waiter != NULL && waiter->ask != NULL && waiter->ask->has_time;
   }
-  if (first != NULL && next != NULL) *next = *first;
   return count;
 }
 
 bs_reply bs_table_expire(bs_table *table, struct timespec *next) {
   bs_reply reply = bs_call_only(BS_DONE);
+  struct timespec now;
   if (!table_enter(table)) return table_no_table(table);
-  if (table->asks != NULL) {
-    struct timespec now = table_ahead(0, 0);
-    while (table_end_late(table, &now) > 0) continue;
-    reply.count = table_next_time(table, next);
-  }
+  now = table_ahead(0, 0);
+  table_end_late(table, table_time_of(&now));
+  reply.count = table_count_timed(table);
+  if (reply.count > 0 && next != NULL) *next = table_timespec_of(bs_call_earliest_wait(&table->manager).count);
   return table_leave(table, reply);
 }
 
@@ -1450,30 +1405,29 @@ bs_reply bs_table_expire(bs_table *table, struct timespec *next) {
 
 /* The rest of a path in a list, whose caller has the notices of all its locks. */
 static TABLE_APART bs_reply table_path_made_on(bs_table *table, const bs_command *c, bs_txn txn, bs_notices *told) {
-  table_wait wait;
   bs_reply reply;
   do {
-    reply = table_path_now(table, txn, c->node, c->mode, &table->told, &wait);
-    if (reply.status == BS_WAITING) reply.mode = wait.mode;
+    reply = table_path_now(table, txn, c->node, c->mode, NULL, &table->told);
     if (told != &table->told) table_tell_too(told, &table->told);
   } while (reply.status == BS_ON_THE_WAY);
   return reply;
 }
 
-/* A path in a list. If others became victims for a lock above, it continues, as a path that may sleep does: they are
- * woken, and no command of theirs comes between. */
+/* A path in a list. If others became victims for a lock above, it continues, as a path that may sleep does. */
 static bs_reply table_path_made(bs_table *table, const bs_command *c, bs_txn txn, bs_notices *told) {
-  table_wait wait;
-  bs_reply reply = table_path_now(table, txn, c->node, c->mode, told, &wait);
-  if (reply.status == BS_ON_THE_WAY) return table_path_made_on(table, c, txn, told);
-  if (reply.status == BS_WAITING) reply.mode = wait.mode;
-  return reply;
+  bs_reply reply = table_path_now(table, txn, c->node, c->mode, NULL, told);
+  return reply.status == BS_ON_THE_WAY ? table_path_made_on(table, c, txn, told) : reply;
 }
 
-/* A lock in a list. The waits that it has ended are noted after it, except for a lock for an instant. */
+/* A lock for an instant in a list. */
+static TABLE_APART bs_reply table_instant_made(bs_table *table, const bs_command *c, bs_txn txn, bs_notices *told) {
+  return table_lock_instantly(table, txn, c->node, c->mode, NULL, told);
+}
+
+/* A lock in a list. Those whose wait it has ended go on after it, except after a lock for an instant. */
 static inline bs_reply table_lock_made(bs_table *table, const bs_command *c, bs_txn txn, bs_notices *told) {
-  if ((c->mode & BS_INSTANT) == 0) return table_make_lock(table, txn, c->node, c->mode, told);
-  return table_lock_now(table, txn, c->node, c->mode, told);
+  if ((c->mode & BS_INSTANT) != 0) return table_instant_made(table, c, txn, told);
+  return table_make_lock(table, txn, c->node, c->mode, told);
 }
 
 /* A tried row in a list. */
@@ -1490,7 +1444,7 @@ static TABLE_APART bs_reply table_other_made(bs_table *table, const bs_command *
     case BS_DO_RELEASE_SINCE: return table_make_release_since(table, txn, c->number, told);
     case BS_DO_UNLOCK: return table_make_unlock(table, txn, c->node, told);
     case BS_DO_ESCALATE: return table_make_escalate(table, txn, c->node, told);
-    case BS_DO_CANCEL: return table_cancel_path(table, txn, table_make_cancel(table, txn, told));
+    case BS_DO_CANCEL: return table_make_cancel(table, txn, told);
     case BS_DO_ABORT: return table_make_abort(table, txn, told);
     case BS_DO_SETTLE: return table_make_settle(table, txn, told);
     case BS_DO_RENEW: return table_make_renew(table, txn, c->number);
@@ -1539,7 +1493,7 @@ static void table_not_made(bs_command *commands, size_t count) {
  * node of a path and of a row. What is requested by a path, or for an instant, is registered by then. */
 static inline void table_say_for_what(bs_table *table, bs_command *c, bs_txn txn) {
   if (c->kind == BS_DO_LOCK_PATH) return;
-  if ((c->mode & BS_INSTANT) == 0) table_register(table, txn, c->node, false);
+  if ((c->mode & BS_INSTANT) == 0) table_note_wait(table, txn);
   c->reply.mode = table_mode_of(c->mode);
   if (c->kind == BS_DO_LOCK) c->reply.node = c->node;
 }
@@ -1559,7 +1513,7 @@ static bs_reply table_made_on(bs_table *table, const bs_command *c, bs_txn txn, 
   bool is_on_the_way;
   if (c->kind == BS_DO_LOCK_ROW && became.status == BS_DONE) {
     table_row row = table_row_of(c->file, c->number, c->keys, c->key_count);
-    return table_row_again(table, txn, &row, c->mode, c->reply.node, became);
+    return table_row_again(table, txn, row, c->mode, c->reply.node, became);
   }
   if (became.status == BS_VICTIM && c->kind != BS_DO_LOCK) became.node = c->reply.node;
   if (c->kind != BS_DO_LOCK_PATH) return became;
@@ -1568,12 +1522,11 @@ static bs_reply table_made_on(bs_table *table, const bs_command *c, bs_txn txn, 
   return is_on_the_way ? table_path_made_on(table, c, txn, told) : became;
 }
 
-/* For a command of a list that was left waiting, and that has ended waits: what these set off settles, and if its own
- * wait ends by that, it comes to what it can come to now. */
+/* For a command of a list that was left waiting, and after which others went on: if its own wait has ended by that, it
+ * comes to what it can come to now. */
 static TABLE_APART void table_settle_made(bs_table *table, bs_command *c, bs_txn txn, bs_notices *told) {
   bs_reply became;
   do {
-    if (table->asks != NULL) table_go_on(table);
     became = table_became(table, txn, c->reply.node, c->reply.mode);
     if (became.status == BS_WAITING) return;
     c->reply = table_made_on(table, c, txn, told, became);
@@ -1593,7 +1546,7 @@ static inline __attribute__((always_inline)) bs_status table_run_next(bs_table *
   next->reply = table_made(table, next, txn, told);
   if (next->reply.status == BS_WAITING) table_say_for_what(table, next, txn);
   table_wake(table, next->reply.status, told, by_name);
-  if (next->reply.status == BS_WAITING && table->is_due) table_settle_made(table, next, txn, told);
+  if (next->reply.status == BS_WAITING && told->count > 0) table_settle_made(table, next, txn, told);
   return next->reply.status;
 }
 
@@ -1830,6 +1783,14 @@ void bs_call_engine(void (*function)(void *place), void *place) {
 
 void bs_call_hand_on(bs_table *table) {
   table_hand_on(table);
+}
+
+void bs_call_make_steady(pthread_cond_t *cond) {
+  pthread_condattr_t steady;
+  pthread_condattr_init(&steady);
+  pthread_condattr_setclock(&steady, CLOCK_MONOTONIC);
+  pthread_cond_init(cond, &steady);
+  pthread_condattr_destroy(&steady);
 }
 
 /* ------------------------------------------------------------------------------------------------

@@ -16,8 +16,8 @@
 #include <stdlib.h>
 #include <unistd.h>
 
-/* The words of the ring, the bytes of the text, and the nanoseconds for which the thread waits for more lines. */
-enum { TRACE_WORDS = 1 << 20, TRACE_TEXT = 1 << 16, TRACE_NAP = 5000000 };
+/* The words of the ring, the bytes of the text, and the milliseconds for which the thread waits for more lines. */
+enum { TRACE_WORDS = 1 << 20, TRACE_TEXT = 1 << 16, TRACE_NAP = 5 };
 
 /* A script has lines of so many bytes, and so many transactions at once. */
 enum { TRACE_LONGEST = 256, TRACE_TXNS = 128 };
@@ -360,17 +360,23 @@ bs_reply bs_traced_index_by(bs_trace *trace, bs_txn txn, const bs_node *parents,
   return trace_end(trace, &line, reply, NULL);
 }
 
+/* The line of a record with its keys. */
+static trace_line trace_record(const bs_trace *trace, trace_form form, bs_txn txn, bs_node record, bs_node file,
+                               const uint64_t *keys, size_t count) {
+  trace_line line = trace_index(trace, form, txn, record, file, NULL, 0);
+  trace_add_numbers(&line, keys, count);
+  return line;
+}
+
 bs_reply bs_traced_insert(bs_trace *trace, bs_txn txn, bs_node file, const uint64_t *keys, size_t count) {
   bs_reply reply = bs_insert(trace->manager, txn, file, keys, count);
-  trace_line line = trace_index(trace, TRACE_INSERT, txn, reply.node, file, NULL, 0);
-  trace_add_numbers(&line, keys, count);
+  trace_line line = trace_record(trace, TRACE_INSERT, txn, reply.node, file, keys, count);
   return trace_end(trace, &line, reply, NULL);
 }
 
 bs_reply bs_traced_adopt(bs_trace *trace, bs_node file, const uint64_t *keys, size_t count) {
   bs_reply reply = bs_adopt(trace->manager, file, keys, count);
-  trace_line line = trace_index(trace, TRACE_ADOPT, trace_nobody, reply.node, file, NULL, 0);
-  trace_add_numbers(&line, keys, count);
+  trace_line line = trace_record(trace, TRACE_ADOPT, trace_nobody, reply.node, file, keys, count);
   return trace_end(trace, &line, reply, NULL);
 }
 
@@ -381,11 +387,15 @@ bs_reply bs_traced_forget(bs_trace *trace, bs_node record) {
   return trace_end(trace, &line, reply, NULL);
 }
 
-bs_reply bs_traced_rekey(bs_trace *trace, bs_txn txn, bs_node record, bs_node index, uint64_t key, bs_notices *told) {
-  bs_reply reply = bs_rekey(trace->manager, txn, record, index, key, told);
-  trace_line line = trace_index(trace, TRACE_REKEY, txn, record, index, NULL, 0);
-  trace_add_numbers(&line, &key, 1);
+/* The end of a call that gives a record another key. */
+static bs_reply trace_end_rekey(bs_trace *trace, bs_txn txn, bs_node record, bs_node index, uint64_t key,
+                                bs_reply reply, const bs_notices *told) {
+  trace_line line = trace_record(trace, TRACE_REKEY, txn, record, index, &key, 1);
   return trace_end(trace, &line, reply, told);
+}
+
+bs_reply bs_traced_rekey(bs_trace *trace, bs_txn txn, bs_node record, bs_node index, uint64_t key, bs_notices *told) {
+  return trace_end_rekey(trace, txn, record, index, key, bs_rekey(trace->manager, txn, record, index, key, told), told);
 }
 
 bs_reply bs_traced_move(bs_trace *trace, bs_txn txn, bs_node node, const bs_node *parents, size_t count,
@@ -411,22 +421,22 @@ static void trace_say_begin(bs_trace *trace, bs_reply begun, uint64_t since) {
   trace_say(trace, &line, begun, NULL);
 }
 
-bs_reply bs_traced_begin(bs_trace *trace) {
-  bs_reply reply = bs_begin(trace->manager);
-  trace_say_begin(trace, reply, UINT64_MAX);
+/* The end of a call that begins a transaction. */
+static bs_reply trace_end_begin(bs_trace *trace, bs_reply reply, uint64_t since) {
+  trace_say_begin(trace, reply, since);
   return trace_end_call(trace, reply);
+}
+
+bs_reply bs_traced_begin(bs_trace *trace) {
+  return trace_end_begin(trace, bs_begin(trace->manager), UINT64_MAX);
 }
 
 bs_reply bs_traced_begin_again(bs_trace *trace, uint64_t since) {
-  bs_reply reply = bs_begin_again(trace->manager, since);
-  trace_say_begin(trace, reply, since);
-  return trace_end_call(trace, reply);
+  return trace_end_begin(trace, bs_begin_again(trace->manager, since), since);
 }
 
 bs_reply bs_traced_call_begin_in_turn(bs_trace *trace, uint64_t since, uint64_t word, uint64_t until) {
-  bs_reply reply = bs_call_begin_in_turn(trace->manager, since, word, until);
-  trace_say_begin(trace, reply, since);
-  return trace_end_call(trace, reply);
+  return trace_end_begin(trace, bs_call_begin_in_turn(trace->manager, since, word, until), since);
 }
 
 void bs_traced_begun(bs_trace *trace, bs_reply begun, uint64_t since) {
@@ -638,8 +648,7 @@ static void trace_say_row(bs_trace *trace, bs_txn txn, bs_node file, const uint6
   if (reply.status == BS_OTHER_KEYS) reply.status = BS_DONE;
   if (!trace_is_accepted(reply.status)) return;
   if (before.status != BS_DONE || before.node.birth != reply.node.birth) {
-    trace_line adopted = trace_index(trace, TRACE_ADOPT, trace_nobody, reply.node, file, NULL, 0);
-    trace_add_numbers(&adopted, keys, count);
+    trace_line adopted = trace_record(trace, TRACE_ADOPT, trace_nobody, reply.node, file, keys, count);
     trace_say(trace, &adopted, bs_call_only(BS_DONE), NULL);
     trace_add_row(&trace->rows, reply.node);
   }
@@ -692,9 +701,39 @@ bs_reply bs_traced_rekey_row(bs_trace *trace, bs_txn txn, bs_node file, uint64_t
                              bs_notices *told) {
   bs_node node = bs_row_node(trace->manager, file, number).node;
   bs_reply reply = bs_rekey_row(trace->manager, txn, file, number, index, key, told);
-  trace_line line = trace_index(trace, TRACE_REKEY, txn, node, index, NULL, 0);
-  trace_add_numbers(&line, &key, 1);
-  return trace_end(trace, &line, reply, told);
+  return trace_end_rekey(trace, txn, node, index, key, reply, told);
+}
+
+/* ------------------------------------------------------------------------------------------------
+ * Waiters that go on.
+ */
+
+/* What bs_call_next_waiter says of a waiter that goes on by commands. */
+enum { TRACE_GIVES_BACK = 1, TRACE_LOCKS_ON = 2, TRACE_LOCKS_AGAIN = 3 };
+
+bs_reply bs_traced_call_go_on(bs_trace *trace, bs_notices *told) {
+  bs_reply next = bs_call_next_waiter(trace->manager), done = bs_call_only(BS_DONE), reply;
+  size_t steps = next.count == TRACE_LOCKS_ON ? trace_find_steps(trace, next.txn, next.node, next.mode) : 0;
+  trace_line line = trace_line_of(next.count == TRACE_GIVES_BACK ? TRACE_UNLOCK : TRACE_LOCK, next.txn, next.mode);
+  uint64_t made;
+  reply = bs_call_go_on(trace->manager, told);
+  made = trace_accepted(trace) - trace->said;
+  if (made == 0) return trace_end_call(trace, reply);
+  if (next.count == TRACE_LOCKS_ON && made <= steps) {
+    trace_say_steps(trace, TRACE_LOCK, next.txn, (size_t)made, reply.status, told);
+  } else if (next.count == TRACE_GIVES_BACK || next.count == TRACE_LOCKS_AGAIN) {
+    trace_add_name(trace, &line, next.node);
+    done.mode = reply.mode;
+    trace_say(trace, &line, done, told);
+  }
+  return trace_end_call(trace, reply);
+}
+
+bs_reply bs_traced_call_time_out(bs_trace *trace, bs_txn txn, bs_notices *told) {
+  bs_reply reply = bs_call_time_out(trace->manager, txn, told);
+  trace_line line = trace_line_of(TRACE_CANCEL, txn, BS_NL);
+  if (reply.status == BS_TIMED_OUT) trace_say(trace, &line, bs_call_only(BS_DONE), told);
+  return trace_end_call(trace, reply);
 }
 
 /* ------------------------------------------------------------------------------------------------
@@ -978,12 +1017,8 @@ static void trace_write_end(bs_trace *trace) {
 
 /* Waits a while for more lines; whether there may be some. */
 static bool trace_nap(bs_trace *trace) {
-  struct timespec until;
+  struct timespec until = bs_after(TRACE_NAP);
   bool is_over;
-  clock_gettime(CLOCK_MONOTONIC, &until);
-  until.tv_nsec += TRACE_NAP;
-  until.tv_sec += until.tv_nsec / 1000000000;
-  until.tv_nsec %= 1000000000;
   pthread_mutex_lock(&trace->latch);
   if (!trace->is_over) pthread_cond_timedwait(&trace->over, &trace->latch, &until);
   is_over = trace->is_over;
@@ -1121,12 +1156,8 @@ static bs_trace *trace_make(bs_table *table, bs_manager *manager, int file) {
 
 /* Starts the thread of a new trace; if that is refused, nothing of the trace stays. */
 static bool trace_start(bs_trace *trace) {
-  pthread_condattr_t steady;
-  pthread_condattr_init(&steady);
-  pthread_condattr_setclock(&steady, CLOCK_MONOTONIC);
   pthread_mutex_init(&trace->latch, NULL);
-  pthread_cond_init(&trace->over, &steady);
-  pthread_condattr_destroy(&steady);
+  bs_call_make_steady(&trace->over);
   if (bs_call_start(&trace->thread, trace_write_on, trace)) return true;
   pthread_cond_destroy(&trace->over);
   pthread_mutex_destroy(&trace->latch);

@@ -30,9 +30,12 @@ bs_reply bs_call_await_path(bs_manager *manager, bs_txn txn, bs_node node, bs_mo
                             bs_mode wanted, uint64_t until);
 bs_reply bs_call_await_row(bs_manager *manager, bs_txn txn, bs_node file, uint64_t number, const uint64_t *keys,
                            size_t count, bs_mode mode, bs_node at, uint64_t until);
-bs_reply bs_call_take_end(bs_manager *manager);
-bs_reply bs_call_time_out(bs_manager *manager, bs_txn txn);
-bs_reply bs_call_expire(bs_manager *manager, uint64_t now);
+bs_reply bs_call_withdraw_waiter(bs_manager *manager, bs_txn txn);
+bs_reply bs_call_next_waiter(const bs_manager *manager);
+bs_reply bs_call_go_on(bs_manager *manager, bs_notices *told);
+bs_reply bs_call_time_out(bs_manager *manager, bs_txn txn, bs_notices *told);
+bs_reply bs_call_first_late(const bs_manager *manager, uint64_t now);
+bs_reply bs_call_earliest_wait(const bs_manager *manager);
 bs_reply bs_call_lock(bs_manager *manager, bs_txn txn, bs_node node, bs_mode mode, bs_notices *told);
 bs_reply bs_call_lock_path(bs_manager *manager, bs_txn txn, bs_node node, bs_mode mode, bs_notices *told);
 bs_reply bs_call_try(bs_manager *manager, bs_txn txn, bs_node node, bs_mode mode);

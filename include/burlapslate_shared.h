@@ -26,11 +26,17 @@
  * section: if its own wait has ended by then, it answers that end and does not sleep. A null table is refused with
  * BS_NULL_POINTER, and one that was ended with BS_NO_MANAGER. While a thread holds a table by bs_table_hold, its calls
  * of that table except bs_table_let_go are refused with BS_IN_USE, and so are its calls of any table that could sleep:
- * the thread would keep the latch. A call with `told` fills it if it is not null; sleepers are woken in any case.
+ * the thread would keep the latch. A call with `told` fills it if it is not null: with the notices of its command, and
+ * of what goes on by that, each transaction once. Sleepers are woken in any case.
  *
  * HOW LONG A SLEEP IS. A call that may sleep takes `until`, the time by CLOCK_MONOTONIC up to which it sleeps at most;
  * bs_after gives one. If it is null, the call sleeps until the end. If it is not a valid time, the call is refused with
  * BS_BAD_NUMBER.
+ *
+ * HOW A WAIT GOES ON. The call that ends a wait continues it, in its own critical section, before it answers: a path
+ * that was granted a node asks for the next, a row that was granted is asked for again, and a lock for an instant is
+ * given back. If that ends other waits, these go on too, by rising slots. So a thread that sleeps is woken at the end of
+ * its request.
  *
  * HOW A SLEEP ENDS. The thread that sleeps for a lock is answered
  *   - BS_DONE: it was granted, and is held in `mode`; for a row BS_OTHER_KEYS, if its keys are others than was said;
@@ -55,8 +61,6 @@
  *   - An ask whose wait ends before it releases the latch for the last time is answered with that end, and has no call.
  *     So the call is never made within the ask itself. But what the caller writes after its ask may not be there yet:
  *     the word must give all that the callback needs.
- *   - A path continues by itself, in the critical section of the thread that granted a lock on its way, and a row is
- *     asked for again there.
  *   - No thread sleeps for the time of an ask: a thread that has a clock calls bs_table_expire.
  * THE CALLBACK may make any call of a table, also of this one, except those that could sleep, and bs_table_end: these
  * are refused with BS_IN_USE, of any table. If its calls end waits, the same thread tells these ends after it, so no
@@ -144,7 +148,7 @@ bs_reply bs_table_begin_again(bs_table *table, uint64_t since);
 bs_reply bs_table_begin_again_in_turn(bs_table *table, uint64_t since, const struct timespec *until);
 
 /* From now on each wait of a transaction for a lock ends at this time at the latest, whatever the waiting call says;
- * null removes that limit. A wait that sleeps already keeps its time. The limit is the transaction's own: the next one
+ * null removes that limit. A call that waits already keeps its time. The limit is the transaction's own: the next one
  * of its slot has none. Refused with BS_NO_SUCH_TXN, and with BS_BAD_NUMBER, before that, if it is not a valid time. */
 bs_reply bs_table_deadline(bs_table *table, bs_txn txn, const struct timespec *until);
 
@@ -172,7 +176,7 @@ bs_reply bs_table_lock_path(bs_table *table, bs_txn txn, bs_node node, bs_mode m
 
 /* Sleeps until the end of a lock that bs_table_run left waiting, as bs_table_lock does. BS_NOT_WAITING: the transaction
  * waits for another node, or for none, and no notice tells of this one. bs_verdict of the manager that the table lends
- * says without a sleep whether a wait has its end. */
+ * says without a sleep whether a wait has its end. Refused with BS_IN_USE also if another call awaits it already. */
 bs_reply bs_table_await(bs_table *table, bs_txn txn, bs_node node, bs_mode mode, const struct timespec *until);
 
 bs_reply bs_table_try(bs_table *table, bs_txn txn, bs_node node, bs_mode mode);
@@ -203,8 +207,7 @@ bs_reply bs_table_unlock(bs_table *table, bs_txn txn, bs_node node, bs_notices *
 bs_reply bs_table_mark(bs_table *table, bs_txn txn);
 bs_reply bs_table_release_since(bs_table *table, bs_txn txn, uint64_t savepoint, bs_notices *told);
 
-/* Cancels a wait, and wakes the thread that sleeps for it: that one is answered BS_NOT_WAITING. So is a thread whose
- * wait on the way of a path was granted, and that is not awake yet: its path ends there. */
+/* Cancels a wait, and wakes the thread that sleeps for it: that one is answered BS_NOT_WAITING. */
 bs_reply bs_table_cancel(bs_table *table, bs_txn txn, bs_notices *told);
 
 bs_reply bs_table_commit(bs_table *table, bs_txn txn, bs_notices *told);
@@ -284,7 +287,7 @@ bs_reply bs_table_ask_row(bs_table *table, bs_txn txn, bs_node file, uint64_t nu
                           size_t count, bs_mode mode, const struct timespec *until, void *word);
 
 /* As bs_table_await, of a lock that bs_table_run left waiting: if it still waits, the answer is BS_WAITING, and its end
- * comes by a callback. Refused with BS_IN_USE also if an ask waits for it already. */
+ * comes by a callback. Refused with BS_IN_USE also if another call awaits it already. */
 bs_reply bs_table_ask_await(bs_table *table, bs_txn txn, bs_node node, bs_mode mode, const struct timespec *until,
                             void *word);
 
@@ -369,7 +372,7 @@ static inline bs_txn bs_begun(void) {
  *   - BS_OTHER_KEYS: the row is held, but its keys are others than was said.
  * The commands after it were not made, and their replies are BS_NOT_MADE. All others are answered as the call of their
  * name. A path continues if others became victims for a lock above, and is never BS_ON_THE_WAY: its `told` has the
- * notices of all its locks. Transactions that a command tells are woken, whether it is the first or the last. An
+ * notices of all its locks. After each command, whether it is the first or the last, those go on whose wait it ended. An
  * unknown kind is refused with BS_BAD_NUMBER. If the table is refused, so is the first command; a null list has no
  * commands. A begin is refused with BS_TOO_MANY_TXNS while a thread sleeps in bs_table_begin_in_turn: the first of these
  * gets the slot that a command of the list frees. */

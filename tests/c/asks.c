@@ -303,6 +303,33 @@ static void each_end_of_an_ask(void) {
   ends(rekeys, BS_MOVED);
 }
 
+/* A commit grants parts of two paths. The first one's next lock waits; that of the second makes it a victim, and the
+ * commit tells that alone of it. */
+static void a_transaction_is_told_once_a_command(void) {
+  struct heard condemned, granted;
+  bs_node low_rows;
+  bs_txn a, b, c;
+  set_up(BS_AT_BLOCK);
+  low_rows = ASK(table, bs_interval, by_row_key, 0).node;
+  c = begin(), b = begin(), a = begin();
+  DONE(bs_table_commit(table, c, NULL));
+  c = begin();
+  WANT(c.slot < b.slot);
+  DONE(bs_table_lock_path(table, a, by_key, BS_S, NULL));
+  DONE(bs_table_lock_path(table, a, by_row_key, BS_S, NULL));
+  DONE(bs_table_lock_path(table, b, below, BS_S, NULL));
+  DONE(bs_table_lock_path(table, c, low_rows, BS_S, NULL));
+  WAITS(ask_path(&condemned, c, below, BS_X));
+  WAITS(ask_path(&granted, b, low_rows, BS_X));
+  DONE(bs_table_commit(table, a, &told));
+  WANT(same_node(HEARD_BY_NOW(&condemned, BS_VICTIM).node, below));
+  WANT(told.count == 2 && same_txn(told.at[0].txn, c) && told.at[0].kind == BS_TOLD_VICTIM);
+  WANT(same_txn(told.at[1].txn, b) && told.at[1].kind == BS_TOLD_GRANTED && calls_of(&granted) == 0);
+  DONE(bs_table_abort(table, c, NULL));
+  HEARD_BY_NOW(&granted, BS_DONE);
+  close_table();
+}
+
 /* A rollback to a savepoint ends an ask. Asks for an instant end one after the other in the same critical section, each
  * with one call; a path continues to its node for an instant, and releases only that. */
 static void a_savepoint_ends_asks_for_an_instant(void) {
@@ -677,7 +704,7 @@ static bool same_time(struct timespec one, struct timespec other) {
 
 static bool is_over(struct timespec time) {
   struct timespec now = moment_in(0);
-  return table_is_later(&now, &time);
+  return now.tv_sec > time.tv_sec || (now.tv_sec == time.tv_sec && now.tv_nsec > time.tv_nsec);
 }
 
 /* The times of asks end only by a call of bs_table_expire. */
@@ -710,6 +737,23 @@ static void an_ask_expires(void) {
   close_table();
 }
 
+/* A time before the clock's first is over, and one after its last never comes. */
+static void a_time_that_no_clock_shows(void) {
+  struct timespec before = { -1, 0 }, after = { 18446744074, 0 };
+  struct heard one, two;
+  bs_txn a, b, c;
+  set_up(BS_AT_BLOCK);
+  a = begin(), b = begin(), c = begin();
+  DONE(bs_table_lock(table, a, root, BS_X, NULL));
+  WAITS(ask_until(&one, b, root, BS_S, &before));
+  WAITS(ask_until(&two, c, root, BS_S, &after));
+  WANT(DONE(bs_table_expire(table, NULL)).count == 1);
+  HEARD_BY_NOW(&one, BS_TIMED_OUT);
+  DONE(bs_table_commit(table, a, NULL));
+  WANT(HEARD_BY_NOW(&two, BS_DONE).mode == BS_S && calls == 2);
+  close_table();
+}
+
 /* A transaction's deadline is a limit of its asks too; the earlier one counts. */
 static void an_ask_with_a_deadline(void) {
   struct timespec past = moment_in(0), late = moment_in(60000000), later = moment_in(90000000), next;
@@ -734,27 +778,27 @@ static void an_ask_with_a_deadline(void) {
   close_table();
 }
 
-/* A path that continues waits again, to a time that is already over: it ends in the same call, whether or not its slot
- * was looked at before. */
-static void a_path_expires(bool is_looked_at) {
+/* The times of a path and of a lock are over. The lowest slot ends first: a path that goes on by that waits again, and ends
+ * in the same call; or it has ended before. */
+static void a_path_expires(bool is_first) {
   struct timespec past = moment_in(0), next;
   struct heard one, two;
   bs_txn gap, a, b, c;
   set_up(BS_AT_BLOCK);
   a = begin(), gap = begin(), c = begin();
-  if (is_looked_at) DONE(bs_table_abort(table, gap, NULL));
+  if (is_first) DONE(bs_table_abort(table, gap, NULL));
   b = begin();
-  WANT((b.slot < c.slot) == is_looked_at);
+  WANT((b.slot < c.slot) == is_first);
   DONE(bs_table_lock_path(table, a, low, BS_S, NULL));
   DONE(bs_table_lock(table, c, root, BS_IX, NULL));
   WAITS(ask_until(&one, c, root, BS_X, &past));
-  WAITS(ask_path(&two, b, low, BS_X));
-  DONE(bs_table_deadline(table, b, &past));
+  two = nothing_heard(b);
+  WAITS(bs_table_ask_path(table, b, low, BS_X, &past, &two));
   WANT(same_node(wait_in(table, b).node, root));
   WANT(DONE(bs_table_expire(table, &next)).count == 0);
   HEARD_BY_NOW(&one, BS_TIMED_OUT);
   HEARD_BY_NOW(&two, BS_TIMED_OUT);
-  holds(b, root, BS_IX);
+  holds(b, root, is_first ? BS_NL : BS_IX);
   WANT(calls == 2);
   close_table();
 }
@@ -1631,6 +1675,7 @@ int main(int count, char **words) {
   TELL(an_ask_is_answered_at_once);
   TELL(a_commit_ends_all);
   TELL(each_end_of_an_ask);
+  TELL(a_transaction_is_told_once_a_command);
   TELL(a_savepoint_ends_asks_for_an_instant);
   TELL(an_escalation_ends_an_ask);
   TELL(a_move_and_a_drop_end_asks);
@@ -1651,6 +1696,7 @@ int main(int count, char **words) {
   TELL(a_row_with_too_many_keys);
   TELL(a_row_moves);
   TELL(an_ask_expires);
+  TELL(a_time_that_no_clock_shows);
   TELL(an_ask_with_a_deadline);
   TELL(a_path_expires_on_its_way);
   TELL(a_chain_of_ends);

@@ -1,42 +1,22 @@
 /*
  * awaits.c: stories of waiters that the library keeps: a lock, a path and a row that a call left waiting are registered,
- * go on within the call that ends their wait, and leave their end to be taken; a lock for an instant is released as it is
+ * and go on one command at a time when the call that ended their wait says so; a lock for an instant is released as it is
  * granted; waits end at their time. Each is a function that ends the program with status 1 at the first answer that is
  * not as wanted, and else prints its name.
  */
 #include "burlapslate.h"
+#include "checks.h"
 #include "same.h"
 
-#include <stdio.h>
-#include <stdlib.h>
-
-static const char *story;
 static bs_notices told;
 static bs_manager manager = BS_NO_MANAGER_HERE;
 static bs_manager *const m = &manager;
-/* The root, a file with one record, a file of rows, and two transactions. */
+/* The root, a file with one record, a file of rows, and three transactions. */
 static bs_node db, file, record, rows;
-static bs_txn a, b;
+static bs_txn a, b, c;
 
 /* A wait without a time at which it ends. */
 #define NEVER UINT64_MAX
-
-static void wanted(bool holds, const char *what, int line) {
-  if (holds) return;
-  fprintf(stderr, "awaits.c:%d: %s: not so: %s\n", line, story, what);
-  exit(1);
-}
-
-#define WANT(condition) wanted((condition), #condition, __LINE__)
-
-static bs_reply answers(bs_status status, bs_reply reply, int line) {
-  if (reply.status != status) fprintf(stderr, "wanted %s, answered: %s\n", bs_text(status), bs_text(reply.status));
-  wanted(reply.status == status, "the answer", line);
-  return reply;
-}
-
-#define ANSWERS(status, call) answers((status), (call), __LINE__)
-#define DONE(call) ANSWERS(BS_DONE, call)
 
 static void begin(const char *name) {
   bs_options options = { 0 };
@@ -53,22 +33,38 @@ static void begin(const char *name) {
   DONE(bs_commit(m, maker, &told));
   a = DONE(bs_begin(m)).txn;
   b = DONE(bs_begin(m)).txn;
+  c = DONE(bs_begin(m)).txn;
 }
 
+/* Nobody's wait is over. */
+static void nobody(int line) {
+  answered(bs_call_next_waiter(m), BS_NO_PLACE, "the next waiter", __FILE__, line);
+  answered(bs_call_go_on(m, &told), BS_NO_PLACE, "the answer", __FILE__, line);
+}
+
+#define NOBODY() nobody(__LINE__)
+
 static void end(void) {
-  ANSWERS(BS_NO_PLACE, bs_call_take_end(m));
+  NOBODY();
   DONE(bs_end(m));
   puts(story);
 }
 
-/* The next end that is taken is that of a transaction, with this status and mode. */
-static void ends(bs_txn txn, bs_status status, bs_mode mode, int line) {
-  bs_reply taken = answers(status, bs_call_take_end(m), line);
-  wanted(same_txn(taken.txn, txn), "the transaction", line);
-  wanted(taken.mode == mode, "the mode", line);
+/* The next waiter that goes on is this transaction, by this kind of command; with this answer. */
+static bs_reply goes(bs_txn txn, uint64_t kind, bs_status status, bs_mode mode, int line) {
+  bs_reply next = answered(bs_call_next_waiter(m), BS_DONE, "the next waiter", __FILE__, line), came;
+  wanted(same_txn(next.txn, txn), "the transaction that is next", __FILE__, line);
+  wanted(next.count == kind, "what it does", __FILE__, line);
+  came = answered(bs_call_go_on(m, &told), status, "the answer", __FILE__, line);
+  wanted(same_txn(came.txn, txn), "the transaction that goes on", __FILE__, line);
+  wanted(came.mode == mode, "the mode", __FILE__, line);
+  return came;
 }
 
-#define ENDS(txn, status, mode) ends((txn), (status), (mode), __LINE__)
+#define ENDS(txn, status, mode) goes((txn), 0, (status), (mode), __LINE__)
+#define GIVES_BACK(txn, mode) goes((txn), 1, BS_DONE, (mode), __LINE__)
+#define LOCKS_ON(txn, status, mode) goes((txn), 2, (status), (mode), __LINE__)
+#define LOCKS_AGAIN(txn, status, mode) goes((txn), 3, (status), (mode), __LINE__)
 
 /* The one holds the root, and the other waits for it. */
 static void wait_for_root(bs_mode mode) {
@@ -84,20 +80,46 @@ static void a_lock_is_awaited_once(void) {
   WANT(same_node(waits.node, db) && waits.mode == BS_IX);
   ANSWERS(BS_IN_USE, bs_call_await_node(m, b, db, BS_IX, 0, NEVER));
   ANSWERS(BS_BAD_NUMBER, bs_call_await_node(m, b, db, 9, 0, NEVER));
-  ANSWERS(BS_NO_PLACE, bs_call_take_end(m));
+  NOBODY();
   DONE(bs_commit(m, a, &told));
   ENDS(b, BS_DONE, BS_IX);
   WANT(bs_held(m, b, db).mode == BS_IX);
   end();
 }
 
+static void a_wait_that_is_over_is_not_awaited(void) {
+  begin(__func__);
+  wait_for_root(BS_IX);
+  DONE(bs_commit(m, a, &told));
+  WANT(DONE(bs_call_await_node(m, b, db, BS_IX, 0, NEVER)).mode == BS_IX);
+  ANSWERS(BS_NOT_WAITING, bs_call_await_node(m, c, db, BS_IX, 0, NEVER));
+  ANSWERS(BS_NO_SUCH_TXN, bs_call_await_node(m, a, db, BS_IX, 0, NEVER));
+  end();
+}
+
+static void a_waiter_is_withdrawn(void) {
+  begin(__func__);
+  wait_for_root(BS_IX);
+  ANSWERS(BS_NO_PLACE, bs_call_withdraw_waiter(m, b));
+  ANSWERS(BS_WAITING, bs_call_await_node(m, b, db, BS_IX, 0, NEVER));
+  ANSWERS(BS_NO_PLACE, bs_call_withdraw_waiter(m, a));
+  DONE(bs_call_withdraw_waiter(m, b));
+  WANT(wait_of(m, b).status == BS_WAITING);
+  DONE(bs_commit(m, a, &told));
+  end();
+}
+
 static void a_lock_for_an_instant_is_held_by_nobody(void) {
   begin(__func__);
-  wait_for_root(BS_S);
-  ANSWERS(BS_WAITING, bs_call_await_node(m, b, db, BS_S, 1, NEVER));
+  wait_for_root(BS_X);
+  ANSWERS(BS_WAITING, bs_call_await_node(m, b, db, BS_X, 1, NEVER));
+  ANSWERS(BS_WAITING, bs_lock(m, c, db, BS_X, &told));
+  ANSWERS(BS_WAITING, bs_call_await_node(m, c, db, BS_X, 0, NEVER));
   DONE(bs_commit(m, a, &told));
+  GIVES_BACK(b, BS_X);
+  WANT(told.count == 1 && same_txn(told.at[0].txn, c));
   WANT(bs_held(m, b, db).mode == BS_NL);
-  ENDS(b, BS_DONE, BS_S);
+  ENDS(c, BS_DONE, BS_X);
   end();
 }
 
@@ -108,18 +130,46 @@ static void a_path_goes_on(void) {
   waits = ANSWERS(BS_WAITING, bs_lock_path(m, b, record, BS_X, &told));
   ANSWERS(BS_WAITING, bs_call_await_path(m, b, record, BS_X, 0, waits.node, BS_IX, NEVER));
   DONE(bs_commit(m, a, &told));
-  ENDS(b, BS_DONE, BS_X);
+  LOCKS_ON(b, BS_DONE, BS_X);
   WANT(bs_held(m, b, record).mode == BS_X);
   end();
 }
 
-static void a_path_that_is_awaited_late_goes_on(void) {
+static void a_path_waits_again(void) {
+  bs_reply waits;
+  begin(__func__);
+  DONE(bs_lock(m, a, db, BS_S, &told));
+  DONE(bs_lock_path(m, c, file, BS_S, &told));
+  waits = ANSWERS(BS_WAITING, bs_lock_path(m, b, record, BS_X, &told));
+  ANSWERS(BS_WAITING, bs_call_await_path(m, b, record, BS_X, 0, waits.node, BS_IX, NEVER));
+  DONE(bs_commit(m, a, &told));
+  WANT(same_node(LOCKS_ON(b, BS_WAITING, BS_IX).node, file));
+  DONE(bs_commit(m, c, &told));
+  LOCKS_ON(b, BS_DONE, BS_X);
+  end();
+}
+
+static void a_path_for_an_instant_gives_back_its_node(void) {
+  bs_reply waits;
+  begin(__func__);
+  DONE(bs_lock(m, a, db, BS_X, &told));
+  waits = ANSWERS(BS_WAITING, bs_lock_path(m, b, file, BS_S, &told));
+  ANSWERS(BS_WAITING, bs_call_await_path(m, b, file, BS_S, 1, waits.node, BS_IS, NEVER));
+  DONE(bs_commit(m, a, &told));
+  WANT(same_node(LOCKS_ON(b, BS_ON_THE_WAY, BS_S).node, file));
+  GIVES_BACK(b, BS_S);
+  WANT(bs_held(m, b, file).mode == BS_NL && bs_held(m, b, db).mode == BS_IS);
+  end();
+}
+
+static void a_path_ends_with_its_transaction(void) {
   bs_reply waits;
   begin(__func__);
   DONE(bs_lock(m, a, db, BS_X, &told));
   waits = ANSWERS(BS_WAITING, bs_lock_path(m, b, record, BS_X, &told));
-  DONE(bs_commit(m, a, &told));
-  WANT(DONE(bs_call_await_path(m, b, record, BS_X, 0, waits.node, BS_IX, NEVER)).mode == BS_X);
+  ANSWERS(BS_WAITING, bs_call_await_path(m, b, record, BS_X, 0, waits.node, BS_IX, NEVER));
+  DONE(bs_abort(m, b, &told));
+  ENDS(b, BS_NO_SUCH_TXN, BS_NL);
   end();
 }
 
@@ -133,33 +183,55 @@ static void a_row_has_the_node_that_was_waited_for(void) {
   ANSWERS(BS_WAITING, bs_call_await_row(m, b, rows, 7, bs_call_numbers(NULL), 0, BS_X, waits.node, NEVER));
   DONE(bs_commit(m, a, &told));
   WANT(same_node(DONE(bs_row_node(m, rows, 7)).node, waits.node));
-  ENDS(b, BS_DONE, BS_X);
+  LOCKS_AGAIN(b, BS_DONE, BS_X);
+  end();
+}
+
+static void waits_go_on_by_rising_slots(void) {
+  begin(__func__);
+  DONE(bs_lock(m, b, db, BS_X, &told));
+  ANSWERS(BS_WAITING, bs_lock(m, c, db, BS_IS, &told));
+  ANSWERS(BS_WAITING, bs_call_await_node(m, c, db, BS_IS, 0, NEVER));
+  ANSWERS(BS_WAITING, bs_lock(m, a, db, BS_IS, &told));
+  ANSWERS(BS_WAITING, bs_call_await_node(m, a, db, BS_IS, 0, NEVER));
+  DONE(bs_commit(m, b, &told));
+  ENDS(a, BS_DONE, BS_IS);
+  ENDS(c, BS_DONE, BS_IS);
   end();
 }
 
 static void waits_end_at_their_time(void) {
   begin(__func__);
   wait_for_root(BS_IX);
+  ANSWERS(BS_NO_PLACE, bs_call_earliest_wait(m));
   ANSWERS(BS_WAITING, bs_call_await_node(m, b, db, BS_IX, 0, 5));
-  WANT(DONE(bs_call_expire(m, 4)).count == 5);
-  ANSWERS(BS_NO_PLACE, bs_call_expire(m, 5));
-  ENDS(b, BS_TIMED_OUT, BS_NL);
+  WANT(DONE(bs_call_earliest_wait(m)).count == 5);
+  ANSWERS(BS_NO_PLACE, bs_call_first_late(m, 4));
+  WANT(same_txn(DONE(bs_call_first_late(m, 5)).txn, b));
+  ANSWERS(BS_TIMED_OUT, bs_call_time_out(m, b, &told));
   WANT(wait_of(m, b).status == BS_NOT_WAITING);
+  ANSWERS(BS_NO_PLACE, bs_call_first_late(m, 5));
+  ANSWERS(BS_NO_PLACE, bs_call_time_out(m, b, &told));
   ANSWERS(BS_WAITING, bs_lock(m, b, db, BS_IX, &told));
   ANSWERS(BS_WAITING, bs_call_await_node(m, b, db, BS_IX, 0, NEVER));
-  ANSWERS(BS_NO_PLACE, bs_call_expire(m, UINT64_MAX));
-  DONE(bs_call_time_out(m, b));
-  ENDS(b, BS_TIMED_OUT, BS_NL);
-  DONE(bs_call_time_out(m, b));
+  ANSWERS(BS_NO_PLACE, bs_call_first_late(m, UINT64_MAX));
+  DONE(bs_commit(m, a, &told));
+  ANSWERS(BS_NO_PLACE, bs_call_time_out(m, b, &told));
+  ENDS(b, BS_DONE, BS_IX);
   end();
 }
 
 int main(void) {
   a_lock_is_awaited_once();
+  a_wait_that_is_over_is_not_awaited();
+  a_waiter_is_withdrawn();
   a_lock_for_an_instant_is_held_by_nobody();
   a_path_goes_on();
-  a_path_that_is_awaited_late_goes_on();
+  a_path_waits_again();
+  a_path_for_an_instant_gives_back_its_node();
+  a_path_ends_with_its_transaction();
   a_row_has_the_node_that_was_waited_for();
+  waits_go_on_by_rising_slots();
   waits_end_at_their_time();
   return 0;
 }

@@ -62,8 +62,12 @@ struct served {
 static struct served *log_of_calls;
 static size_t log_count, log_room;
 
-/* The last call that was served for this thread, and the one before. */
-static __thread size_t my_last, my_last_but_one;
+/* The last call that was served for this thread. */
+static __thread size_t my_last;
+
+/* By slot, the last call for a request that may sleep; and the last lock of a row that was left waiting. */
+static size_t last_of[BS_SLOTS];
+static struct call row_of[BS_SLOTS];
 
 static uint64_t mixed(uint64_t sum, uint64_t more) {
   return (sum ^ more) * UINT64_C(0x100000001b3);
@@ -87,7 +91,6 @@ static bs_reply write_down(bs_manager *m, const struct call *call, bs_reply repl
     log_of_calls = (struct served *)realloc(log_of_calls, log_room * sizeof *log_of_calls);
     if (log_of_calls == NULL) abort();
   }
-  my_last_but_one = my_last;
   my_last = log_count++;
   s = &log_of_calls[my_last];
   memset(s, 0, sizeof *s);
@@ -166,10 +169,10 @@ static void take_handed_on(void);
 
 /* A call hands on begins as its last act: each is logged after it, and is not this thread's. */
 static void write_down_handed_on(bs_manager *m) {
-  size_t last = my_last, last_but_one = my_last_but_one, i;
+  size_t last = my_last, i;
   uint64_t accepted = accepted_by(m);
   take_handed_on();
-  my_last = last, my_last_but_one = last_but_one;
+  my_last = last;
   for (i = log_count - 1; i > last; i--) {
     log_of_calls[i].accepted = accepted;
     if (log_of_calls[i].reply.status == BS_DONE) accepted--;
@@ -183,6 +186,57 @@ static bs_reply serve(bs_manager *m, struct call call, bs_notices *told) {
   write_down(m, &call, reply, told);
   write_down_handed_on(m);
   return reply;
+}
+
+/* The call that was just logged is the last for the request of its transaction. */
+static void note_request(size_t at) {
+  const struct served *s = &log_of_calls[at];
+  if (s->reply.status == BS_NO_SUCH_TXN) return;
+  last_of[s->call.txn.slot] = at;
+  if (s->call.kind == LOCK_ROW && s->reply.status == BS_WAITING) row_of[s->call.txn.slot] = s->call;
+}
+
+static bs_reply serve_request(bs_manager *m, struct call call, bs_notices *told) {
+  bs_reply reply = serve(m, call, told);
+  note_request(my_last);
+  return reply;
+}
+
+/* Logs a call that the library makes for a request: it is not this thread's. */
+static void write_down_for(bs_manager *m, const struct call *call, bs_reply reply, const bs_notices *told) {
+  size_t last = my_last;
+  write_down(m, call, reply, told);
+  note_request(my_last);
+  my_last = last;
+}
+
+/* The call by which a waiter is continued. */
+static struct call call_of_next(bs_reply next) {
+  static const enum kind kinds[] = { CANCEL, UNLOCK, LOCK_PATH, LOCK_ROW };
+  struct call call = call_of(kinds[next.count], next.txn, next.node);
+  if (next.count == 3) return row_of[next.txn.slot];
+  call.mode = next.count == 2 ? next.mode : BS_NL;
+  return call;
+}
+
+static bs_reply served_go_on(bs_manager *m, bs_notices *told) {
+  bs_reply next = bs_call_next_waiter(m), came, plain;
+  struct call call = next.status == BS_DONE ? call_of_next(next) : call_of(CANCEL, nobody, next.node);
+  plain = came = bs_call_go_on(m, told);
+  if (call.kind == CANCEL) return came;
+  if (call.kind == UNLOCK) memset(&plain, 0, sizeof plain);
+  if (call.kind == LOCK_PATH && (came.status == BS_WAITING || came.status == BS_ON_THE_WAY)) plain.mode = BS_NL;
+  plain.txn = nobody;
+  write_down_for(m, &call, plain, told);
+  return came;
+}
+
+static bs_reply served_time_out(bs_manager *m, bs_txn txn, bs_notices *told) {
+  bs_reply end = bs_call_time_out(m, txn, told), done;
+  struct call call = call_of(CANCEL, txn, (bs_node){ 0, 0 });
+  memset(&done, 0, sizeof done);
+  if (end.status == BS_TIMED_OUT) write_down_for(m, &call, done, told);
+  return end;
 }
 
 static bs_reply served_begin(bs_manager *m, enum kind kind, uint64_t since) {
@@ -225,7 +279,7 @@ static bs_reply served_begun(bs_manager *m) {
 static bs_reply served_lock(bs_manager *m, enum kind kind, bs_txn txn, bs_node node, bs_mode mode, bs_notices *told) {
   struct call call = call_of(kind, txn, node);
   call.mode = mode;
-  return serve(m, call, told);
+  return serve_request(m, call, told);
 }
 
 static bs_reply served_row(bs_manager *m, enum kind kind, bs_txn txn, bs_node file, uint64_t number,
@@ -234,7 +288,7 @@ static bs_reply served_row(bs_manager *m, enum kind kind, bs_txn txn, bs_node fi
   call.row = number;
   call.mode = mode;
   give_numbers(&call, keys, count);
-  return serve(m, call, told);
+  return kind == LOCK_ROW ? serve_request(m, call, told) : serve(m, call, told);
 }
 
 static bs_reply served_unlock_row(bs_manager *m, bs_txn txn, bs_node file, uint64_t number, bs_notices *told) {
@@ -340,6 +394,8 @@ static bs_reply served_index(bs_manager *m, enum kind kind, bs_txn txn, const bs
   served_row(m, TRY_ROW, txn, file, row, keys, count, mode, told)
 #define bs_unlock_row(m, txn, file, row, told) served_unlock_row(m, txn, file, row, told)
 #define bs_rekey_row(m, txn, file, row, index, key, told) served_rekey_row(m, txn, file, row, index, key, told)
+#define bs_call_go_on(m, told) served_go_on(m, told)
+#define bs_call_time_out(m, txn, told) served_time_out(m, txn, told)
 #define bs_settle(m, txn, told) served_end(m, SETTLE, txn, told)
 #define bs_insert(m, txn, file, keys, count) served_insert(m, txn, file, keys, count)
 #define bs_delete(m, txn, record, told) served_delete(m, txn, record, told)
@@ -516,17 +572,6 @@ static bs_reply as_served(bs_reply reply) {
   return reply;
 }
 
-/* A cancel that finds no wait may still end a path. */
-static bs_reply as_cancelled(bs_reply reply) {
-  bs_reply served = reply;
-  if (folder != NULL) return reply;
-  pthread_mutex_lock(&table->latch);
-  if (log_of_calls[my_last].reply.status == BS_NOT_WAITING && reply.status == BS_DONE) served.status = BS_NOT_WAITING;
-  pthread_mutex_unlock(&table->latch);
-  as_served(served);
-  return reply;
-}
-
 static bool is_begin(const struct call *call) {
   return call->kind == BEGIN || call->kind == BEGIN_AGAIN;
 }
@@ -543,48 +588,24 @@ static bs_reply as_begun(bs_reply reply) {
   return reply;
 }
 
-/* The same of a lock. If it slept, its end is noted; a wait that was given up has the cancel as its last call. */
+/* The same of a request; if it slept, by the last call for it. If that left it waiting, its end is noted; if its time was
+ * over, that is a cancel. Another may have ended its transaction meanwhile, and the slot has begun a next one. */
 static bs_reply as_slept(struct session *s, bs_reply reply) {
   struct served *last;
   if (folder != NULL) return reply;
   pthread_mutex_lock(&table->latch);
   last = &log_of_calls[my_last];
-  if (reply.status == BS_TIMED_OUT) {
-    WANT(last->call.kind == CANCEL && last->reply.status == BS_DONE);
-    s->late++;
-  } else if (last->reply.status == BS_WAITING) {
-    last->has_slept = true;
-    last->came = reply;
+  if (last->reply.status == BS_WAITING) {
+    last = &log_of_calls[last_of[s->txn.slot]];
     s->slept++;
-  } else {
-    WANT(same_reply(reply, last->reply));
   }
+  if (!same_txn(last->call.txn, s->txn)) WANT(s->is_game);
+  else if (last->call.kind == CANCEL) WANT(reply.status == BS_TIMED_OUT);
+  else if (last->reply.status == BS_WAITING) last->has_slept = true, last->came = reply;
+  else WANT(same_reply(reply, last->reply));
+  if (reply.status == BS_TIMED_OUT) s->late++;
   pthread_mutex_unlock(&table->latch);
   return reply;
-}
-
-/* A wait for a row, and the call that requests it again after the grant. */
-static bool is_asked_again(const struct served *slept, const struct served *last) {
-  const struct call *a = &slept->call, *b = &last->call;
-  if (a->kind != LOCK_ROW || b->kind != LOCK_ROW || slept->reply.status != BS_WAITING || slept->has_slept) return false;
-  return same_txn(a->txn, b->txn) && same_node(a->node, b->node) && a->row == b->row && a->mode == b->mode &&
-         a->numbers[0] == b->numbers[0];
-}
-
-/* The same of a row's lock: the answer after a grant is that of the call that requests it again. */
-static bs_reply as_row_slept(struct session *s, bs_reply reply) {
-  struct served *slept;
-  if (folder != NULL) return reply;
-  pthread_mutex_lock(&table->latch);
-  slept = &log_of_calls[my_last_but_one];
-  if (is_asked_again(slept, &log_of_calls[my_last])) {
-    slept->has_slept = true;
-    slept->came = reply;
-    slept->came.status = BS_DONE;
-    s->slept++;
-  }
-  pthread_mutex_unlock(&table->latch);
-  return as_slept(s, reply);
 }
 
 static bs_reply ask(struct session *s, bs_node node, bs_mode mode) {
@@ -606,7 +627,7 @@ static bs_reply ask_row_by(struct session *s, size_t i, uint64_t row, uint64_t k
   bs_reply reply = ask_path(s, row_interval(i, place), BS_IX);
   if (reply.status == BS_DONE) reply = ask_path(s, row_files[i], BS_IX);
   while (reply.status == BS_DONE) {
-    reply = as_row_slept(s, bs_table_lock_row(table, s->txn, row_files[i], row, &key, 1, mode, limit));
+    reply = as_slept(s, bs_table_lock_row(table, s->txn, row_files[i], row, &key, 1, mode, limit));
     if (reply.status != BS_NEED_PARENTS) return reply;
     reply = ask_path(s, reply.node, BS_IX);
   }
@@ -718,19 +739,19 @@ static bs_reply meddle(struct session *s) {
   pthread_mutex_unlock(&names);
   switch (pick(s, 6)) {
     case 0: case 1: return as_served(bs_table_abort(table, whom, NULL));
-    default: return as_cancelled(bs_table_cancel(table, whom, NULL));
+    default: return as_served(bs_table_cancel(table, whom, NULL));
   }
 }
 
-/* Several commands in one critical section; one that waits is awaited. */
+/* Several commands in one critical section; one that waits is awaited, unless that ends within the section. */
 static bs_reply run_list(struct session *s) {
   bs_command list[3];
   size_t i, count;
   for (i = 0; i < 3; i++) list[i] = bs_do_at(BS_DO_LOCK, s->txn, i == 0 ? root : areas[i - 1], i == 2 ? BS_IX : BS_IS);
   if (pick(s, 2) == 0) list[2] = bs_do(BS_DO_SETTLE, s->txn);
   count = bs_table_run(table, list, 3);
-  if (count == 3) return as_served(list[2].reply);
-  if (list[count].reply.status != BS_WAITING) return as_served(list[count].reply);
+  if (count == 3) return as_slept(s, list[2].reply);
+  if (list[count].reply.status != BS_WAITING) return as_slept(s, list[count].reply);
   return as_slept(s, bs_table_await(table, s->txn, list[count].node, list[count].mode, NULL));
 }
 
@@ -756,7 +777,7 @@ static bs_reply run_rows(struct session *s) {
     reply = as_slept(s, bs_table_await(table, s->txn, reply.node, reply.mode, NULL));
     if (reply.status != BS_DONE) return reply;
   }
-  as_served(reply);
+  as_slept(s, reply);
   if (done >= 2 && (reply.status == BS_DONE || reply.status == BS_OTHER_KEYS) && reply.mode == BS_X) change(s, i, row);
   return reply;
 }
@@ -974,7 +995,6 @@ static void compare_end(const bs_notice *n) {
   const struct served *s = &log_of_calls[waiting_at[n->txn.slot]];
   if (!s->has_slept) return; /* A path that began again, or a wait that was cancelled later. */
   if (s->came.status == BS_NO_SUCH_TXN) return;
-  if (s->came.status == BS_NOT_WAITING && s->call.kind == LOCK_PATH) return; /* It was cancelled on its way. */
   WANT(s->came.status == ends[n->kind]);
   if (n->kind == BS_TOLD_GRANTED) WANT(s->came.mode == n->mode && same_node(awaited(s), n->node));
 }

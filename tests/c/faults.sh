@@ -26,7 +26,7 @@ trap 'rm -rf "$work"' EXIT
 # for each condition. The library may need more words (FAULT_LINKS).
 faults() {
   local call
-  for call in table_lock_by table_path_by table_ask_row; do
+  for call in table_lock_by table_path_by table_row_by; do
     printf '%s-forgets-to-wake\t/%s(/,/^}/s/  table_wake(table, reply.status, [^,]*told, false);//\n' "$call" "$call"
     printf '%s-is-not-watched\t/%s(/,/^}/s/wake(table, reply.status,/wake(table, reply.status == BS_WAITING ? BS_DONE : reply.status,/\n' \
       "$call" "$call"
@@ -36,7 +36,6 @@ faults() {
       "$call" "$call"
   done
   cat <<'FAULTS'
-row-is-not-asked-again	s/  if (table_ask_row(table, txn, row, mode).status != BS_DONE) .*//
 try-row-reads-null	s/  if (row->keys == NULL \&\& row->count != 0) return bs_call_null();//
 skip-takes-a-later-one	s/table_is_passed(table_try_one(table, &commands\[place\]))) place++;/table_is_passed(table_try_one(table, \&commands[place]))) place += 2;/
 skip-passes-refusals	s/table_is_passed(table_try_one(table, &commands\[place\]))) place++;/table_try_one(table, \&commands[place]) != BS_DONE) place++;/
@@ -48,54 +47,28 @@ other-keys-wake-nobody	s/^ *status == BS_OTHER_KEYS;/false;/
 run-forgets-to-wake	s/  table_wake(table, next->reply.status, told, by_name);//
 run-forgets-names	s/  by_name = next->kind .*/  by_name = false;/
 savepoint-is-of-nobody	s/    case BS_DO_RELEASE_SINCE: return table_make_release_since(table, txn, c->number, told);/    case BS_DO_RELEASE_SINCE: return table_make_release_since(table, txn, c->key, told);/
-instant-stays-held	s/^  table_give_instants_back(table, &granted, told);//
 instant-at-once-forgets-the-victims	/ table_give_back_at_once(bs_table/,/^}/{s/table_make_unlock(table, txn, node, &more)/table_make_unlock(table, txn, node, told)/;/table_tell_too/d}
-asked-path-answers-where-it-was	s/^    reply.node = own->at;.*//
-instant-stays-held-at-once	s/  if (is_instant \&\& reply.status == BS_DONE) table_give_back_at_once(.*//
 instant-gives-back-what-was-held	/ table_is_instant(const/,/^}/s/ \&\& bs_held(&table->manager, txn, node).mode == BS_NL;/;/
-instant-of-an-ended-wait	s/    table->instantly.words\[i\] &= ~instantly;//
 instant-came-and-is-not-known	/table_became(/,/^}/s/^  if (reply.status != BS_NOT_WAITING) return reply;/  return reply;/
-instant-that-came-is-the-next-wait	/table_register(/,/^}/s/^  own->came = BS_NL;//
-lock-wakes-before-it-registers	/ table_lock_by(/,/^}/{/table_register(/d;s/^  table_wake(table, .*/&\n  if (reply.status == BS_WAITING) table_register(table, txn, node, is_instant);/}
-path-wakes-before-it-registers	/ table_path_by(/,/^}/{/table_register(/d;s/^  table_wake(table, .*/&\n  if (reply.status == BS_WAITING) table_register(table, txn, node, is_instant \&\& table_is_same_node(reply.node, node));/}
-path-asks-for-its-mode-too-late	/ table_path_by(/,/^}/{/wait->mode/d;s/^  table_wake(table, .*/&\n  wait->mode = bs_call_doing(\&table->manager, txn).mode;/}
-own-ask-is-not-looked-at	s/^  table->asks->due.words.slot . 64. |= bit;//
-sleeper-looks-not-at-its-own-wait	s/^  if (table->is_due) reply = table_verdict(.*//
 list-victim-has-no-node	s/^  if (became.status == BS_VICTIM .*//
-list-does-not-settle	s/^  if (next->reply.status == BS_WAITING \&\& table->is_due) .*//
 list-tells-its-own	s/^    table_tell_all_but(told, txn);//
 list-goes-not-on-with-its-path	/ table_made_on(/,/^}/s/^  if (c->kind != BS_DO_LOCK_PATH) return became;/  return became;/
 list-asks-not-again-for-its-row	/ table_made_on(/,/^}/s/^  if (c->kind == BS_DO_LOCK_ROW /  if (false /
-list-leaves-asks-that-are-due	/ table_settle_made(/,/^}/s/^    if (table->asks != NULL) table_go_on(table);//
-instant-wakes-nobody	/table_give_instants_back(/,/^}/s/^      table_note_ended(table, granted, &more);//
 instant-tells-nobody	s/^      table_tell_too(told, &more);//
 instant-is-awaited-by-its-word	s/  c->reply.mode = table_mode_of(c->mode);/  c->reply.mode = c->mode;/
-instant-sleeps-by-its-word	s/table_sleep(table, txn, node, table_mode_of(mode), until)/table_sleep(table, txn, node, mode, until)/
-instant-asks-by-its-word	s/  own->wanted = table_mode_of(mode);/  own->wanted = mode;/
 run-says-not-for-what	s/  if (next->reply.status == BS_WAITING) .*//
 run-takes-a-slot-for-begun	s/  bs_txn txn = next->txn.slot == none.slot .*/  bs_txn txn = next->txn.age == none.age ? begun : next->txn;/
-list-path-stops-on-the-way	s/^  if (reply.status == BS_ON_THE_WAY) return table_path_made_on(.*//
 list-path-tells-the-last	s/ table_tell_too(told, &table->told);/ *told = table->told;/
 list-path-tells-the-first	s/    if (told != &table->told) table_tell_too(.*//
-list-path-tells-unordered	s/    for (; place > 0 && told->at\[place - 1\].*//
-late-forgets-to-wake	s/  table_wake(table, reply.status, &table->told, true);//
-path-ends-above	s/ && (reply.status != BS_DONE || path.is_last)) return reply;/) return reply;/
 nobody-is-named	s/by_name || told->count/told->count/
 nobody-is-told	s/by_name || told->count > 0/by_name/
-first-word-sleeps-on	/table_note_ended(/,/^}/s/  for (i = 0; i < BS_SLOTS/  for (i = 1; i < BS_SLOTS/
-words-but-the-first-sleep-on	/table_note_ended(/,/^}/s/  for (i = 0; i < BS_SLOTS \/ 64; i++) {/  for (i = 0; i < 1; i++) {/
 who-looks-does-not-take	/table_take_held(bs_table/,/^}/s/    if (pthread_mutex_trylock(&table->latch) == 0) return;/    if (pthread_mutex_trylock(\&table->latch) == 0) { pthread_mutex_unlock(\&table->latch); return; }/
 who-looks-does-not-sleep	/table_take_held(bs_table/,/^}/s/^  pthread_mutex_lock(&table->latch);$//
-last-command-alone-wakes	s/table->to_wake.words\[i\] |= ended/table->to_wake.words[i] = ended/
-nobody-is-to-wake	/table_note_ended(/,/^}/s/^  table->is_due = true;$//
 release-wakes-nobody	s/^  table_wake_sleepers(table, &to_wake);//
 release-wakes-one	s/^    for (; word != 0; word \&= word - 1) pthread_cond_broadcast/    if (word != 0) pthread_cond_broadcast/
 release-wakes-the-first-word	/table_wake_sleepers(/,/^}/s/  for (i = 0; i < BS_SLOTS \/ 64; i++) {/  for (i = 0; i < 1; i++) {/
 watch-is-not-woken	s/^  pthread_cond_signal(&table->began);//
 watch-forgets-to-wake	s/  table_wake(table, \(table_make_settle(.*\)\.status, &table->told, false);/  \1;/
-path-forgets-a-cancel	s/  path->is_cancelled = true;//
-early-return	s/    reply = table_verdict(.*/    reply.status = BS_DONE, reply.mode = mode;/
-time-before-grant	s/    reply = table_verdict(/    if (late == 0) &/
 sleeper-is-cancelled	/table_doze(/,/^}/s/  pthread_setcancelstate(PTHREAD_CANCEL_DISABLE, &state);/  state = PTHREAD_CANCEL_ENABLE;/
 list-keeps-replies	s/  if (done < count) table_not_made(.*//
 dump-keeps-the-latch	s/  if (copy->manager == NULL) bs_table_let_go(copy->table);//
@@ -103,7 +76,6 @@ watch-takes-signals	s/  pthread_sigmask(SIG_SETMASK, &blocked, &before);/  pthre
 watch-forgets-what-it-saw	s/    seen = board.epoch;/    seen = 0;/
 watch-sees-one-deadlock	s/  while (youngest.status == BS_DONE \&\& /  if (youngest.status == BS_DONE \&\& /
 watch-does-not-rest	s/    table_rest(table, table->pace);//
-end-leaves-sleepers	s/  for (slot = 0; slot < BS_SLOTS; slot++) pthread_cond_broadcast(.*//
 end-leaves-the-watch	s/  pthread_cond_broadcast(&table->began);//
 end-leaves-the-rest	s/  pthread_cond_broadcast(&table->over);//
 end-does-not-wait	s/  while (table->sleepers + table->to_tell > 0) .*//
@@ -126,47 +98,19 @@ time-before-queued-begin	s/  if (own->begun.status == BS_WAITING) {/  if (late =
 queued-begin-wakes-nobody	s/    pthread_cond_signal(&own->came);//
 late-begin-stays-in-the-queue	s/^    bs_call_withdraw_begin(.*//
 who-began-is-still-counted	s/^    table->queued--;$//
-deadline-is-forgotten	s/  until = table_earlier(table, txn, until);//
-deadline-is-of-the-slot	s/  if (own->age != txn.age) return until;/  if (own->age == 0) return until;/
-deadline-hides-the-call	s/  return own->time.tv_sec == until->tv_sec .*/  return \&own->time;/
 ahead-by-a-second-less	s/    time.tv_sec++;//
 asks-are-told-under-the-latch	/table_release_and_tell(bs_table \*table) {/,/^}/s/^  pthread_mutex_unlock(&table->latch);$//; /table_release_and_tell(bs_table \*table) {/,/^}/s/^  if (over.first != NULL) table_tell(&over);/&\n  pthread_mutex_unlock(\&table->latch);/
-asks-are-not-due	s/^  for (i = 0; i < BS_SLOTS \/ 64; i++) asks->due.words.*//
-asks-of-a-word-are-not-due	/table_note_due(/,/^}/s/  for (i = 0; i < BS_SLOTS/  for (i = 1; i < BS_SLOTS/
 one-of-two-is-told	s/^    over->first = next->next;/    over->first = next->next == NULL ? NULL : next->next->next;/
-asks-are-told-by-falling-slots	s/__builtin_ctzll(\*word)/(63 - __builtin_clzll(*word))/; s/      \*word &= \*word - 1;/      *word \&= ~((uint64_t)1 << slot % 64);/
 an-end-is-told-twice	s/^  table->asks->on_end(.*/&\n&/
-an-end-is-told-within-the-ask	s/^  if (ask->is_inside) return;//
-an-ask-is-answered-waiting	/table_ask_and_tell(/,/^}/s/^    reply = own->end;//
 the-function-is-called-within-itself	s/^  if (table_telling != NULL) {$/  if (false) {/
 what-is-held-in-a-call-stays-held	s/^  while (table_held != table_held_outside) .*//
 what-is-held-outside-is-given-back	s/^  if (table_is_among(table, table_held_outside)) .*//
-asked-path-does-not-go-on	s/  if (ask->kind != TABLE_PATH || !is_on_the_way) return reply;/  return reply;/
-asked-path-does-not-begin-anew	s/  bool is_on_the_way = reply.status == BS_MOVED || /  bool is_on_the_way = /
-asked-path-stops-on-the-way	/^static bs_reply table_ask_path(/,/^}/s/  } while (reply.status == BS_ON_THE_WAY);/  } while (false);/
-asked-path-forgets-its-node	s/    ask->at = wait.node;//
-asked-path-forgets-its-time	s/  if (reply.status == BS_WAITING) table_ask_waits(table, ask);//
-asked-row-is-not-asked-again	s/  if (ask->kind == TABLE_ROW \&\& reply.status == BS_DONE) {/  if (false) {/
-asked-row-keeps-no-keys	s/  if (reply.status == BS_WAITING) table_keep_keys(own);//
-asked-row-keeps-all-keys	s/  if (own->row.count > BS_MOST_PARENTS) .*//
-ask-is-not-noted	s/  table->asks->asked.words\[slot \/ 64\] |= .*//
-ask-is-awaited-twice	s/  if (reply.status == BS_WAITING \&\& table->asks->at\[txn.slot\] != NULL) .*//
-ask-has-no-time	s/  ask->has_time = time != NULL;/  ask->has_time = false;/
-ask-has-no-deadline	s/table_earlier(table, ask->txn, ask->has_limit ? &ask->limit : NULL);/ask->has_limit ? \&ask->limit : NULL;/
-time-leaves-the-wait	s/      table_end_ask(table, ask, table_time_out(table, ask->txn));/      table_end_ask(table, ask, bs_call_only(BS_TIMED_OUT));/
-times-are-not-over	/^bs_reply bs_table_expire(/,/^}/s/    while (table_end_late(table, &now) > 0) continue;//
-times-are-looked-at-once	/^bs_reply bs_table_expire(/,/^}/s/    while (table_end_late(table, &now) > 0) continue;/    table_end_late(table, \&now);/
-all-times-are-over	s/ask->has_time \&\& !table_is_later(&ask->time, now)/ask->has_time/
-the-latest-time-is-next	s/table_is_later(first, &ask->time)/table_is_later(\&ask->time, first)/
-end-forgets-asks	s/  if (table->asks != NULL) table_end_asks(table);//
 end-does-not-wait-for-calls	s/  while (table->sleepers + table->to_tell > 0) /  while (table->sleepers > 0) /
 last-call-says-nothing	s/  if (table->stage == TABLE_ENDING \&\& table->to_tell == 0) .*//
 a-call-ends-a-table	s/  if (table != NULL \&\& !table_may_sleep()) return bs_call_only(BS_IN_USE);//
 a-call-sleeps	s/  return table_telling == NULL \&\& table_held == NULL;/  return table_held == NULL;/
 a-holder-sleeps	s/  return table_telling == NULL \&\& table_held == NULL;/  return table_telling == NULL;/
 a-call-is-cancelled	/^static void table_tell(/,/^}/s/  pthread_setcancelstate(PTHREAD_CANCEL_DISABLE, &state);/  state = PTHREAD_CANCEL_ENABLE;/
-a-sleeper-tells-behind-its-sleep	s/^  if (reply.status == BS_WAITING \&\& table_tell_between(table)) reply/  if (false) reply/
-a-sleeper-does-not-look-again	s/^  if (reply.status == BS_WAITING \&\& table_tell_between(table)) reply = table_verdict(.*/  table_tell_between(table);/
 watch-tells-nobody-before-it-rests	/^static void table_settle_all(/,/^}/s/^    table_release(table);$/    pthread_mutex_unlock(\&table->latch);/
 dump-is-cancelled	/^static bs_reply dump_of(/,/^}/s/  pthread_setcancelstate(PTHREAD_CANCEL_DISABLE, &state);/  state = PTHREAD_CANCEL_ENABLE;/
 a-list-tells-nobody	/^size_t bs_table_run(/,/^}/s/  table_release(table);/  pthread_mutex_unlock(\&table->latch);/
@@ -174,22 +118,6 @@ a-call-tells-nobody	s/  table_release(table);                                   
 on-end-is-given-twice	s/  if (table->asks != NULL) return table_leave(table, bs_call_only(BS_IN_USE));//
 spare-asks-are-kept	s/  while (table->asks != NULL \&\& table->asks->spare != NULL) {/  while (false) {/
 end-leaves-the-queue	s/    if (queued.count != 0) pthread_cond_signal(.*//
-sleeper-follows-a-later-deadline	s/^    until = &time;//
-path-forgets-its-time-on-its-way	/^bs_reply bs_table_lock_path(/,/^}/s/node, mode, until);/node, mode, until), until = NULL;/
-path-forgets-its-deadline-on-its-way	/^bs_reply bs_table_lock_path(/,/^}/s/    reply = table_path_inside(.*/&\n    table->deadlines[txn.slot].age = 0;/
-earlier-by-nanoseconds-is-the-deadline	s/  return own->time.tv_sec == until->tv_sec .*/  return until;/
-later-by-nanoseconds-is-taken	s/ own->time.tv_nsec < until->tv_nsec ? &own->time : until;/ own->time.tv_nsec > until->tv_nsec ? \&own->time : until;/
-times-within-a-second-are-one	/^static bool table_is_later(/,/^}/s/ || (one->tv_sec == .*/;/
-a-time-of-now-is-later	/^static bool table_is_later(/,/^}/s/one->tv_nsec > other->tv_nsec/one->tv_nsec >= other->tv_nsec/
-later-by-nanoseconds-alone	/^static bool table_is_later(/,/^}/s/(one->tv_sec == other->tv_sec && one->tv_nsec > other->tv_nsec)/one->tv_nsec > other->tv_nsec/
-path-of-another-is-cleared	s/  if (table->paths\[txn.slot\] == &path) table->paths/  table->paths/
-path-of-before-stays	s/  table->paths\[txn.slot\] = &path;/  if (table->paths[txn.slot] == NULL) &/
-cancel-takes-any-path	s/path == NULL || path->txn.age != txn.age) return/path == NULL) return/
-end-wakes-the-first-word	/^static void table_wake_all(/,/^}/s/slot < BS_SLOTS/slot < 64/
-late-asks-are-of-the-first-word	/^static size_t table_end_late(/,/^}/s/slot < BS_SLOTS/slot < 64/
-next-time-is-of-the-first-word	/^static uint64_t table_next_time(/,/^}/s/slot < BS_SLOTS/slot < 64/
-an-end-is-noted-in-the-first-word	/^static void table_end_ask(/,/^}/s/words\[slot \/ 64\] &= /words[0] \&= /
-instants-are-of-the-first-word	/table_register(/,/^}/s/words\[txn.slot \/ 64\] |= /words[0] |= /
 watch-takes-an-old-board	s/^    if (board.epoch < seen) bs_read_board(.*//
 watch-reads-no-board-of-now	s/^    if (board.epoch < seen) bs_read_board(.*/    if (board.epoch < seen) board.epoch = seen;/
 caller-keeps-signals-blocked	s/^  pthread_sigmask(SIG_SETMASK, &before, NULL);//
@@ -204,15 +132,8 @@ next-end-forgets-the-last	/^static void table_tell(/,/^}/s/^    table_telling->l
 last-of-two-ends-is-the-first	/^static void table_tell(/,/^}/s/^    table_telling->last = over->last;/    table_telling->last = over->first;/
 next-end-hides-those-before	/^static void table_tell(/,/^}/s/    else table_telling->last->next = over->first;/    else table_telling->first = over->first;/
 ends-within-are-told-first	/^static void table_tell(/,/^}/s/^    if (table_telling->first == NULL) table_telling->first = over->first;/    if (table_telling->first != NULL) { over->last->next = table_telling->first; table_telling->first = over->first; return; }\n&/
-instant-that-came-is-the-next-path	/ table_path_by(/,/^}/s/^    table_register(table, txn, node, is_instant \&\& \(.*\));/    if (is_instant \&\& \1) table_register(table, txn, node, true);/
-instant-that-came-is-the-next-row	/^static bs_reply table_ask_row(/,/^}/s/^  if (reply.status == BS_WAITING) table_register(.*//
-instant-that-came-is-the-next-in-a-list	s/^  if ((c->mode \& BS_INSTANT) == 0) table_register(table, txn, c->node, false);//
-instant-that-came-is-the-next-lock	/ table_lock_by(/,/^}/s/^  if (reply.status == BS_WAITING) table_register(/  if (is_instant \&\& reply.status == BS_WAITING) table_register(/
-instant-that-came-is-the-next-instant	/table_register(/,/^}/s/^  own->came = BS_NL;/  if (!is_instant) own->came = BS_NL;/
 instant-is-of-its-slot	s/  if (own->came == BS_NL || own->txn.age != txn.age || /  if (own->came == BS_NL || /
 instant-is-of-any-node	s/ || own->txn.age != txn.age || !table_is_same_node(own->node, node)) return reply;/ || own->txn.age != txn.age) return reply;/
-asked-row-keeps-its-first-key	/^static void table_keep_keys(/,/^}/s/own->row.count \* sizeof own->keys\[0\]/sizeof own->keys[0]/
-asked-row-is-for-an-instant	/^bs_reply bs_table_ask_row(/,/^}/s/table_ask_row(table, txn, &own->row, mode)/table_ask_row(table, txn, \&own->row, table_mode_of(mode))/
 listed-row-is-for-an-instant	s/make_lock_row(table, txn, c->file, c->number, c->keys, c->key_count, c->mode, told)/make_lock_row(table, txn, c->file, c->number, c->keys, c->key_count, table_mode_of(c->mode), told)/
 end-of-a-table-is-cancelled	/^bs_reply bs_table_end(/,/^}/s/  pthread_setcancelstate(PTHREAD_CANCEL_DISABLE, &state);/  pthread_setcancelstate(PTHREAD_CANCEL_ENABLE, \&state);/
 end-of-a-table-keeps-cancels-off	/^bs_reply bs_table_end(/,/^}/s/^  pthread_setcancelstate(state, &state);//
@@ -224,14 +145,11 @@ a-holder-ends-a-table	s/  if (table != NULL \&\& !table_may_sleep()) return bs_c
 what-is-held-outside-is-forgotten	s/^  table_held_outside = NULL;//
 watch-settles-all-in-one-section	/^static void table_settle_all(/,/^}/{s/^    table_release(table);$//;s/^    table_take(table);$//;s/^}/  table_tell_between(table);\n}/}
 list-settles-once	/ table_settle_made(/,/^}/s/  } while (c->reply.status == BS_WAITING);/  } while (false);/
-list-path-says-not-how-it-waits	/ table_path_made_on(/,/^}/s/^    if (reply.status == BS_WAITING) reply.mode = wait.mode;//
 bucket-has-no-upper-bound	/^static size_t running_bucket(/,/^}/s/__builtin_clzll(microseconds - 1)/__builtin_clzll(microseconds)/
 bucket-cuts-nanoseconds	/^static size_t running_bucket(/,/^}/s/ + (nanoseconds % 1000 != 0)//
-late-wait-is-cancelled	s/^  if (reply.status == BS_DONE) bs_call_wait_late(&table->running, txn.slot);//
 moved-wait-is-gone	s/^    case BS_TOLD_MOVED: return BS_END_MOVED;//
 named-wait-stays	/^void bs_call_waits_ended(/,/^}/s/^  running_cancelled(running, &left, now);//
 ended-wait-ends-again	/^static uint64_t running_keep_waiting(/,/^}/s/slots->words\[i\] \&= running->waiting.words\[i\]/slots->words[i]/
-wait-that-begins-is-not-noted	/table_register(/,/^}/s/^  bs_call_wait_began(&table->running, txn);//
 sketch-forgets-its-error	/^static void running_count(/,/^}/s/error = sketch->at\[place\].nanoseconds;/error = 0;/
 sketch-gives-up-the-most	/^static size_t running_least(/,/^}/s/nanoseconds < sketch/nanoseconds > sketch/
 sketch-begins-at-nothing	/^static void running_count(/,/^}/s/^    sketch->at\[place\].waits = 0;/&\n    sketch->at[place].nanoseconds = sketch->at[place].error = 0;/
@@ -311,6 +229,68 @@ trace-finds-bounds-too-high	/^static uint64_t trace_lowest_key(/,/^}/s/>= place)
 trace-is-begun-twice	/^bs_reply bs_table_trace(/,/^}/s/^  if (table->is_traced) return .*//
 trace-writes-long-lines	s/line->head.is_too_long || trace->length - start > TRACE_LONGEST/line->head.is_too_long/
 trace-keeps-its-memory	/^static void trace_free(/,/^}/s/^  free(trace->ring);//
+instant-stays-held-at-once	s/  if (is_instant \&\& reply.status == BS_DONE) table_give_back_at_once(.*//
+wait-is-not-registered	/ table_register(bs_table/,/^}/s/^  table_enlist(table, request, wait, waiter);//
+lock-wakes-before-it-registers	/ table_lock_by(/,/^}/{/^    table_register(/d;s/^  table_wake(table, .*/&\n  if (reply.status == BS_WAITING) { table_request request = table_request_of(TABLE_NODE, txn, node, mode, is_instant); table_wait wait = { node, mode }; table_register(table, \&request, wait, waiter); }/}
+path-wakes-before-it-registers	/ table_path_by(/,/^}/{/^    table_register(/d;s/^  table_wake(table, .*/&\n  if (reply.status == BS_WAITING) { table_request request = table_request_of(TABLE_PATH, txn, node, mode, is_instant); table_wait wait = { reply.node, reply.mode }; table_register(table, \&request, wait, waiter); }/}
+path-asks-for-its-mode-too-late	/ table_path_by(/,/^}/s/wait.mode = bs_call_doing(&table->manager, txn).mode;/wait.mode = BS_IS;/
+wait-that-begins-is-not-noted	/^static void table_note_wait(/,/^}/s/^  bs_call_wait_began(.*//
+instant-that-came-is-the-next-wait	/^static void table_note_wait(/,/^}/s/^  table->instants.*//
+nobody-goes-on	/ table_wake_told(bs_table/,/^}/s/^  table_go_on(table, told);//
+one-goes-on	/ table_go_on(bs_table/,/^}/s/  for (; came.status != BS_NO_PLACE; came = .*/  if (came.status != BS_NO_PLACE) {/
+who-is-told-by-others-is-timed-on	/ table_go_on(bs_table/,/^}/s/^      table_note_ended(table, &more);//
+who-waits-again-is-not-timed	/^static void table_gone_on(/,/^}/s/^    bs_call_wait_began(.*//
+who-waits-again-is-not-watched	/^static void table_gone_on(/,/^}/s/^  table_blocked(table, came.status);//
+asked-path-forgets-its-node	/^static void table_gone_on(/,/^}/s/^    if (waiter != NULL) waiter->at = came.node;//
+notices-are-unordered	/^static void table_tell_too(/,/^}/s/^    while (place > 0 .*//
+notices-are-told-twice	/^static void table_tell_too(/,/^}/s/txn.slot >= next->txn.slot/txn.slot > next->txn.slot/
+nobody-is-to-wake	/^    table->to_wake.words/{n;s/.*//}
+an-end-wakes-in-the-first-word	s/table->to_wake.words\[slot \/ 64\] |= /table->to_wake.words[0] |= /
+last-end-alone-wakes	s/table->to_wake.words\[slot \/ 64\] |= /table->to_wake.words[slot \/ 64] = /
+an-end-is-told-within-the-ask	s/^  } else if (!ask->is_inside) {/  } else {/
+an-end-is-not-to-be-told	/^    table->to_tell++;$/{n;s/.*//}
+listed-instant-stays-held	/^static void table_leave_waiting(/,/^}/s/^  bs_call_await_node(.*//
+listed-instant-is-of-nobody	/^static void table_leave_waiting(/,/^}/s/^  own->txn = request->txn;//
+path-is-awaited-as-a-node	/^static void table_await(/,/^}/s/  switch (request->kind) {/  switch (TABLE_NODE) {/
+asked-row-keeps-no-keys	/^static void table_await(/,/^}/s/bs_call_numbers(row->keys), row->count/bs_call_numbers(NULL), 0/
+awaited-instant-stays-held	/^static void table_await(/,/^}/s/bs_call_await_node(m, txn, request->node, mode, request->is_instant, until)/bs_call_await_node(m, txn, request->node, mode, false, until)/
+awaited-path-for-an-instant-stays-held	/^static void table_await(/,/^}/s/mode, request->is_instant, wait.node, wait.mode/mode, false, wait.node, wait.mode/
+ask-has-no-time	s/waiter->ask->has_time = time != TABLE_NO_TIME;/waiter->ask->has_time = false;/
+ask-is-awaited-for-ever	s/  table_await(table, request, wait, time);/  table_await(table, request, wait, TABLE_NO_TIME);/
+deadline-is-forgotten	/^static uint64_t table_earlier(/,/^}/s/^  return .*/  return time;/
+deadline-is-of-the-slot	/^static uint64_t table_earlier(/,/^}/s/own->age == txn.age \&\& /own->age != 0 \&\& /
+deadline-hides-the-call	/^static uint64_t table_earlier(/,/^}/s/ \&\& own->time < time//
+times-within-a-second-are-one	/^static uint64_t table_time_of(/,/^}/s/ + (uint64_t)until->tv_nsec//
+time-before-the-clock-is-none	/^static uint64_t table_time_of(/,/^}/s/  if (until->tv_sec < 0) return 0;//
+time-after-all-wraps	/^static uint64_t table_time_of(/,/^}/s/^  if ((uint64_t)until->tv_sec >= .*//
+late-forgets-to-wake	/^static bs_reply table_time_out(/,/^}/s/^  table_wake_told(table, &table->told);//
+late-wait-is-cancelled	/^static bs_reply table_time_out(/,/^}/s/^  bs_call_wait_late(.*//
+time-leaves-the-ask	/^static bs_reply table_time_out(/,/^}/s/^  table_end(table, waiter, txn.slot, end);//
+a-sleeper-tells-behind-its-sleep	/ table_sleep(bs_table/,/^}/s/^  if (!own->has_ended) table_tell_between(table);//
+early-return	/ table_sleep(bs_table/,/^}/s/  while (!own->has_ended \&\& late != ETIMEDOUT) {/  if (!own->has_ended) {/
+time-before-grant	/ table_sleep(bs_table/,/^}/s/  if (!own->has_ended) table_give_up(/  if (late == ETIMEDOUT) table_give_up(/
+a-wait-is-awaited-twice	s/  if (table->waiters\[txn.slot\] != NULL) return bs_call_only(BS_IN_USE);//
+awaited-list-forgets-its-instant	s/  request.is_instant = bs_call_withdraw_waiter(.*/  bs_call_withdraw_waiter(\&table->manager, txn);/
+path-stops-on-the-way	/ table_path_through(bs_table/,/^}/s/  } while (reply.status == BS_ON_THE_WAY);/  } while (false);/
+times-are-not-over	/^bs_reply bs_table_expire(/,/^}/s/^  table_end_late(.*//
+times-are-looked-at-once	/^static void table_end_late(/,/^}/s/  while (late.status == BS_DONE) {/  if (late.status == BS_DONE) {/
+times-are-of-the-first-word	/^static uint64_t table_count_timed(/,/^}/s/slot < BS_SLOTS/slot < 64/
+all-asks-have-a-time	/^static uint64_t table_count_timed(/,/^}/s/ \&\& waiter->ask->has_time//
+end-forgets-waits	s/^  table_end_waits(table);//
+end-forgets-the-second-word	/^static void table_end_waits(/,/^}/s/slot < BS_SLOTS/slot < 64/
+an-ask-is-answered-waiting	s/  if (waits \&\& own->waiter.has_ended) reply = own->waiter.end;/  if (false) return reply;/
+asked-path-answers-where-it-was	s/^  else if (waits \&\& reply.node.birth != 0) .*//
+ask-tells-after-it-has-left	s/^  if (waits \&\& !own->waiter.has_ended \&\& table->is_due) table_ask_and_tell(table);//
+ask-stays-in-its-call	/^static bs_reply table_leave_asked(/,/^}/s/^  own->is_inside = false;//
+list-does-not-settle	s/^  if (next->reply.status == BS_WAITING \&\& told->count > 0) .*//
+list-path-stops-on-the-way	s/  return reply.status == BS_ON_THE_WAY ? table_path_made_on(.*/  return reply;/
+list-path-says-not-how-it-waits	/ table_path_by(/,/^}/s/^    if (waiter == NULL) reply.mode = wait.mode;//
+listed-wait-is-not-noted	s/^  if ((c->mode \& BS_INSTANT) == 0) table_note_wait(table, txn);//
+trace-goes-on-unsaid	/^bs_reply bs_traced_call_go_on(/,/^}/s/^    trace_say_steps(.*//
+trace-goes-on-by-one-lock	/^bs_reply bs_traced_call_go_on(/,/^}/s/next.txn, (size_t)made, /next.txn, 1, /
+trace-gives-back-unsaid	/^bs_reply bs_traced_call_go_on(/,/^}/s/^    trace_say(trace, &line, done, told);//
+trace-gives-back-by-a-lock	/^bs_reply bs_traced_call_go_on(/,/^}/s/next.count == TRACE_GIVES_BACK ? TRACE_UNLOCK : TRACE_LOCK/TRACE_LOCK/
+trace-hides-a-time-that-is-over	/^bs_reply bs_traced_call_time_out(/,/^}/s/^  if (reply.status == BS_TIMED_OUT) trace_say(.*//
 FAULTS
 }
 

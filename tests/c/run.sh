@@ -126,6 +126,6 @@ with MAJOR 9 && refused BS_OTHER_VERSION
 with PATCH 999 && compile stories -Wl,--wrap=malloc,--wrap=realloc,--wrap=free || exit 1
 timeout 60 "$work/stories" >"$work/log" || fails "a library of another last number is refused"
 [ "$slots" = 128 ] || exit 0
-"$top/tests/c/faults.sh" commit-forgets-to-wake early-return row-is-not-asked-again one-slot-is-handed-on \
-  skip-passes-refusals instant-stays-held asks-are-told-under-the-latch asked-path-does-not-go-on \
+"$top/tests/c/faults.sh" commit-forgets-to-wake early-return asked-row-keeps-no-keys one-slot-is-handed-on \
+  skip-passes-refusals awaited-instant-stays-held asks-are-told-under-the-latch path-is-awaited-as-a-node \
   "${libraries[@]:1}" || exit 1

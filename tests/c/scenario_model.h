@@ -3,24 +3,24 @@
  * it has at most one ask that waits, and at most one lock for an instant that waits. These are its rules.
  *
  *   1. A call is one critical section: its command, or the commands of its list, and all that they set off.
- *   2. After each command, every lock for an instant that it granted is released, the lowest slot first, until none is
- *      left: a release may grant others. A node that the transaction held before is raised and stays held, and so does
- *      a node of which it holds a child. A lock for an instant that is granted at once is released at once. What a
- *      release tells is told with its command.
- *   3. After the commands, each ask whose wait has ended is looked at, the lowest slot first, until none is left. A
- *      path requests its next lock, which may wait again, choose victims and grant others. A row is requested again, to
- *      learn whether its keys are its node's own. Any other ask has ended. The same is done whenever a command of a
- *      list is left waiting.
+ *   2. After each command, each waiter whose wait is over goes on, the lowest slot first, one command at a time, until no
+ *      wait is over. An ask is a waiter, and so is a lock for an instant that a list left waiting. A path requests its
+ *      next locks, which may wait again, choose victims and grant others. A row is requested again, to learn whether its
+ *      keys are its node's own. A lock for an instant that was granted is released, except that a node which the
+ *      transaction held before is raised and stays held, and so does a node of which it holds a child. Any other ask has
+ *      ended. What this tells is told with the command. A lock for an instant that is granted at once is released after
+ *      that, and then others go on again.
+ *   3. An ask that waits is a waiter before anybody goes on: its own wait may be over by then.
  *   4. The answer of a call is taken after all that. If the wait of an ask has ended by then, the ask answers that end,
  *      and it does so too if its wait ends while it tells others their ends. If the wait of a command of a list has
  *      ended, the command answers that end: a path continues first, a row is requested again, and after a grant the
  *      list continues.
- *   5. Every other ask whose wait has ended is told exactly once, with the reply that a sleeper would get. An ask that
- *      waits is never told. The ends that one command caused are told by rising slots; between those of several
- *      commands the order is open.
+ *   5. Every other ask whose wait has ended is told exactly once, with the reply that a sleeper would get: if it was not
+ *      granted, with the node for which it waited. An ask that waits is never told. The ends that one command caused are
+ *      told by rising slots; between those of several commands the order is open.
  *   6. A wait of an ask ends at the earlier of the times of its call and of its transaction, both as they were when the
- *      wait began. bs_table_expire cancels the waits whose time is over, by rising slots, each with all that this sets
- *      off, and begins again until it cancels none.
+ *      call began to wait. bs_table_expire cancels the waits whose time is over, the lowest slot first, each with all
+ *      that this sets off, until there is none.
  */
 #ifndef SCENARIO_MODEL_H
 #define SCENARIO_MODEL_H
@@ -39,7 +39,9 @@ typedef struct requester {
 typedef struct ask {
   bool waits;
   drawn asked;
-  bs_node at;     /* the node for which it waits now, and its mode */
+  bool is_instant; /* it is for an instant, and its transaction did not hold the node */
+  bool holds;     /* it was granted a node, and goes on with the next command */
+  bs_node at;     /* the node for which it waits now, or that it holds, and its mode */
   bs_mode wanted;
   moment limit;   /* the time of its call, and the time at which its wait ends */
   moment time;
@@ -47,8 +49,8 @@ typedef struct ask {
   requester *by;  /* null after its call has returned */
 } ask;
 
-/* The lock for an instant of the transaction in a slot: whether it waits, or what it was granted as since the last
- * wait. */
+/* The lock for an instant of the transaction in a slot that a list requested: whether it waits, or what it was granted as
+ * since the last wait. */
 typedef struct instant {
   bool waits, was_granted;
   bs_txn txn;
@@ -80,6 +82,8 @@ static size_t end_count;
 static uint64_t commands, ended_by[NAIVE_TXNS]; /* how many commands were made, and by slot which ended its last wait */
 static uintptr_t words;                         /* the word of the next ask */
 static bool is_over;                            /* the table has been ended */
+static const call *requested;                      /* the ask whose command is being made, or null; and its requester */
+static requester *requested_by;
 
 static void forget_all(void) {
   memset(asks, 0, sizeof asks);
@@ -145,32 +149,27 @@ static void end_instant(instant *own, bs_notices *told) {
   release(own->txn, own->node, told);
 }
 
-/* Rule 2. */
-static void release_instants(bs_notices *told) {
-  uint32_t slot = 0;
-  while (slot < n.limits.transactions) {
-    instant *own = &instants[slot++];
-    if (!own->waits || naive_wait_of(&n, own->txn) != NULL) continue;
-    end_instant(own, told);
-    slot = 0;
-  }
-}
+static void settle(bs_notices *told);
+static void register_ask(const call *c, bs_node at, bs_mode wanted, requester *by);
 
-/* A transaction begins to wait, for an instant or not. */
-static void register_wait(bs_txn txn, bs_node node, bool for_an_instant) {
-  instant *own = &instants[txn.slot];
+/* A transaction begins to wait: for the ask that is being made, or else for a list, for an instant or not. */
+static void register_wait(const bs_command *c, bs_reply reply, bool for_an_instant) {
+  instant *own = &instants[c->txn.slot];
   own->was_granted = false;
-  own->waits = for_an_instant;
-  own->txn = txn;
-  own->node = node;
+  own->waits = requested == NULL && for_an_instant && same_node(reply.node, c->node);
+  own->txn = c->txn;
+  own->node = c->node;
+  if (requested == NULL) return;
+  register_ask(requested, reply.node, reply.mode, requested_by);
+  asks[c->txn.slot].is_instant = for_an_instant;
 }
 
-/* After a lock that was answered so: locks for an instant are released, its own too. */
+/* After a lock that was answered so: others go on, and it is released if it is for an instant. */
 static void release_after(const bs_command *c, bool for_an_instant, bs_reply reply, bs_notices *told) {
-  release_instants(told);
+  settle(told);
   if (!for_an_instant || reply.status != BS_DONE) return;
   release(c->txn, c->node, told);
-  release_instants(told);
+  settle(told);
 }
 
 /* A lock. If it waits, the reply says for which node and mode. */
@@ -181,9 +180,9 @@ static bs_reply lock_node(const bs_command *c, bs_notices *told) {
   one.mode = plain(c->mode);
   reply = command(&one, told);
   if (reply.status == BS_WAITING) {
-    register_wait(c->txn, c->node, for_an_instant);
     reply.node = c->node;
     reply.mode = one.mode;
+    register_wait(c, reply, for_an_instant);
   }
   release_after(c, for_an_instant, reply, told);
   return reply;
@@ -198,8 +197,8 @@ static bs_reply lock_path_in_part(const bs_command *c, bs_notices *told) {
   path.mode = plain(c->mode);
   reply = command(&path, told);
   if (reply.status == BS_WAITING) {
-    register_wait(c->txn, reply.node, for_an_instant && same_node(reply.node, c->node));
     reply.mode = naive_wait_of(&n, c->txn)->mode;
+    register_wait(c, reply, for_an_instant);
   }
   release_after(c, for_an_instant, reply, told);
   return reply;
@@ -216,10 +215,10 @@ static bs_reply lock_path(const bs_command *c, bs_notices *told) {
 static bs_reply lock_row(const bs_command *c, bs_notices *told) {
   bs_reply reply = command(c, told);
   if (reply.status == BS_WAITING) {
-    register_wait(c->txn, reply.node, false);
     reply.mode = c->mode;
+    register_wait(c, reply, false);
   }
-  release_instants(told);
+  settle(told);
   return reply;
 }
 
@@ -252,13 +251,20 @@ static moment earlier(moment one, moment other) {
   return one < other ? one : other;
 }
 
-static void ask_waits_for(ask *own, bs_node at, bs_mode wanted) {
-  bs_txn txn = own->asked.c.txn;
+/* Registers an ask that is left waiting for this. */
+static void register_ask(const call *c, bs_node at, bs_mode wanted, requester *by) {
+  bs_txn txn = c->list[0].c.txn;
   const deadline *last = &deadlines[txn.slot];
+  ask *own = &asks[txn.slot];
+  own->asked = c->list[0];
+  own->limit = c->limit;
+  own->time = earlier(own->limit, last->age == txn.age ? last->time : NO_TIME);
+  own->word = words;
+  own->by = by;
   own->waits = true;
+  own->is_instant = own->holds = false;
   own->at = at;
   own->wanted = wanted;
-  own->time = earlier(own->limit, last->age == txn.age ? last->time : NO_TIME);
 }
 
 /* Rules 4 and 5: the call of the ask answers the end, or the end is to be told. */
@@ -277,29 +283,76 @@ static void end_ask(ask *own, bs_reply reply, uint64_t by) {
   ends[end_count++].depth = depth + 1;
 }
 
-/* Rule 3, of one ask. */
-static void look_at(ask *own) {
-  bs_command c = command_of(&own->asked);
-  bs_reply reply = verdict_of(c.txn, own->at, own->wanted);
-  uint64_t by = ended_by[c.txn.slot];
-  bool is_on_the_way = reply.status == BS_MOVED || (reply.status == BS_DONE && !same_node(own->at, c.node));
-  if (c.kind == BS_DO_LOCK_ROW && reply.status == BS_DONE) reply = lock_row_again(&c, own->at, reply);
-  if (c.kind == BS_DO_LOCK_PATH && is_on_the_way) {
-    reply = lock_path(&c, NULL);
-    by = ++commands;
-    if (reply.status == BS_WAITING) ask_waits_for(own, reply.node, reply.mode);
-  }
-  if (reply.status != BS_WAITING) end_ask(own, reply, by);
+/* An ask holds this node, and goes on with the next command. */
+static void hold(ask *own, bs_node at, bs_mode mode) {
+  own->holds = true;
+  own->at = at;
+  own->wanted = mode;
 }
 
-/* Rule 3, of all. */
-static void settle_asks(void) {
+/* A path requests its next locks. */
+static void go_down(ask *own, const bs_command *c, bs_notices *told) {
+  bs_command path = *c;
+  bs_reply reply;
+  path.mode = plain(c->mode);
+  reply = command(&path, told);
+  if (reply.status == BS_WAITING) {
+    own->at = reply.node;
+    own->wanted = naive_wait_of(&n, c->txn)->mode;
+  } else if (reply.status == BS_ON_THE_WAY) {
+    hold(own, reply.node, BS_NL);
+  } else if (reply.status == BS_DONE && own->is_instant) {
+    hold(own, c->node, reply.mode);
+  } else {
+    end_ask(own, reply, commands);
+  }
+}
+
+/* What became of the wait of an ask: with the node, if it was not granted. */
+static bs_reply became(ask *own, bs_txn txn) {
+  bs_reply reply = own->holds ? only(BS_DONE) : naive_verdict(&n, txn, own->at, own->wanted);
+  if (own->holds) reply.mode = own->wanted;
+  own->holds = false;
+  if (reply.status == BS_VICTIM || reply.status == BS_MOVED || reply.status == BS_GONE) reply.node = own->at;
+  return reply;
+}
+
+/* Rule 2, of one ask. */
+static void continue_ask(ask *own, bs_notices *told) {
+  bs_command c = command_of(&own->asked);
+  uint64_t by = ended_by[c.txn.slot];
+  bs_reply reply = became(own, c.txn);
+  bool is_on_the_way = reply.status == BS_MOVED || (reply.status == BS_DONE && !same_node(own->at, c.node));
+  if (c.kind == BS_DO_LOCK_PATH && is_on_the_way) {
+    go_down(own, &c, told);
+    return;
+  }
+  if (c.kind == BS_DO_LOCK_ROW && reply.status == BS_DONE) {
+    reply.node = own->at;
+    if (command(&c, told).status != BS_DONE) reply.status = BS_OTHER_KEYS;
+  } else if (own->is_instant && reply.status == BS_DONE) {
+    release(c.txn, c.node, told);
+  }
+  end_ask(own, reply, by);
+}
+
+/* Rule 2, of one slot; whether it had a waiter that goes on. */
+static bool goes_on(uint32_t slot, bs_notices *told) {
+  ask *own = &asks[slot];
+  if (own->waits && (own->holds || naive_wait_of(&n, own->asked.c.txn) == NULL)) {
+    continue_ask(own, told);
+    return true;
+  }
+  if (!instants[slot].waits || naive_wait_of(&n, instants[slot].txn) != NULL) return false;
+  end_instant(&instants[slot], told);
+  return true;
+}
+
+/* Rule 2. */
+static void settle(bs_notices *told) {
   uint32_t slot = 0;
   while (slot < n.limits.transactions) {
-    ask *own = &asks[slot++];
-    if (!own->waits || naive_wait_of(&n, own->asked.c.txn) != NULL) continue;
-    look_at(own);
-    slot = 0;
+    if (goes_on(slot++, told)) slot = 0;
   }
 }
 
@@ -314,6 +367,7 @@ static bs_reply try_node(const bs_command *c) {
   one.mode = plain(c->mode);
   reply = command(&one, NULL);
   if (for_an_instant && reply.status == BS_DONE) release(c->txn, c->node, NULL);
+  settle(NULL);
   return reply;
 }
 
@@ -373,7 +427,7 @@ static bs_reply try_row(const bs_command *c) {
  * Calls.
  */
 
-/* Makes a command of any kind, with what it does to locks for an instant. */
+/* Makes a command of any kind, after which others go on. */
 static bs_reply make_command(const bs_command *c, bs_notices *told) {
   bs_reply reply;
   switch (c->kind) {
@@ -381,13 +435,12 @@ static bs_reply make_command(const bs_command *c, bs_notices *told) {
     case BS_DO_LOCK_PATH: return lock_path(c, told);
     case BS_DO_LOCK_ROW: return lock_row(c, told);
     case BS_DO_TRY: return try_node(c);
-    case BS_DO_TRY_PATH: return try_path(c);
-    case BS_DO_TRY_ROW: return try_row(c);
-    default:
-      reply = command(c, told);
-      release_instants(told);
-      return reply;
+    case BS_DO_TRY_PATH: reply = try_path(c); break;
+    case BS_DO_TRY_ROW: reply = try_row(c); break;
+    default: reply = command(c, told); break;
   }
+  settle(told);
+  return reply;
 }
 
 /* The outcome for a command of a list that waited for a node, and whose wait has ended so. A victim of a path or of a
@@ -408,13 +461,11 @@ static void tell_all_but(bs_notices *told, uint32_t slot) {
   told->count = kept;
 }
 
-/* Makes a command of a list: rules 3 and 4. */
+/* Makes a command of a list: rule 4. */
 static bs_reply run_next(const bs_command *c, bs_notices *told) {
   bs_reply reply = make_command(c, told);
   while (reply.status == BS_WAITING) {
-    bs_reply ended;
-    settle_asks();
-    ended = verdict_of(c->txn, reply.node, reply.mode);
+    bs_reply ended = verdict_of(c->txn, reply.node, reply.mode);
     if (ended.status == BS_WAITING) break;
     reply = continue_command(c, reply.node, told, ended);
     tell_all_but(told, c->txn.slot);
@@ -452,16 +503,6 @@ static void try_first(const call *c, outcome *wants) {
   }
 }
 
-/* Registers an ask that is left waiting for what the reply says. */
-static void register_ask(const call *c, bs_reply reply, requester *by) {
-  ask *own = &asks[c->list[0].c.txn.slot];
-  own->asked = c->list[0];
-  own->limit = c->limit;
-  own->word = words;
-  own->by = by;
-  ask_waits_for(own, reply.node, reply.mode);
-}
-
 /* What an ask answers that is left waiting: a path and a row say for which node. */
 static bs_reply waiting_reply(const bs_command *c) {
   bs_reply reply = only(BS_WAITING);
@@ -471,9 +512,11 @@ static bs_reply waiting_reply(const bs_command *c) {
 
 static bs_reply model_ask(const call *c, requester *by) {
   bs_command asked = command_of(&c->list[0]);
-  bs_reply reply = make_command(&asked, NULL);
-  if (reply.status == BS_WAITING) register_ask(c, reply, by);
-  settle_asks();
+  bs_reply reply;
+  requested = c;
+  requested_by = by;
+  reply = make_command(&asked, NULL);
+  requested = NULL;
   if (by->has_ended) return by->end;
   return reply.status == BS_WAITING ? waiting_reply(&asked) : reply;
 }
@@ -483,33 +526,34 @@ static bs_reply model_await(const call *c, requester *by) {
   bs_reply reply = verdict_of(asked->txn, asked->node, asked->mode);
   if (reply.status != BS_WAITING) return reply;
   if (asks[asked->txn.slot].waits) return only(BS_IN_USE);
-  reply.node = asked->node;
-  reply.mode = asked->mode;
-  register_ask(c, reply, by);
-  return only(BS_WAITING);
+  register_ask(c, asked->node, asked->mode, by);
+  asks[asked->txn.slot].is_instant = instants[asked->txn.slot].waits;
+  instants[asked->txn.slot].waits = false;
+  return reply;
 }
 
-/* Cancels each wait of an ask whose time is over, by rising slots; whether there is one. */
-static bool cancel_late_waits(void) {
-  bool is_any = false;
+/* Cancels the wait of the ask of the lowest slot whose time is over; whether there is one. */
+static bool cancel_late_wait(void) {
   uint32_t slot;
   for (slot = 0; slot < n.limits.transactions; slot++) {
     ask *own = &asks[slot];
     bs_command cancel = bs_do(BS_DO_CANCEL, own->asked.c.txn);
+    bs_reply end = only(BS_TIMED_OUT);
     if (!own->waits || own->time < FIRST_PAST || own->time >= FIRST_FAR) continue;
-    make_command(&cancel, NULL);
-    end_ask(own, only(BS_TIMED_OUT), ++commands);
-    settle_asks();
-    is_any = true;
+    end.node = own->at;
+    command(&cancel, NULL);
+    end_ask(own, end, ++commands);
+    settle(NULL);
+    return true;
   }
-  return is_any;
+  return false;
 }
 
 /* Rule 6. */
 static bs_reply model_expire(outcome *wants) {
   bs_reply reply = only(BS_DONE);
   uint32_t slot;
-  while (cancel_late_waits()) continue;
+  while (cancel_late_wait()) continue;
   for (slot = 0; slot < n.limits.transactions; slot++) {
     if (!asks[slot].waits || asks[slot].time == NO_TIME) continue;
     wants->next = earlier(wants->next, asks[slot].time);
@@ -540,7 +584,6 @@ static void model_open_call(const call *c, outcome *wants, requester *by) {
     case RUN: run_list(c, wants); break;
     default: try_first(c, wants);
   }
-  settle_asks();
 }
 
 /* Makes a call in the model. */

@@ -698,7 +698,8 @@ static bool grants_behind_the_time(long microseconds) {
   if (m != NULL) {
     while (!is_over(&until)) nap();
     nap();
-    DONE(bs_commit(m, a, &told)); /* Nobody is woken for it. */
+    DONE(bs_commit(m, a, &told));
+    table_wake_told(table, &told);
     bs_table_let_go(table);
   }
   WANT(back(&one, m == NULL ? BS_TIMED_OUT : BS_DONE).mode == (m == NULL ? BS_NL : BS_X));
@@ -1222,7 +1223,7 @@ static void a_path_moves(void) {
   close_table();
 }
 
-/* A cancel after a lock on the way was granted, and before its sleeper is awake, is not lost: the path ends. */
+/* A path that was granted a lock on its way waits for the next before its sleeper is awake: a cancel ends it there. */
 static void a_path_is_cancelled_on_its_way(void) {
   struct requester one;
   bs_command list[3];
@@ -1233,11 +1234,10 @@ static void a_path_is_cancelled_on_its_way(void) {
   DONE(bs_table_lock(table, a, root, BS_S, NULL));
   send_by_path(&one, b, low, BS_X);
   list[0] = bs_do(BS_DO_COMMIT, a), list[1] = bs_do(BS_DO_CANCEL, b), list[2] = bs_do(BS_DO_CANCEL, b);
-  WANT(bs_table_run(table, list, 3) == 3);
+  WANT(bs_table_run(table, list, 3) == 2 && list[2].reply.status == BS_NOT_WAITING);
   back(&one, BS_NOT_WAITING);
   WANT(one.reply.mode == BS_NL);
-  holds(b, root, BS_IX), holds(b, file, BS_NL);
-  ANSWERS(BS_NOT_WAITING, bs_table_cancel(table, b, NULL));
+  holds(b, root, BS_IX), holds(b, file, BS_IX), holds(b, low, BS_NL);
   DONE(bs_table_commit(table, b, NULL));
   close_table();
 }
@@ -1257,7 +1257,7 @@ static void a_path_is_cancelled_at_its_end(void) {
   close_table();
 }
 
-/* The record of a path has moved, and its sleeper would begin the path again. */
+/* The record of a path has moved, and the path waits for it again. */
 static void a_path_that_moved_is_cancelled(void) {
   struct requester one;
   bs_command list[2];

@@ -218,7 +218,7 @@ static void a_deadline_set_meanwhile_is_of_later_waits(void) {
 }
 
 /* A path that waits twice keeps its time, be it the call's or the transaction's: its first wait is granted, though the
- * time is over by then, and its second ends at that time. */
+ * time is over by then, and its second ends at that time. It sleeps once. */
 static void a_path_keeps_its_time_on_its_way(void) {
   struct timespec past = moment_in(0);
   struct sleeper one;
@@ -239,7 +239,7 @@ static void a_path_keeps_its_time_on_its_way(void) {
     DONE(bs_table_commit(table, reader, NULL));
     set_held_up(&one, false);
     BACK(&one, BS_TIMED_OUT);
-    WANT(one.sleeps == 2 && same_time(one.slept_to, past));
+    WANT(one.sleeps == 1 && same_time(one.slept_to, past));
     holds(waiter, below, BS_IX), holds(waiter, low, BS_NL);
     DONE(bs_table_commit(table, waiter, NULL));
   }
@@ -317,8 +317,8 @@ static bs_txn begin_reader(void) {
   return reader;
 }
 
-/* The next transaction of the slot sleeps on a path. Whenever the late sleeper returns, a cancel ends that path. */
-static void the_next_path_is_cancelled(bool is_late) {
+/* The next transaction of the slot sleeps on a path. Whenever the late sleeper returns, that path goes on. */
+static void the_next_path_goes_on(bool is_late) {
   struct sleeper late, one;
   bs_command list[2];
   bs_txn reader, next;
@@ -328,18 +328,16 @@ static void the_next_path_is_cancelled(bool is_late) {
   send(&one, BY_PATH, next, low, BS_X);
   if (!is_late) set_held_up(&late, false), BACK(&late, BS_NO_SUCH_TXN);
   list[0] = bs_do(BS_DO_COMMIT, reader), list[1] = bs_do(BS_DO_CANCEL, next);
-  WANT(bs_table_run(table, list, 2) == 2);
-  BACK(&one, BS_NOT_WAITING);
-  holds(next, root, BS_IX), holds(next, file, BS_NL);
+  WANT(bs_table_run(table, list, 2) == 1 && list[1].reply.status == BS_NOT_WAITING);
+  BACK(&one, BS_DONE);
+  holds(next, root, BS_IX), holds(next, low, BS_X);
   if (is_late) set_held_up(&late, false), BACK(&late, BS_NO_SUCH_TXN);
-  ANSWERS(BS_NOT_WAITING, bs_table_cancel(table, next, NULL));
-  DONE(bs_table_lock_path(table, next, low, BS_X, NULL));
   close_table();
 }
 
 static void a_late_sleeper_and_the_next_path(void) {
-  the_next_path_is_cancelled(false);
-  the_next_path_is_cancelled(true);
+  the_next_path_goes_on(false);
+  the_next_path_goes_on(true);
 }
 
 /* The next transaction of the slot was granted a lock, on no path: there is nothing to cancel. */
