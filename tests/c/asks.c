@@ -1164,6 +1164,24 @@ static void a_list_is_left_waiting(void) {
   close_table();
 }
 
+/* The same of a lock for an instant, which nobody holds after its end. */
+static void an_instant_of_a_list_is_awaited(void) {
+  struct heard h;
+  bs_command command;
+  bs_txn a, b;
+  set_up(BS_AT_BLOCK);
+  a = begin(), b = begin();
+  DONE(bs_table_lock(table, a, root, BS_X, NULL));
+  command = bs_do_at(BS_DO_LOCK, b, root, BS_S | BS_INSTANT);
+  WANT(bs_table_run(table, &command, 1) == 0);
+  h = nothing_heard(b);
+  WAITS(bs_table_ask_await(table, b, root, command.reply.mode, NULL, &h));
+  DONE(bs_table_commit(table, a, NULL));
+  WANT(HEARD_BY_NOW(&h, BS_DONE).mode == BS_S);
+  holds(b, root, BS_NL);
+  close_table();
+}
+
 /* A thread sleeps for a lock, and an ask for the same one is after it in the queue: each has its own end. */
 static void *sleeps(void *arg) {
   bs_txn t = *(bs_txn *)arg;
@@ -1711,6 +1729,7 @@ int main(int count, char **words) {
   TELL(an_end_with_asks);
   TELL(an_end_waits_for_a_call);
   TELL(a_list_is_left_waiting);
+  TELL(an_instant_of_a_list_is_awaited);
   TELL(a_sleeper_and_an_ask);
   TELL(a_commit_wakes_and_tells);
   TELL(asks_and_commits);
