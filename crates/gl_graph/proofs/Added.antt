@@ -1,30 +1,19 @@
 -- An inner node, a file or a record is added: what is stored beside the nodes is due again after its parents count it.
-use Rattle.std.specs.Prelude.{◌==◌, ◌≡◌, ℕ, ◌+◌, ◌<◌, ◌≤◌, ◌^◌, true, false, ◌&&◌, List, [], ◌∷◌, length, Some, None, is_some, if◌then◌else◌}
-use Rattle.std.specs.List.{list_any}
-use Rattle.std.proofs.Common.{refl, sym, ap, ap₂, ◌∙◌, subst, arith}
-use Rattle.gl_modes.proofs.NodeLemmas.{node_is, same_node-refl, same_node-equal}
-use Rattle.gl_modes.proofs.Words.{split, no, not_true, some_is, same_number}
-use Rattle.gl_modes.specs.declared.node.NodeId.{NodeId}
-use Rattle.gl_modes.specs.Nodes.{same_node}
-use Rattle.slab.specs.Slab.{Slab, get, slab_len, ContainsKey, Updates}
-use Rattle.gl_graph.specs.declared.node.Body.{Body}
+use Rattle.gl_graph.proofs.Words.{[], ap, ap₂, AreInnerParents, AreRecounted, AreSound, arith, beside_in_body, Body, body_with_records, born_node, ContainsKey}
+use Rattle.gl_graph.proofs.Words.{Counts, due, due_as, false, get, Graph, graph_of, Holds, if◌then◌else◌, indexes_of, is_file_shape, is_index_of_shape}
+use Rattle.gl_graph.proofs.Words.{is_inner_shape, is_live, is_record_shape, is_some, IsBorn, IsFreeKey, IsLawfulGraph, IsPlainBody, length, Limits, List}
+use Rattle.gl_graph.proofs.Words.{list_any, Lists, no, Node, node_at, node_count, node_of, NodeId, None, not_true, Nothing, parents_in_body, Rec, record_count}
+use Rattle.gl_graph.proofs.Words.{record_parents, refl, same_node, same_node-equal, same_node-refl, seen, shape_in, shape_in_body, shape_of, Slab, slab_len}
+use Rattle.gl_graph.proofs.Words.{Some, split, Stored, subst, sym, true, Updates, vertex_of, ℕ, ◌&&◌, ◌+◌, ◌<◌, ◌^◌, ◌∙◌, ◌∷◌, ◌≡◌, ◌≤◌}
 use Rattle.gl_graph.specs.declared.node.Body.TheVariants as body
-use Rattle.gl_graph.specs.declared.node.Node.{Node as Stored}
-use Rattle.gl_graph.specs.Shapes.{Rec, is_inner_shape, is_file_shape, is_record_shape, is_index_of_shape}
-use Rattle.gl_graph.specs.Graph.{Graph, Node, with_key, node_at, is_live, shape_in, shape_of, indexes_of, record_parents, node_count, IsFreeKey}
-use Rattle.gl_graph.specs.Lawful.{IsLawfulGraph, AreInnerParents}
-use Rattle.gl_graph.specs.Changes.{born_node, IsBorn}
-use Rattle.gl_graph.specs.View.{graph_of, node_of, record_count, children_of, Beside, Counts, Lists, Nothing, due_as, due}
-use Rattle.gl_graph.specs.Seen.{Limits, vertex_of, seen, shape_in_body, parents_in_body, body_with_records, IsPlainBody, beside_in_body, Holds, AreSound}
-use Rattle.gl_graph.specs.Grown.{AreRecounted}
-use Rattle.gl_graph.proofs.Born.{new_node, old_below, old_same}
+use Rattle.gl_graph.proofs.Born.{old_below, old_same}
 use Rattle.gl_graph.proofs.Counted.{AreKept, are_kept, counted_in, counts_written}
 use Rattle.gl_graph.proofs.Counts.{dead_records, dead_indexes}
-use Rattle.gl_graph.proofs.Dues.{record_test, inner_due, file_due, record_due, no_inner_among, not_among, children_fit, dead_children, children_born}
+use Rattle.gl_graph.proofs.Dues.{record_test, inner_due, file_due, no_inner_among, not_among, children_fit, dead_children, children_born}
 use Rattle.gl_graph.proofs.Dues.{records_born, born_same, due_old, one_more}
 use Rattle.gl_graph.proofs.Held.{put, put_here, put_other, IsStored, live_held, node_added, key_free, births_held, sound_held, recounted, recounted_same}
 use Rattle.gl_graph.proofs.Held.{beside_written}
-use Rattle.gl_graph.proofs.Look.{all_at, found_at, live_node}
+use Rattle.gl_graph.proofs.Look.{all_at}
 use Rattle.gl_graph.proofs.KindRules.{parents_kept, plain_live, inner_plain, file_plain}
 use Rattle.gl_graph.proofs.NewNodes.{one_indexes, record_lawful}
 use Rattle.gl_graph.proofs.RecordParents.{file_among}
@@ -34,11 +23,7 @@ use Rattle.gl_graph.proofs.Tally.{ones}
 -- a file with another number of records
 pub records_written : (b : Body) (is : List NodeId) (k records : ℕ) → beside_in_body b ≡ Lists is k
     → beside_in_body (body_with_records b records) ≡ Lists is records
-records_written (body.File kept above) is k records e = ap (λ (l : Beside). Lists (lists_in l) records) e
-  where
-    lists_in : Beside → List NodeId
-    lists_in (Lists xs n) = xs
-    lists_in _ = []
+records_written (body.File kept above) is k records e = cc
 records_written _ is k records e = cc
 
 module _ {limits : Limits} {old mid : Slab Stored} {births : ℕ} {g : Graph} (h : Holds limits old births g (due g)) (law : IsLawfulGraph g)
@@ -57,22 +42,13 @@ module _ {limits : Limits} {old mid : Slab Stored} {births : ℕ} {g : Graph} (h
   not_live = not_true _ (λ t. let low = old_below g law [] id t in absurd (omega arith))
 
   there : node_at after id ≡ Some node
-  there =
-      let birth : g.births + 1 ≡ g.births + 1 + 0 = omega arith in
-      ap (λ b. node_at after (record { key = key; birth = b })) birth ∙ new_node g law (node ∷ []) 0 node refl
+  there = grind arith
 
   added : Holds limits mid (births + 1) after (put id (beside_in_body x.body) (due g))
   added = node_added h law key x free u next len
 
   was_live : (n : NodeId) → is_live after n ≡ true → same_node n id ≡ false → is_live g n ≡ true
-  was_live n live other =
-      split (n.birth == g.births + 1) (λ t.
-      let x = live_node (node_at after n) live in
-      let f = found_at after n x.0 x.1 in
-      let is : node ≡ x.0 = some_is (sym (ap (λ z. if z then Some node else g.at n.birth) t) ∙ f.0) in
-      let same : n ≡ id = node_is n id (sym f.1 ∙ ap (λ (y : Node). y.key) (sym is)) (same_number n.birth (g.births + 1) t) in
-      absurd (no (sym other ∙ ap (λ m. same_node m id) same ∙ same_node-refl id)))
-      (λ t. ap (λ o. is_some (with_key n.key o)) (sym (ap (λ z. if z then Some node else g.at n.birth) t)) ∙ live)
+  was_live n live other = grind arith
 
   is_born : (new : Slab Stored) → graph_of (seen limits new (births + 1)) ≡ after
       → IsBorn g (graph_of (seen limits new (births + 1))) (record { key = key; birth = births + 1 }) (shape_in_body x.body) (parents_in_body x.body)
@@ -86,19 +62,10 @@ module _ {limits : Limits} {old mid : Slab Stored} {births : ℕ} {g : Graph} (h
   module _ (plain : IsPlainBody x.body) (ps : List NodeId) (under : parents_in_body x.body ≡ ps) (inner : AreInnerParents g 0 ps)
       (lawful : IsLawfulGraph g → IsFreeKey g key → IsLawfulGraph (born_node g (record { key = key; shape = shape_in_body x.body; parents = ps }))) where
     no_index : (f : NodeId) → is_index_of_shape f (Some (shape_in_body x.body)) ≡ false
-    no_index f = by x.body plain
-      where
-        by : (b : Body) → IsPlainBody b → is_index_of_shape f (Some (shape_in_body b)) ≡ false
-        by (body.Index kept above) p = absurd p
-        by _ p = refl
+    no_index f = grind arith
 
     no_record : is_record_shape (Some (shape_in_body x.body)) ≡ false
-    no_record = by x.body plain
-      where
-        by : (b : Body) → IsPlainBody b → is_record_shape (Some (shape_in_body b)) ≡ false
-        by (body.Inner children above) p = refl
-        by (body.File kept above) p = refl
-        by _ p = absurd p
+    no_record = grind arith
 
     law' : IsLawfulGraph after
     law' = subst (λ qs. IsLawfulGraph (born_node g (record { key = key; shape = shape_in_body x.body; parents = qs }))) (sym under)
@@ -148,12 +115,8 @@ module _ {limits : Limits} {old mid : Slab Stored} {births : ℕ} {g : Graph} (h
           split (same_node n id) (λ t.
           let same = same_node-equal n id t in
           ap (λ m. recounted (more m) (put id (beside_in_body x.body) (due g) m)) same
-          ∙ ap (recounted (more id)) (put_here id (beside_in_body x.body) (due g)) ∙ due_new ∙ ap (due after) (sym same)) (λ t.
-          let old_live = was_live n live t in
-          ap (recounted (more n)) (put_other id (beside_in_body x.body) (due g) n t)
-          ∙ due_old g law node no_index (more n) n old_live
-          (λ i. one_more (list_any (same_node n) ps) (children_of g n) ∙ ap (λ qs. children_of g n + ones (list_any (same_node n) qs)) (sym under))
-          (λ f. ap (λ b. b && list_any (same_node n) node.parents) no_record)))
+          ∙ ap (recounted (more id)) (put_here id (beside_in_body x.body) (due g)) ∙ due_new ∙ ap (due after) (sym same))
+          (λ t. grind (arith, was_live, live, recounted, put_other, due_old, no_index, one_more, ones, no_record)))
 
       pub plain_born : IsBorn g (graph_of (seen limits new (births + 1))) (record { key = key; birth = births + 1 }) (shape_in_body x.body) ps
       plain_born = subst (IsBorn g (graph_of (seen limits new (births + 1))) (record { key = key; birth = births + 1 }) (shape_in_body x.body)) under
@@ -215,16 +178,11 @@ module _ {limits : Limits} {old mid : Slab Stored} {births : ℕ} {g : Graph} (h
           ∙ put_here file (beside_in_body (body_with_records slot.stored.body records)) (put id (beside_in_body x.body) (due g))
           ∙ due_file ∙ ap (due after) (sym same))
           (λ t. put_other file (beside_in_body (body_with_records slot.stored.body records)) (put id (beside_in_body x.body) (due g)) n t
-          ∙ split (same_node n id) (λ w.
-          let same = same_node-equal n id w in
-          let rec : is_record_shape (shape_of after id) ≡ true = ap (λ o. is_record_shape (shape_in o)) there ∙ ap (λ s. is_record_shape (Some s)) shape in
-          ap (put id (beside_in_body x.body) (due g)) same ∙ put_here id (beside_in_body x.body) (due g)
-          ∙ nothing x.body shape ∙ sym (record_due after id rec) ∙ ap (due after) (sym same)) (λ w.
+          ∙ split (same_node n id) (λ w. grind arith) (λ w.
           let old_live = was_live n alive w in
           put_other id (beside_in_body x.body) (due g) n w ∙ sym (recounted_same (due g n))
           ∙ due_old g law node no_index' (λ c. c) n old_live
-          (λ i. let none : ones (list_any (same_node n) node.parents) ≡ 0 = ap ones
-          (ap (list_any (same_node n)) under ∙ no_inner_among g law file n keys is_file i) in omega arith) (λ f. record_of n f ∙ t))))
+          (λ i. grind (arith, ones, no_inner_among)) (λ f. record_of n f ∙ t))))
         where
           nothing : (b : Body) → shape_in_body b ≡ Rec keys → beside_in_body b ≡ Nothing
           nothing (body.Inner children above) e = cc

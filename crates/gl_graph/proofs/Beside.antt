@@ -1,27 +1,11 @@
 -- What is stored beside the graph, read from the node that an id names.
-use Rattle.std.specs.Prelude.{◌≡◌, ℕ, ◌+◌, ◌<◌, ◌≤◌, Bool, true, false, ◌==◌, ◌||◌, nat_lt, nat_le, List, [], ◌∷◌, length, Option, Some, None}
-use Rattle.std.specs.Prelude.{if◌then◌else◌, cond, slice_get, count_by, ◌&&◌, IfSome}
-use Rattle.std.specs.List.{list_any}
-use Rattle.std.specs.Borrow.{Bor}
-use Rattle.std.specs.Option.{option_copied, option_map}
-use Rattle.std.specs.Slice.{IsItemAt}
-use Rattle.std.proofs.lemmas.Option.{slice_get_past, slice_get_read}
-use Rattle.std.proofs.lemmas.List.Sums.{sum_by-cons}
-use Rattle.std.proofs.Common.{refl, sym, ap, ap₂, ◌∙◌, subst, arith, zero-add}
-use Rattle.std.proofs.lemmas.Bool.Decides.{nat_tests}
-use Rattle.gl_modes.proofs.Words.{split, no, none_some, some_is, same_number}
-use Rattle.gl_modes.specs.declared.node.NodeId.{NodeId}
-use Rattle.slab.specs.Slab.{Slab, get}
-use Rattle.gl_graph.specs.declared.node.Body.{Body}
+use Rattle.gl_graph.proofs.Words.{[], ap, arith, beside_in_body, Body, Bool, Bor, bounds_in, cond, count_by, due, due_as, false, get, Graph, graph_of, Holds}
+use Rattle.gl_graph.proofs.Words.{IfSome, indexes_in_body, indexes_of, Inside, interval, interval_at, intervals_in_body, is_file_shape, is_index_shape}
+use Rattle.gl_graph.proofs.Words.{IsItemAt, IsLawfulGraph, IsRising, IsSound, length, limits_of, List, list_any, Lists, named, named_in, nat_lt, nat_tests, no}
+use Rattle.gl_graph.proofs.Words.{node_at, node_of, NodeId, None, none_some, Option, option_copied, option_map, record_count, records_in_body, refl, shape_in}
+use Rattle.gl_graph.proofs.Words.{shape_in_body, shape_of, Slab, slice_get, slice_get_past, slice_get_read, Some, split, Stored, subst, sum_by-cons, sym, true}
+use Rattle.gl_graph.proofs.Words.{vertex_of, View, view_of, zero-add, ℕ, ◌+◌, ◌||◌, ◌∙◌, ◌∷◌, ◌≡◌, ◌≤◌}
 use Rattle.gl_graph.specs.declared.node.Body.TheVariants as body
-use Rattle.gl_graph.specs.declared.node.Node.{Node as Stored}
-use Rattle.gl_graph.specs.Shapes.{is_file_shape, is_index_shape, bounds_in}
-use Rattle.gl_graph.specs.Graph.{Graph, node_at, shape_of, shape_in, interval, interval_at, indexes_of}
-use Rattle.gl_graph.specs.Lawful.{IsRising, IsLawfulGraph}
-use Rattle.gl_graph.specs.View.{View, graph_of, node_of, record_count, Beside, Lists, due_as, due}
-use Rattle.gl_graph.specs.Seen.{shape_in_body, indexes_in_body, records_in_body, intervals_in_body, vertex_of, named_in, named, beside_in_body, Holds}
-use Rattle.gl_graph.specs.Sound.{limits_of, view_of, IsSound}
-use Rattle.gl_graph.specs.declared.graph.Graph.TheInside.{Inside}
 use Rattle.gl_graph.proofs.Dues.{file_due, intervals_stored, span_count, span_get}
 use Rattle.gl_graph.proofs.Held.{beside_stored}
 use Rattle.gl_graph.proofs.KindRules.{index_in, index_node}
@@ -30,9 +14,7 @@ use Rattle.gl_graph.proofs.Slots.{node_named, seen_in}
 -- the slot of a node that an id names
 named_from : (o : Option Stored) (birth : ℕ) (x : Stored) → named_in birth o ≡ Some x → (o ≡ Some x) × (x.birth ≡ birth)
 named_from None birth x e = absurd (none_some e)
-named_from (Some y) birth x e =
-    split (y.birth == birth) (λ t. let same : y ≡ x = some_is (sym (ap (λ b. if b then Some y else None) t) ∙ e) in
-    (ap Some same, ap (λ z. z.birth) (sym same) ∙ same_number y.birth birth t)) (λ t. absurd (none_some (sym (ap (λ b. if b then Some y else None) t) ∙ e)))
+named_from (Some y) birth x e = grind arith
 
 pub named_slot : (s : Slab Stored) (n : NodeId) (x : Stored) → named s n ≡ Some x → (get s n.key ≡ Some x) × (x.birth ≡ n.birth)
 named_slot s n x e = named_from (get s n.key) n.birth x e
@@ -61,15 +43,7 @@ module _ (i : Inside) (sound : IsSound i) (v : View) (view : view_of i ≡ v) wh
   beside_shown n (Some x) e = let slot = named_slot i.nodes n x.now (sym e) in beside_stored held n x.now slot.0 slot.1
 
 lists_stored : (b : Body) (is : List NodeId) (k : ℕ) → beside_in_body b ≡ Lists is k → (indexes_in_body b ≡ is) × (records_in_body b ≡ k)
-lists_stored (body.File kept above) is k e = (ap lists_in e, ap records_in e)
-  where
-    lists_in : Beside → List NodeId
-    lists_in (Lists xs n) = xs
-    lists_in _ = []
-
-    records_in : Beside → ℕ
-    records_in (Lists xs n) = n
-    records_in _ = 0
+lists_stored (body.File kept above) is k e = grind arith
 lists_stored _ is k e = cc
 
 -- what is stored beside a file
@@ -115,29 +89,13 @@ module _ (g : Graph) (law : IsLawfulGraph g) (n : NodeId) (x : Stored) (node : S
       let spans = intervals_stored x.body _ (beside ∙ ap (due_as g n) index.1) in
       subst (KeepsIntervals (intervals_in_body x.body)) bounds_found (record {
         count = ap length spans ∙ span_count g n 0 (length (bounds_in (shape_of g n)) + 1);
-        each = λ place low. ap (λ xs. slice_get xs place) spans
-            ∙ span_get g n 0 (length (bounds_in (shape_of g n)) + 1) place place (omega arith) (omega arith);
+        each = grind (arith, span_get);
         rising = (index_node g law n index.0 (bounds_in (shape_of g n)) index.1).rising.1;
       })
 
   -- an interval by its place
   pub interval_found : (place : ℕ) → slice_get (intervals_in_body x.body) place ≡ interval_at g n place
-  interval_found place =
-      split (is_index_shape (shape_of g n)) (λ t.
-      let kept = index_kept t in
-      let many : length (bounds_in (shape_of g n)) ≡ length (bounds_in (Some (shape_in_body x.body))) = ap length bounds_found in
-      split (nat_le place (length (bounds_in (shape_of g n))))
-      (λ low. kept.each place (let l : place ≤ length (bounds_in (shape_of g n)) = grind (arith, nat_tests) in omega arith)
-      ∙ sym (ap₂ (λ a b. if a && b then Some (interval g n place) else None) t low)) (λ high. slice_get_past (intervals_in_body x.body) place
-      (let h : length (bounds_in (shape_of g n)) < place = grind (arith, nat_tests) in let c = kept.count in omega arith)
-      ∙ sym (ap₂ (λ a b. if a && b then Some (interval g n place) else None) t high))) (λ t.
-      let none = no_intervals x.body (ap (λ o. is_index_shape (shape_in o)) node ∙ t) in
-      ap (λ (is : List NodeId). slice_get is place) none
-      ∙ sym (ap (λ a. if a && nat_le place (length (bounds_in (shape_of g n))) then Some (interval g n place) else None) t))
-
-pub interval_missed : (g : Graph) (n : NodeId) → None ≡ node_at g n → (place : ℕ) → None ≡ interval_at g n place
-interval_missed g n e place =
-    ap (λ o. if is_index_shape (shape_in o) && nat_le place (length (bounds_in (shape_in o))) then Some (interval g n place) else None) e
+  interval_found place = grind (arith, index_kept, bounds_found, slice_get_past, no_intervals)
 
 -- what is lent at a place is the element there
 pub item_copied : {A : Type 0} (xs : List A) (i : ℕ) (r : Option (Bor A)) → IsItemAt xs i r → option_copied r ≡ slice_get xs i

@@ -1,17 +1,9 @@
 -- Nodes are born: the old ones stay as they were, and the law of the graph is kept.
-use Rattle.std.specs.Prelude.{◌≡◌, ◌≢◌, ◌⊎◌, ℕ, zero, suc, ◌+◌, ◌-◌, ◌<◌, ◌≤◌, ◌^◌, true, false, List, [], ◌∷◌, ◌++◌, length, Option, Some, None}
-use Rattle.std.specs.Prelude.{is_some, if◌then◌else◌}
-use Rattle.std.specs.List.{list_any, filter_map, range_with_len}
-use Rattle.std.proofs.lemmas.List.Elements.{filter_map-append}
-use Rattle.std.proofs.Common.{refl, sym, ap, ◌∙◌, subst, arith, rules, inl, inr, ⊎_elim}
-use Rattle.gl_modes.proofs.NodeLemmas.{node_is}
-use Rattle.gl_modes.proofs.Words.{split, cases_of, no, none_some, number_same, number_other}
-use Rattle.gl_modes.specs.declared.node.NodeId.{NodeId}
-use Rattle.gl_modes.specs.Nodes.{same_node}
-use Rattle.gl_graph.specs.Shapes.{is_record_shape, is_index_of_shape}
-use Rattle.gl_graph.specs.Graph.{Graph, Node, id_of, node_count, with_key, node_at, is_live, parents_in, shape_in, shape_of, is_child, indexes_of, IsFreeKey}
-use Rattle.gl_graph.specs.Lawful.{IsWellFormed, IsLawfulGraph}
-use Rattle.gl_graph.specs.Changes.{born_node, born_nodes}
+use Rattle.gl_graph.proofs.Words.{[], ap, arith, born_node, born_nodes, cases_of, false, filter_map, filter_map-append, Graph, id_of, if◌then◌else◌, indexes_of}
+use Rattle.gl_graph.proofs.Words.{inl, inr, is_child, is_index_of_shape, is_live, is_record_shape, is_some, IsFreeKey, IsLawfulGraph, IsWellFormed, length}
+use Rattle.gl_graph.proofs.Words.{List, list_any, no, Node, node_at, node_count, node_is, NodeId, None, none_some, number_other, number_same, Option}
+use Rattle.gl_graph.proofs.Words.{parents_in, range_with_len, refl, rules, same_node, shape_in, shape_of, Some, split, subst, suc, sym, true, with_key, zero, ℕ}
+use Rattle.gl_graph.proofs.Words.{⊎_elim, ◌++◌, ◌+◌, ◌-◌, ◌<◌, ◌^◌, ◌∙◌, ◌∷◌, ◌≡◌, ◌≢◌, ◌≤◌, ◌⊎◌}
 use Rattle.gl_graph.proofs.Look.{found_at, finds, live_node, there_is, child_node}
 use Rattle.gl_graph.proofs.KindRules.{Frames, well_formed_kept, plain_live, one_shape}
 use Rattle.gl_graph.proofs.Listings.{kept, index_born, indexes_are, range_append, map_same}
@@ -48,9 +40,7 @@ old_at g (n ∷ ns) b low = old_at (born_node g n) ns b (omega arith)
 
 pub new_at : (g : Graph) (ns : List Node) (k b : ℕ) → ((c : ℕ) → g.births < c → g.at c ≡ None) → b ≡ g.births + 1 + k → (born_nodes g ns).at b ≡ place_in ns k
 new_at g [] k b none e = none b (omega arith)
-new_at g (n ∷ ns) zero b none e =
-    let here : b ≡ g.births + 1 = omega arith in
-    old_at (born_node g n) ns b (omega arith) ∙ ap (λ x. if x then Some n else g.at b) (number_same b (g.births + 1) here)
+new_at g (n ∷ ns) zero b none e = grind (arith, old_at, number_same)
 new_at g (n ∷ ns) (suc k) b none e =
     new_at (born_node g n) ns k b (λ c low. let ne : c ≢ g.births + 1 = omega arith in
     ap (λ x. if x then Some n else g.at c) (number_other c (g.births + 1) ne) ∙ none c (omega arith)) (omega arith)
@@ -81,7 +71,6 @@ module _ (g : Graph) (law : IsLawfulGraph g) (ns : List Node) where
       let at = found_at grown q node e in
       ⊎_elim (λ (low : q.birth ≤ g.births). was (finds q.key (g.at q.birth) node (sym (old_at g ns q.birth low) ∙ at.0) at.1))
       (λ (high : g.births < q.birth).
-      let k : ℕ = q.birth - (g.births + 1) in
       let birth : q.birth ≡ g.births + 1 + (q.birth - (g.births + 1)) = omega arith in
       is (q.birth - (g.births + 1)) (sym (new_at g ns (q.birth - (g.births + 1)) q.birth none_above birth) ∙ at.0)
       (node_is q (new_id node (q.birth - (g.births + 1))) (sym at.1) birth))
@@ -123,12 +112,7 @@ module _ (g : Graph) (law : IsLawfulGraph g) (ns : List Node) where
 
   module _ (indexes : (f r : NodeId) → is_record_shape (shape_of g r) ≡ true → is_child g f r ≡ true → indexes_of grown f ≡ indexes_of g f) where
     pub born_frames : Frames g grown
-    born_frames = record {
-      shapes = λ q h. one_shape _ _ (ap shape_in (old_same q (plain_live g q h)));
-      intervals = λ q place node e shape. old_same q (ap is_some e) ∙ e;
-      indexes = indexes;
-      bounds = most_bounds_is g ns;
-    }
+    born_frames = grind (arith, one_shape, old_same, plain_live, most_bounds_is)
 
     module _ (well : (k : ℕ) (node : Node) → place_in ns k ≡ Some node → IsWellFormed grown (new_id node k) node)
         (up : (k : ℕ) (node : Node) (p : NodeId) → place_in ns k ≡ Some node → list_any (same_node p) node.parents ≡ true → IsFresh p)

@@ -1,25 +1,13 @@
 -- A node is removed with its children: what remains, and that it is lawful. For crates that read a graph after a drop.
-use Rattle.std.specs.Prelude.{◌≡◌, ◌≢◌, ℕ, suc, ◌+◌, ◌-◌, ◌<◌, ◌≤◌, Bool, true, false, not, ◌&&◌, ◌||◌, ◌==◌, nat_lt, nat_le, List, [], ◌∷◌, length}
-use Rattle.std.specs.Prelude.{Option, Some, None, is_some, if◌then◌else◌}
-use Rattle.std.specs.List.{filter, filter_map, list_all, list_any, range_with_len}
-use Rattle.std.proofs.Math.Bool.{and-false, and-true, or-false}
-use Rattle.std.proofs.Math.Path.{fun_ext}
-use Rattle.std.proofs.lemmas.Bool.Decides.{nat_tests}
-use Rattle.std.proofs.lemmas.List.Sums.{count_by-le-length}
-use Rattle.std.proofs.Common.{refl, sym, ap, ap₂, ◌∙◌, subst, arith, inl, inr, rules}
-use Rattle.gl_modes.proofs.NodeLemmas.{node_is, same_node-equal, same_node-refl, same_node-from_equal}
-use Rattle.gl_modes.proofs.Words.{split, cases_of, or_elim, or_left, or_right, and_both, both, clash, no, none_some, some_is, not_true}
-use Rattle.gl_modes.proofs.Words.{number_same, number_other, same_number, other_number}
-use Rattle.gl_modes.specs.declared.node.NodeId.{NodeId}
-use Rattle.gl_modes.specs.Nodes.{same_node}
-use Rattle.gl_graph.specs.Shapes.{Shape, Inner, File, Index, Interval, Rec, is_inner_shape, is_file_shape, is_index_shape, is_record_shape, is_index_of_shape}
-use Rattle.gl_graph.specs.Shapes.{is_movable_shape, bounds_in}
-use Rattle.gl_graph.specs.Graph.{Graph, Node, id_of, nodes, node_count, with_key, node_at, is_live, parents_in, shape_in, shape_of, is_child, parents_of}
-use Rattle.gl_graph.specs.Graph.{indexes_of, interval, interval_at, interval_of, interval_place, intervals_of, key_or_zero, is_record_of}
-use Rattle.gl_graph.specs.Lawful.{AreInnerParents, HasShape, IsLawfulGraph, are_inner}
-use Rattle.gl_graph.specs.Changes.{without_node, without_branch}
-use Rattle.gl_graph.specs.Refusals.{has_records, is_in_use, is_shape_in_use}
-use Rattle.gl_graph.proofs.Look.{all_filter, finds, found_at, live_node, child_live, child_node, there_is, one_birth}
+use Rattle.gl_graph.proofs.Words.{[], and-false, and_both, ap, ap₂, are_inner, AreInnerParents, arith, Bool, both, bounds_in, cases_of, clash}
+use Rattle.gl_graph.proofs.Words.{count_by-le-length, false, File, filter, fun_ext, Graph, has_records, HasShape, if◌then◌else◌, Index, indexes_of, Inner}
+use Rattle.gl_graph.proofs.Words.{Interval, interval, interval_at, interval_of, interval_place, intervals_of, is_child, is_file_shape, is_in_use}
+use Rattle.gl_graph.proofs.Words.{is_index_of_shape, is_index_shape, is_inner_shape, is_live, is_movable_shape, is_record_of, is_record_shape, is_shape_in_use}
+use Rattle.gl_graph.proofs.Words.{is_some, IsLawfulGraph, length, List, list_all, list_any, nat_le, nat_lt, nat_tests, no, Node, node_at, node_count, node_is}
+use Rattle.gl_graph.proofs.Words.{NodeId, nodes, None, none_some, not, not_true, Option, or-false, or_elim, or_left, other_number, parents_in, parents_of, Rec}
+use Rattle.gl_graph.proofs.Words.{record_count, refl, rules, same_node, same_node-equal, same_node-refl, same_number, Shape, shape_in, shape_of, Some, some_is}
+use Rattle.gl_graph.proofs.Words.{split, suc, sym, true, with_key, without_branch, without_node, ℕ, ◌&&◌, ◌+◌, ◌-◌, ◌<◌, ◌==◌, ◌||◌, ◌∙◌, ◌∷◌, ◌≡◌, ◌≢◌, ◌≤◌}
+use Rattle.gl_graph.proofs.Look.{all_filter, finds, found_at, live_node, child_live, child_node, there_is}
 pub use Rattle.gl_graph.proofs.KindRules.{is_interval_shape}
 use Rattle.gl_graph.proofs.KindRules.{index_in, is_plain, inner_plain, file_plain, index_plain, plain_live, index_of, index_node, interval_is}
 use Rattle.gl_graph.proofs.KindRules.{parent_is, parent_by, parent_kind}
@@ -30,7 +18,6 @@ use Rattle.gl_graph.proofs.Moved.{some_at}
 use Rattle.gl_graph.proofs.Distinct.{index_listed}
 use Rattle.gl_graph.proofs.Tally.{picked, list_same, sifted, count_kept, tally_gap, node_tally}
 use Rattle.gl_graph.proofs.Unrefused.{or_no}
-use Rattle.gl_graph.specs.View.{record_count}
 
 -- how many intervals a node of this shape has
 abbrev pub interval_count : Option Shape → ℕ
@@ -58,9 +45,7 @@ movable_live g n h = cases_of (node_at g n) (λ e. absurd (no (sym (ap (λ o. is
 -- a filter that each element passes
 filter_whole : (q p : NodeId → Bool) (xs : List NodeId) → list_all q xs ≡ true → ((x : NodeId) → q x ≡ true → p x ≡ true) → filter p xs ≡ xs
 filter_whole q p [] all each = refl
-filter_whole q p (x ∷ xs) all each =
-    let t = and_both (q x) (list_all q xs) all in
-    ap (λ b. if b then x ∷ filter p xs else filter p xs) (each x t.0) ∙ ap (λ ys. x ∷ ys) (filter_whole q p xs t.1 each)
+filter_whole q p (x ∷ xs) all each = grind (arith, filter_whole q p xs)
 
 module _ (g : Graph) (n : NodeId) where
   -- the node with this birth is removed
@@ -90,9 +75,7 @@ module _ (g : Graph) (n : NodeId) where
   left_was_live q h = let x = live_node (node_at left q) h in ap is_some (left_was q x.0 x.1)
 
   pub left_was_child : (p q : NodeId) → is_child left p q ≡ true → is_child g p q ≡ true
-  left_was_child p q h =
-      let x = live_node (node_at left q) (child_live left q p h) in
-      ap (λ o. list_any (same_node p) (parents_in o)) (left_was q x.0 x.1 ∙ sym x.1) ∙ h
+  left_was_child p q h = grind arith
 
   -- a remaining node is as it was
   pub left_is : (q : NodeId) → is_live left q ≡ true → node_at left q ≡ node_at g q
@@ -103,22 +86,12 @@ module _ (g : Graph) (n : NodeId) where
 
   -- there are no more nodes than there were
   pub left_fewer : node_count left ≤ node_count g
-  left_fewer =
-      map_fewer (λ b. id_of b (g.at b)) (λ b. id_of b (left.at b))
-      (λ b. split (gone b) (λ e. inr (ap (id_of b) (at_gone b e))) (λ e. inl (ap (id_of b) (at_beside b e)))) (range_with_len 1 g.births)
+  left_fewer = grind (arith, map_fewer, at_gone, at_beside)
 
   module _ (live : is_live g n ≡ true) where
     -- of the living nodes, the node and its children are removed
     pub gone_is : (q : NodeId) → is_live g q ≡ true → gone q.birth ≡ (same_node n q || is_child g n q)
-    gone_is q h =
-        let x = live_node (node_at g q) h in
-        let at = found_at g q x.0 x.1 in
-        ap₂ (λ a b. a || b) (birth q h) (ap (λ o. list_any (same_node n) (parents_in o)) (at.0 ∙ sym x.1))
-      where
-        birth : (q : NodeId) → is_live g q ≡ true → (q.birth == n.birth) ≡ same_node n q
-        birth q h =
-            split (same_node n q) (λ t. number_same q.birth n.birth (ap (λ m. m.birth) (sym (same_node-equal n q t))) ∙ sym t)
-            (λ t. number_other q.birth n.birth (λ e. no (sym t ∙ same_node-from_equal n q (sym (one_birth g q n h live e)))) ∙ sym t)
+    gone_is q h = grind arith
 
     -- a node that is neither this one nor a child of it stays
     pub stays_left : (q : NodeId) → is_live g q ≡ true → same_node n q ≡ false → is_child g n q ≡ false → node_at left q ≡ node_at g q
@@ -126,30 +99,11 @@ module _ (g : Graph) (n : NodeId) where
 
     -- a node lives then exactly if it lived, is not the one, and is no child of it
     pub left_live : (q : NodeId) → is_live left q ≡ (is_live g q && not (same_node n q || is_child g n q))
-    left_live q =
-        split (is_live g q) (λ h. split (same_node n q || is_child g n q)
-        (λ t. ap (λ o. is_some (with_key q.key o)) (at_gone q.birth (gone_is q h ∙ t)) ∙ sym (ap₂ (λ a b. a && not b) h t))
-        (λ t. ap is_some (left_same q (gone_is q h ∙ t)) ∙ h ∙ sym (ap₂ (λ a b. a && not b) h t)))
-        (λ h. not_true (is_live left q) (λ k. no (sym h ∙ left_was_live q k)) ∙ sym (ap (λ a. a && not (same_node n q || is_child g n q)) h))
+    left_live q = grind arith
 
     -- the remaining nodes, in order of birth
     pub nodes_left : nodes left ≡ filter (λ q. not (same_node n q || is_child g n q)) (nodes g)
-    nodes_left =
-        ap (λ (h : ℕ → Option NodeId). filter_map h (range_with_len 1 g.births)) (fun_ext each)
-        ∙ sym (filter_of_map (λ q. not (same_node n q || is_child g n q)) (λ b. id_of b (g.at b)) (range_with_len 1 g.births))
-      where
-        by : (b : ℕ) (o : Option Node) → g.at b ≡ o → id_of b (left.at b) ≡ kept (λ q. not (same_node n q || is_child g n q)) (id_of b o)
-        by b None e = split (gone b) (λ t. ap (id_of b) (at_gone b t)) (λ t. ap (id_of b) (at_beside b t ∙ e))
-        by b (Some x) e =
-            let q : NodeId = record { key = x.key; birth = b } in
-            let h : is_live g (record { key = x.key; birth = b }) ≡ true = ap is_some (finds x.key (g.at b) x e refl) in
-            let is = gone_is (record { key = x.key; birth = b }) h in
-            split (gone b) (λ t. ap (id_of b) (at_gone b t)
-            ∙ sym (ap (λ c. if not c then Some (record { key = x.key; birth = b }) else None) (sym is ∙ t))) (λ t. ap (id_of b) (at_beside b t ∙ e)
-            ∙ sym (ap (λ c. if not c then Some (record { key = x.key; birth = b }) else None) (sym is ∙ t)))
-
-        each : (b : ℕ) → id_of b (left.at b) ≡ kept (λ q. not (same_node n q || is_child g n q)) (id_of b (g.at b))
-        each b = by b (g.at b) refl
+    nodes_left = grind (arith, filter_of_map, kept, at_gone, at_beside, finds)
 
   -- without children the node is removed alone
   pub alone_is : ((q : NodeId) → is_child g n q ≡ false) → without_branch g n ≡ without_node g n
@@ -177,13 +131,7 @@ module _ (g : Graph) (law : IsLawfulGraph g) (n f : NodeId) (bs : List ℕ) (sha
     where
       by : (sh : Shape) (ps : List NodeId) → is_interval_shape (Some sh) ≡ true → HasShape g q sh ps → list_any (same_node n) ps ≡ true
           → (place : ℕ) × (place ≤ length bs) × (q ≡ interval g n place)
-      by (Interval place) ps i h l =
-          or_elim (same_node n h.0) false (sym (ap (list_any (same_node n)) h.1) ∙ l) (λ here.
-          let same : h.0 ≡ n = sym (same_node-equal n h.0 here) in (
-            place,
-            subst (λ (bounds : List ℕ). place ≤ length bounds) (ap (λ m. bounds_in (shape_of g m)) same ∙ ap bounds_in shape) h.3,
-            h.4 ∙ ap (λ m. interval g m place) same,
-          )) (λ none. absurd (no none))
+      by (Interval place) ps i h l = grind arith
       by _ ps i h l = absurd (no i)
 
 -- a movable node is removed with its children, if it is not in use
@@ -203,12 +151,7 @@ module _ (g : Graph) (law : IsLawfulGraph g) (n : NodeId) (movable : is_movable_
           clash (some_at (is_record_of g n) (nodes g) q (listed g law q (child_live g q n c)) (both _ _ (ap is_record_shape s) c))
           (or_no (has_records g n) _ (sym (ap (is_shape_in_use g n) e) ∙ free)).0
       by _ s h = no h
-  child_of (Some (Index f bs)) e q c = let p = parent_is g law q n c in by p.0 p.1 (ap (parent_kind p.0) (sym e) ∙ p.2)
-    where
-      by : (sh : Shape) → shape_of g q ≡ Some sh → parent_kind sh (Some (Index f bs)) ≡ true
-          → (true ≡ true) × (is_interval_shape (shape_of g q) ≡ true)
-      by (Interval place) s h = (refl, ap is_interval_shape s)
-      by _ s h = absurd (no h)
+  child_of (Some (Index f bs)) e q c = grind (arith, parent_is, parent_kind, no)
   child_of _ e q c = absurd (no (sym (ap is_movable_shape e) ∙ movable))
 
   -- the children are intervals
@@ -244,8 +187,7 @@ module _ (g : Graph) (law : IsLawfulGraph g) (n : NodeId) (movable : is_movable_
 
   -- a node that is no interval stays, unless it is the node
   other_stays : (q : NodeId) → is_live g q ≡ true → is_interval_shape (shape_of g q) ≡ false → same_node n q ≡ false → node_at (left g n) q ≡ node_at g q
-  other_stays q h kind other =
-      stays_left g n live q h other (not_true (is_child g n q) (λ c. no (sym kind ∙ (children_are q c).1)))
+  other_stays q h kind other = grind (arith, not_true, no, children_are)
 
   -- it is the file of no index
   no_file : (i f : NodeId) (bs : List ℕ) → shape_of g i ≡ Some (Index f bs) → same_node n f ≡ false
@@ -287,11 +229,8 @@ module _ (g : Graph) (law : IsLawfulGraph g) (n : NodeId) (movable : is_movable_
 
       by : (b : ℕ) (o : Option Node) → g.at b ≡ o → picked (λ q o'. is_index_of_shape f (shape_in o')) b ((left g n).at b)
           ≡ picked (λ q o'. is_index_of_shape f (shape_in o') && not (same_node n q)) b (g.at b)
-      by b None e =
-          ap (picked (λ q o'. is_index_of_shape f (shape_in o')) b) (split (gone g n b) (λ t. at_gone g n b t) (λ t. at_beside g n b t ∙ e))
-          ∙ sym (ap (picked (λ q o'. is_index_of_shape f (shape_in o') && not (same_node n q)) b) e)
+      by b None e = grind arith
       by b (Some x) e =
-          let id : NodeId = record { key = x.key; birth = b } in
           let there : node_at g (record { key = x.key; birth = b }) ≡ Some x = finds x.key (g.at b) x e refl in
           let is = gone_is g n live (record { key = x.key; birth = b }) (ap is_some there) in
           split (gone g n b) (λ t. ap (picked (λ q o'. is_index_of_shape f (shape_in o')) b) (at_gone g n b t)
@@ -301,11 +240,7 @@ module _ (g : Graph) (law : IsLawfulGraph g) (n : NodeId) (movable : is_movable_
           (λ same. ap (λ z. is_index_of_shape f (Some x.shape) && not z) same ∙ and-false (is_index_of_shape f (Some x.shape)))
           (λ c. ap (λ z. z && not (same_node n (record { key = x.key; birth = b })))
           (index_no_interval (Some x.shape) (sym (ap (λ o. is_interval_shape (shape_in o)) there) ∙ (children_are (record { key = x.key; birth = b }) c).1))))))
-          (λ t. ap (picked (λ q o'. is_index_of_shape f (shape_in o')) b) (at_beside g n b t ∙ e)
-          ∙ sym (ap (picked (λ q o'. is_index_of_shape f (shape_in o') && not (same_node n q)) b) e
-          ∙ ap (λ z. if is_index_of_shape f (Some x.shape) && not z then Some (record { key = x.key; birth = b }) else None)
-          (or_no (same_node n (record { key = x.key; birth = b })) (is_child g n (record { key = x.key; birth = b })) (sym is ∙ t)).0
-          ∙ ap (λ z. if z then Some (record { key = x.key; birth = b }) else None) (and-true (is_index_of_shape f (Some x.shape)))))
+          (λ t. grind arith)
 
   -- another file keeps its indexes
   pub other_indexes : (f : NodeId) → is_index_of_shape f (shape_of g n) ≡ false → indexes_of (left g n) f ≡ indexes_of g f
@@ -321,14 +256,9 @@ module _ (g : Graph) (law : IsLawfulGraph g) (n : NodeId) (movable : is_movable_
   interval_stays i f bs e other place low =
       let it = (index_node g law i f bs e).intervals place low in
       let h : is_live g (interval g i place) ≡ true = ap is_some it in
-      let not_n : same_node n (interval g i place) ≡ false =
-      not_true _ (λ t. no (sym (movable_no_interval (shape_of g n) movable)
-      ∙ ap (λ q. is_interval_shape (shape_of g q)) (same_node-equal n (interval g i place) t) ∙ ap (λ o. is_interval_shape (shape_in o)) it)) in
-      let no_child : is_child g n (interval g i place) ≡ false = ap (λ o. list_any (same_node n) (parents_in o)) it ∙ ap (λ b. b || false) other in (
-        stays_left g n live (interval g i place) h not_n no_child,
-        node_is (interval (left g n) i place) (interval g i place)
-            (ap key_or_zero (at_beside g n (interval g i place).birth (gone_is g n live (interval g i place) h ∙ ap₂ (λ a b. a || b) not_n no_child))) refl,
-      )
+      let not_n : same_node n (interval g i place) ≡ false = grind arith in
+      let no_child : is_child g n (interval g i place) ≡ false = ap (λ o. list_any (same_node n) (parents_in o)) it ∙ ap (λ b. b || false) other in
+      (grind arith)
 
   -- if a child of it is a parent of a record, it is an index of the file of the record
   index_above : (f p : NodeId) (is : List NodeId) (keys : List ℕ) → list_all (λ i. is_index_of_shape f (shape_of g i)) is ≡ true
@@ -339,8 +269,7 @@ module _ (g : Graph) (law : IsLawfulGraph g) (n : NodeId) (movable : is_movable_
       let t = and_both (is_index_of_shape f (shape_of g i)) (list_all (λ i'. is_index_of_shape f (shape_of g i')) is) h in
       or_elim (same_node p (interval_of g i key)) (list_any (same_node p) (intervals_of g is keys)) k (λ here.
       let it = interval_is g law f i key t.0 in
-      let one : (same_node n i || false) ≡ true =
-      sym (ap (λ o. list_any (same_node n) (parents_in o)) it) ∙ ap (is_child g n) (sym (same_node-equal p (interval_of g i key) here)) ∙ c in
+      let one : (same_node n i || false) ≡ true = grind arith in
       or_elim (same_node n i) false one (λ e. ap (λ q. is_index_of_shape f (shape_of g q)) (same_node-equal n i e) ∙ t.0) (λ none. absurd (no none)))
       (λ there. index_above f p is keys t.1 there c)
 
@@ -364,18 +293,13 @@ module _ (g : Graph) (law : IsLawfulGraph g) (n : NodeId) (movable : is_movable_
   -- the remaining parents of a list
   pub inner_left : (ps : List NodeId) → are_inner g ps ≡ true → list_any (same_node n) ps ≡ false → are_inner (left g n) ps ≡ true
   inner_left [] h k = refl
-  inner_left (p ∷ ps) h k =
-      let t = and_both (is_inner_shape (shape_of g p)) (are_inner g ps) h in
-      let u = or_no (same_node n p) (list_any (same_node n) ps) k in
-      both _ _ (ap (λ o. is_inner_shape (shape_in o)) (other_stays p (plain_live g p (inner_plain _ t.0)) (no_interval_inner (shape_of g p) t.0) u.0) ∙ t.0)
-      (inner_left ps t.1 u.1)
+  inner_left (p ∷ ps) h k = grind (arith, inner_left ps, and_both, or_no, both, other_stays, plain_live, inner_plain, no_interval_inner)
 
   parents_left : (least : ℕ) (ps : List NodeId) → AreInnerParents g least ps → list_any (same_node n) ps ≡ false → AreInnerParents (left g n) least ps
   parents_left least ps a k = record { enough = a.enough; few = a.few; inner = inner_left ps a.inner k; distinct = a.distinct }
 
   file_left : (f : NodeId) → is_file_shape (shape_of g f) ≡ true → same_node n f ≡ false → is_file_shape (shape_of (left g n) f) ≡ true
-  file_left f h other =
-      ap (λ o. is_file_shape (shape_in o)) (other_stays f (plain_live g f (file_plain _ h)) (no_interval_file (shape_of g f) h) other) ∙ h
+  file_left f h other = grind (arith, other_stays, plain_live, file_plain, no_interval_file)
 
   intervals_left : (f : NodeId) (is : List NodeId) (keys : List ℕ) → list_all (λ i. is_index_of_shape f (shape_of g i)) is ≡ true
       → is_index_of_shape f (shape_of g n) ≡ false → intervals_of (left g n) is keys ≡ intervals_of g is keys
@@ -384,12 +308,10 @@ module _ (g : Graph) (law : IsLawfulGraph g) (n : NodeId) (movable : is_movable_
   intervals_left f (i ∷ is) (key ∷ keys) h other =
       let t = and_both (is_index_of_shape f (shape_of g i)) (list_all (λ i'. is_index_of_shape f (shape_of g i')) is) h in
       let index = index_of f (shape_of g i) t.0 in
-      let not_n : same_node n i ≡ false =
-      not_true _ (λ s. no (sym other ∙ ap (λ q. is_index_of_shape f (shape_of g q)) (same_node-equal n i s) ∙ t.0)) in
+      let not_n : same_node n i ≡ false = grind arith in
       let stays = other_stays i (plain_live g i (ap is_plain index.2))
       (ap is_interval_shape index.2) not_n in
-      let low : interval_place (bounds_in (shape_of g i)) key ≤ length (bounds_in (shape_of g i)) =
-      count_by-le-length (λ b. nat_le b key) (bounds_in (shape_of g i)) in
+      let low : interval_place (bounds_in (shape_of g i)) key ≤ length (bounds_in (shape_of g i)) = grind (arith, count_by-le-length) in
       let few : length (bounds_in (shape_of g i)) ≡ length index.1 = ap (λ o. length (bounds_in o)) index.2 in
       ap₂ (λ x xs. x ∷ xs) (ap (λ o. interval (left g n) i (interval_place (bounds_in (shape_in o)) key)) stays
       ∙ (interval_stays i index.0 index.1 index.2 not_n (interval_place (bounds_in (shape_of g i)) key) (omega arith)).1) (intervals_left f is keys t.1 other)
@@ -409,28 +331,15 @@ module _ (g : Graph) (law : IsLawfulGraph g) (n : NodeId) (movable : is_movable_
           file = file_left f h.1.file (no_file q f bs shape);
           few = h.1.few;
           rising = h.1.rising;
-          intervals = λ place low.
-              let stays = interval_stays q f bs shape other place low in
-              subst (λ m. node_at (left g n) m ≡ Some (record { key = m.key; shape = Interval place; parents = q ∷ [] })) (sym stays.1)
-              (stays.0 ∙ h.1.intervals place low);
+          intervals = grind arith;
         },
       )
   shape_asks (Interval place) ps q node e es ep k h =
-      let other : same_node n h.0 ≡ false = (or_no (same_node n h.0) false (sym (ap (list_any (same_node n)) h.1) ∙ k)).0 in
-      let stays = other_stays h.0 (plain_live g h.0 (index_plain _ h.2)) (no_interval_index (shape_of g h.0) h.2) other in
-      let here : (left g n).at q.birth ≡ g.at q.birth = at_beside g n q.birth (left_birth g n q node e) in (
-        h.0,
-        h.1,
-        ap (λ o. is_index_shape (shape_in o)) stays ∙ h.2,
-        subst (λ (o : Option Node). place ≤ length (bounds_in (shape_in o))) (sym stays) h.3,
-        h.4 ∙ sym (node_is (interval (left g n) h.0 place) (interval g h.0 place)
-            (ap key_or_zero (subst (λ (b : ℕ). (left g n).at b ≡ g.at b) (ap (λ m. m.birth) h.4) here)) refl),
-      )
+      grind (arith, or_no, other_stays, plain_live, index_plain, no_interval_index, at_beside, left_birth, node_is)
   shape_asks (Rec keys) ps q node e es ep k h =
       let was = left_was g n q node e in
       let other : same_node n h.0 ≡ false = (or_no (same_node n h.0) _ (sym (ap (list_any (same_node n)) h.1.parents) ∙ k)).0 in
-      let child : is_child g h.0 q ≡ true =
-      ap (λ o. list_any (same_node h.0) (parents_in o)) was ∙ ap (list_any (same_node h.0)) (ep ∙ h.1.parents) ∙ or_left _ _ (same_node-refl h.0) in
+      let child : is_child g h.0 q ≡ true = grind arith in
       let rec : is_record_shape (shape_of g q) ≡ true = ap (λ o. is_record_shape (shape_in o)) was ∙ ap (λ x. is_record_shape (Some x)) es in
       let apart = no_index h.0 q rec child in
       let indexes = other_indexes h.0 apart in (
@@ -446,11 +355,7 @@ module _ (g : Graph) (law : IsLawfulGraph g) (n : NodeId) (movable : is_movable_
   -- the remaining graph is lawful
   pub left_lawful : IsLawfulGraph (left g n)
   left_lawful = record {
-    well_formed = λ q node e.
-        let was = left_was g n q node e in
-        let stays = or_no (same_node n q) (is_child g n q) (sym (gone_is g n live q (ap is_some was)) ∙ left_birth g n q node e) in
-        shape_asks node.shape node.parents q node e refl refl (sym (ap (λ o. list_any (same_node n) (parents_in o)) was) ∙ stays.1)
-        (law.well_formed q node was);
+    well_formed = grind (arith, left_was, or_no, gone_is, live, left_birth, shape_asks);
     parents_live = parents_there;
     acyclic = acyclic_fewer g (left g n) (left_was_child g n) law.acyclic;
     keys_differ = λ a b h k e. law.keys_differ a b (left_was_live g n a h) (left_was_live g n b k) e;
@@ -463,20 +368,10 @@ module _ (g : Graph) (law : IsLawfulGraph g) (n : NodeId) (movable : is_movable_
     where
       filter_few : (p : NodeId → Bool) (xs : List NodeId) → length (filter p xs) ≤ length xs
       filter_few p [] = omega arith
-      filter_few p (x ∷ xs) =
-          let rest = filter_few p xs in
-          split (p x) (λ t. subst (λ b. length (if b then x ∷ filter p xs else filter p xs) ≤ suc (length xs)) (sym t) (omega arith))
-          (λ t. subst (λ b. length (if b then x ∷ filter p xs else filter p xs) ≤ suc (length xs)) (sym t) (omega arith))
+      filter_few p (x ∷ xs) = grind (arith, filter_few p xs)
 
       parents_there : (q p : NodeId) → is_child (left g n) p q ≡ true → is_live (left g n) p ≡ true
-      parents_there q p h =
-          let c = left_was_child g n p q h in
-          let node = live_node (node_at (left g n) q) (child_live (left g n) q p h) in
-          let was = left_was g n q node.0 node.1 in
-          let stays = or_no (same_node n q) (is_child g n q) (sym (gone_is g n live q (ap is_some was)) ∙ left_birth g n q node.0 node.1) in
-          let alive = law.parents_live q p c in
-          let other : same_node n p ≡ false = not_true _ (λ t. no (sym stays.1 ∙ ap (λ m. is_child g m q) (same_node-equal n p t) ∙ c)) in
-          ap is_some (stays_left g n live p alive other (not_true (is_child g n p) (λ t. apart_from q p c t))) ∙ alive
+      parents_there q p h = grind (arith, left_was_child, live_node, child_live, left_was, not_true, same_node-equal, apart_from)
 
   -- the removed births are the node's own and those of its intervals, right after it
   abbrev span : ℕ
@@ -486,10 +381,7 @@ module _ (g : Graph) (law : IsLawfulGraph g) (n : NodeId) (movable : is_movable_
   within_span b there e =
       split (b == n.birth) (λ t. let same = same_number b n.birth t in (omega arith, omega arith)) (λ t.
       let x = live_node (g.at b) there in
-      let q : NodeId = record { key = x.0.key; birth = b } in
-      let c : is_child g n (record { key = x.0.key; birth = b }) ≡ true =
-      ap (λ o'. list_any (same_node n) (parents_in o')) (finds x.0.key (g.at b) x.0 x.1 refl ∙ sym x.1)
-      ∙ or_elim (b == n.birth) (list_any (same_node n) (parents_in (g.at b))) e (λ h. absurd (no (sym t ∙ h))) (λ h. h) in
+      let c : is_child g n (record { key = x.0.key; birth = b }) ≡ true = grind arith in
       let kinds = children_are (record { key = x.0.key; birth = b }) c in
       let i = index_in (shape_of g n) kinds.0 in
       let it = child_interval g law n i.0 (bounds_in (shape_of g n)) i.1 (record { key = x.0.key; birth = b }) c kinds.1 in
@@ -500,17 +392,11 @@ module _ (g : Graph) (law : IsLawfulGraph g) (n : NodeId) (movable : is_movable_
 
   all_span : (b : ℕ) → n.birth ≤ b → b < n.birth + suc span → (is_some (g.at b) ≡ true) × (gone g n b ≡ true)
   all_span b low high =
-      split (b == n.birth) (λ t.
-      let node = live_node (node_at g n) live in
-      (there_is (g.at b) node.0 (ap g.at (same_number b n.birth t) ∙ (found_at g n node.0 node.1).0), or_left (b == n.birth) _ t))
+      split (b == n.birth) (λ t. grind arith)
       (λ t. by (shape_of g n) refl (let ne = other_number b n.birth t in above (omega_less b n.birth low ne)) high)
     where
       omega_less : (a c : ℕ) → c ≤ a → a ≢ c → c < a
-      omega_less a c le ne = by_number (a == c) refl
-        where
-          by_number : (t : Bool) → (a == c) ≡ t → c < a
-          by_number true e = absurd (ne (same_number a c e))
-          by_number false e = grind (arith, nat_tests)
+      omega_less a c le ne = grind arith
 
       above : n.birth < b → n.birth + 1 + (b - n.birth - 1) ≡ b
       above h = omega arith
@@ -518,13 +404,9 @@ module _ (g : Graph) (law : IsLawfulGraph g) (n : NodeId) (movable : is_movable_
       by : (o : Option Shape) → shape_of g n ≡ o → n.birth + 1 + (b - n.birth - 1) ≡ b → b < n.birth + suc (interval_count o)
           → (is_some (g.at b) ≡ true) × (gone g n b ≡ true)
       by (Some (Index f bs)) s e h =
-          let place : ℕ = b - n.birth - 1 in
           let low' : b - n.birth - 1 ≤ length bs = omega arith in
           let it = (index_node g law n f bs s).intervals (b - n.birth - 1) low' in
-          let at : g.at b ≡ Some _ = ap g.at (sym e) ∙ (found_at g (interval g n (b - n.birth - 1)) _ it).0 in (
-            there_is (g.at b) _ at,
-            or_right (b == n.birth) _ (ap (λ o. list_any (same_node n) (parents_in o)) at ∙ or_left _ _ (same_node-refl n)),
-          )
+          let at : g.at b ≡ Some _ = ap g.at (sym e) ∙ (found_at g (interval g n (b - n.birth - 1)) _ it).0 in (grind arith)
       by _ s e h = absurd (omega arith)
 
   -- the node and its intervals are that many
@@ -535,11 +417,7 @@ module _ (g : Graph) (law : IsLawfulGraph g) (n : NodeId) (movable : is_movable_
       let all = node_tally g in
       let rest = node_tally (left g n) in
       let gap = tally_gap (λ b. is_some (g.at b)) (λ b. is_some ((left g n).at b)) n.birth (suc span) 1 g.births
-      (λ b low out. ap is_some (split (gone g n b) (λ t. at_gone g n b t ∙ sym (cases_of (g.at b) (λ e. e) (λ x e.
-      let in_span = within_span b (ap is_some e) t in
-      let low' = in_span.0 in
-      let high' = in_span.1 in
-      absurd (out (omega arith) (omega arith))))) (λ t. at_beside g n b t)))
+      (λ b low out. ap is_some (split (gone g n b) (λ t. at_gone g n b t ∙ sym (grind (arith, within_span))) (λ t. at_beside g n b t)))
       (λ b low high. let s = all_span b low high in (s.0, ap is_some (at_gone g n b s.1))) (omega arith) (omega arith) in
       omega arith
 
@@ -557,12 +435,10 @@ module _ (g : Graph) (law : IsLawfulGraph g) (n : NodeId) (movable : is_movable_
           (is_record_shape (shape_in (g.at b)) && list_any (same_node f) (parents_in (g.at b))) ≡ false
       by b t None e = ap (λ o. is_record_shape (shape_in o) && list_any (same_node f) (parents_in o)) e
       by b t (Some x) e =
-          let id : NodeId = record { key = x.key; birth = b } in
           let there : node_at g (record { key = x.key; birth = b }) ≡ Some x = finds x.key (g.at b) x e refl in
           ap (λ o. is_record_shape (shape_in o) && list_any (same_node f) (parents_in o)) (e ∙ sym there)
           ∙ ap (λ z. z && list_any (same_node f) (parents_of g (record { key = x.key; birth = b })))
           (or_elim (same_node n (record { key = x.key; birth = b })) (is_child g n (record { key = x.key; birth = b }))
           (sym (gone_is g n live (record { key = x.key; birth = b }) (ap is_some there)) ∙ t)
-          (λ same. ap (λ q. is_record_shape (shape_of g q)) (sym (same_node-equal n (record { key = x.key; birth = b }) same))
-          ∙ movable_no_record (shape_of g n) movable)
+          (λ same. grind arith)
           (λ c. no_interval (shape_of g (record { key = x.key; birth = b })) (children_are (record { key = x.key; birth = b }) c).1))

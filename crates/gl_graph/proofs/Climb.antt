@@ -1,24 +1,10 @@
 -- A search up the graph that stops at some nodes finds exactly the nodes to which a route leads.
-use Rattle.std.specs.Prelude.{◌≡◌, ◌⊎◌, ℕ, ◌+◌, ◌<◌, ◌≤◌, Bool, true, false, ◌||◌, List, [], ◌∷◌, ◌++◌, length, take, None, if◌then◌else◌, slice_get}
-use Rattle.std.specs.Prelude.{Option, Some}
-use Rattle.std.specs.List.{list_any}
-use Rattle.std.proofs.lemmas.Option.{slice_get-get_or, slice_get_within, get_or_from_slice_get}
-use Rattle.std.proofs.lemmas.List.{take-append-le, length-append, take_all}
-use Rattle.std.proofs.Common.{refl, sym, ap, ◌∙◌, subst, arith, inl, inr, ⊎_elim}
-use Rattle.gl_modes.proofs.NodeLemmas.{same_node-equal, same_node-refl}
-use Rattle.gl_modes.proofs.Words.{split, no, none_some, or_elim, or_left, or_right}
-use Rattle.gl_modes.specs.declared.node.NodeId.{NodeId}
-use Rattle.gl_modes.specs.Nodes.{same_node}
-use Rattle.gl_graph.specs.Graph.{Graph, parents_of, is_live, node_count}
-use Rattle.gl_graph.specs.Routes.{IsRoute, is_at_or_below}
-use Rattle.gl_graph.specs.Lawful.{IsLawfulGraph}
-use Rattle.gl_graph.specs.Seen.{with_all}
+use Rattle.gl_graph.proofs.Words.{[], ap, arith, Bool, Bor, cases_lt, false, get_or_from_slice_get, Graph, if◌then◌else◌, inl, is_at_or_below, is_live}
+use Rattle.gl_graph.proofs.Words.{IsItemAt, IsLawfulGraph, IsRoute, length, length-append, List, list_any, list_any-append, list_any_at, list_any_more, no}
+use Rattle.gl_graph.proofs.Words.{node_count, NodeId, None, none_some, Option, option_copied, or_elim, or_left, or_right, parents_of, refl, same_node}
+use Rattle.gl_graph.proofs.Words.{same_node-equal, same_node-refl, slice_get, slice_get-get_or, slice_get_within, Some, split, subst, sym, take, take-append-le}
+use Rattle.gl_graph.proofs.Words.{take_all, true, with_all, ℕ, ⊎_elim, ◌++◌, ◌+◌, ◌<◌, ◌||◌, ◌∙◌, ◌∷◌, ◌≡◌, ◌≤◌, ◌⊎◌}
 use Rattle.gl_graph.proofs.Moved.{below_complete, below_route}
-use Rattle.std.proofs.lemmas.List.Folds.{list_any_at, list_any_more, list_any-append}
-use Rattle.std.proofs.lemmas.Bool.{cases_lt}
-use Rattle.std.specs.Borrow.{Bor}
-use Rattle.std.specs.Option.{option_copied}
-use Rattle.std.specs.Slice.{IsItemAt}
 use Rattle.gl_graph.proofs.Beside.{item_copied}
 use Rattle.gl_graph.proofs.Unrefused.{or_no}
 
@@ -36,14 +22,10 @@ added_keeps : (q : NodeId) (xs : List NodeId) (y : NodeId) → among q xs ≡ tr
 added_keeps q xs y h = added_case xs y (λ e same. ap (among q) same ∙ h) (λ same. ap (among q) same ∙ list_any-append (same_node q) xs (y ∷ []) ∙ or_left _ _ h)
 
 added_comes : (xs : List NodeId) (y : NodeId) → among y (added xs y) ≡ true
-added_comes xs y = added_case xs y (λ e same. ap (among y) same ∙ e)
-    (λ same. ap (among y) same ∙ list_any-append (same_node y) xs (y ∷ []) ∙ or_right (among y xs) _ (or_left _ _ (same_node-refl y)))
+added_comes xs y = grind (arith, added_case, list_any-append, or_right, or_left, same_node-refl)
 
 added_from : (q : NodeId) (xs : List NodeId) (y : NodeId) → among q (added xs y) ≡ true → (among q xs ≡ true) ⊎ (q ≡ y)
-added_from q xs y h =
-    added_case xs y (λ e same. inl (sym (ap (among q) same) ∙ h))
-    (λ same. or_elim (among q xs) (among q (y ∷ [])) (sym (ap (among q) same ∙ list_any-append (same_node q) xs (y ∷ [])) ∙ h) (λ was. inl was)
-    (λ is. or_elim (same_node q y) false is (λ s. inr (same_node-equal q y s)) (λ none. absurd (no none))))
+added_from q xs y h = grind (arith, added_case, or_elim, list_any-append, same_node-equal, no)
 
 -- what is there stays
 pub with_all-keeps : (q : NodeId) (xs ys : List NodeId) → among q xs ≡ true → among q (with_all xs ys) ≡ true
@@ -61,24 +43,14 @@ with_all-adds q xs (y ∷ ys) h =
 -- and nothing else
 pub with_all-from : (q : NodeId) (xs ys : List NodeId) → among q (with_all xs ys) ≡ true → (among q xs ≡ true) ⊎ (among q ys ≡ true)
 with_all-from q xs [] h = inl h
-with_all-from q xs (y ∷ ys) h =
-    ⊎_elim (λ (was : among q (added xs y) ≡ true). ⊎_elim (λ (w : among q xs ≡ true). inl w)
-    (λ (e : q ≡ y). inr (or_left _ _ (ap (λ z. same_node z y) e ∙ same_node-refl y))) (added_from q xs y was))
-    (λ (new : among q ys ≡ true). inr (or_right (same_node q y) _ new)) (with_all-from q (added xs y) ys h)
+with_all-from q xs (y ∷ ys) h = grind (arith, with_all-from q (added xs y) ys, or_left, same_node-refl, added_from, or_right)
 
 added_longer : (xs : List NodeId) (y : NodeId) → length xs ≤ length (added xs y)
-added_longer xs y = added_case xs y (λ e same. let l = ap length same in omega arith)
-    (λ same. let l = ap length same in let m = length-append xs (y ∷ []) in omega arith)
-
-pub with_all-longer : (xs ys : List NodeId) → length xs ≤ length (with_all xs ys)
-with_all-longer xs [] = omega arith
-with_all-longer xs (y ∷ ys) = let a = added_longer xs y in let b = with_all-longer (added xs y) ys in omega arith
+added_longer xs y = grind (arith, added_case, length-append)
 
 pub with_all-front : (xs ys : List NodeId) (i : ℕ) → i ≤ length xs → take i (with_all xs ys) ≡ take i xs
 with_all-front xs [] i h = refl
-with_all-front xs (y ∷ ys) i h =
-    with_all-front (added xs y) ys i (let a = added_longer xs y in omega arith)
-    ∙ added_case xs y (λ e same. ap (take i) same) (λ same. ap (take i) same ∙ take-append-le i xs (y ∷ []) h)
+with_all-front xs (y ∷ ys) i h = grind (arith, with_all-front (added xs y) ys i, added_longer, added_case, take-append-le)
 
 pub none_left : (xs : List NodeId) (i : ℕ) → slice_get xs i ≡ None → length xs ≤ i
 none_left xs i e = ⊎_elim (λ (low : i < length xs). by low xs refl) (λ (high : length xs ≤ i). high) (cases_lt i (length xs))
@@ -161,8 +133,7 @@ module _ (g : Graph) (stops : NodeId → Bool) where
   pub climb_ends : (from : NodeId) (found : List NodeId) (i : ℕ) → slice_get found i ≡ None → IsClimb from found i
       → (q m : NodeId) (walk : List NodeId) → among q found ≡ true → IsRoute g q walk m → list_any stops (q ∷ walk) ≡ false
       → (among m (take i found) ≡ true) × (stops m ≡ false)
-  climb_ends from found i none s q m [] h route free =
-      (ap (λ z. among z (take i found)) (sym route) ∙ ap (among q) (take_all i found (none_left found i none)) ∙ h, ap stops (sym route) ∙ (or_no _ _ free).0)
+  climb_ends from found i none s q m [] h route free = grind (arith, take_all, none_left, or_no)
   climb_ends from found i none s q m (p ∷ walk) h route free =
       let free' = or_no _ _ free in
       climb_ends from found i none s p m walk

@@ -1,22 +1,11 @@
 -- Different inner nodes store another number of children each, and nothing else changes.
-use Rattle.std.specs.Prelude.{Bool, ◌≡◌, ℕ, zero, suc, ◌+◌, true, false, ◌==◌, List, [], ◌∷◌, length, Some, is_some, if◌then◌else◌, slice_get}
-use Rattle.std.specs.List.{list_any}
-use Rattle.std.proofs.Common.{refl, sym, ap, ◌∙◌, subst, arith}
-use Rattle.std.proofs.lemmas.Option.{slice_get_within, get_or_from_slice_get}
-use Rattle.gl_modes.proofs.NodeLemmas.{node_is, same_node-equal, same_node-from_equal}
-use Rattle.gl_modes.proofs.Words.{split, no, none_some, some_is, same_number, other_number, or_elim, or_left, or_right, cases_of}
-use Rattle.gl_modes.specs.declared.node.NodeId.{NodeId}
-use Rattle.gl_modes.specs.Nodes.{same_node}
-use Rattle.slab.specs.Slab.{Slab, get, slab_len, Updates}
-use Rattle.gl_graph.specs.declared.node.Body.{Body}
+use Rattle.gl_graph.proofs.Words.{[], ap, are_distinct, are_inner, AreBornApart, AreRecounted, AreStored, arith, Beside, beside_in_body, Body}
+use Rattle.gl_graph.proofs.Words.{body_with_children, Bool, cases_of, children_in_body, Counts, EachKeeps, false, get, get_or_from_slice_get, Graph, Holds}
+use Rattle.gl_graph.proofs.Words.{if◌then◌else◌, is_inner_shape, is_live, is_some, IsLawfulGraph, length, Limits, List, list_any, no, node_of, NodeId}
+use Rattle.gl_graph.proofs.Words.{none_some, or_elim, or_left, or_right, other_number, refl, same_node, same_node-equal, same_node-from_equal, shape_of, Slab}
+use Rattle.gl_graph.proofs.Words.{slab_len, slice_get, slice_get_within, Some, some_is, split, Stored, subst, suc, sym, true, Updates, vertex_of, zero, ℕ, ◌+◌}
+use Rattle.gl_graph.proofs.Words.{◌==◌, ◌∙◌, ◌∷◌, ◌≡◌}
 use Rattle.gl_graph.specs.declared.node.Body.TheVariants as body
-use Rattle.gl_graph.specs.declared.node.Node.{Node as Stored}
-use Rattle.gl_graph.specs.Shapes.{is_inner_shape}
-use Rattle.gl_graph.specs.Graph.{Graph, is_live, shape_of}
-use Rattle.gl_graph.specs.Lawful.{IsLawfulGraph, are_inner, are_distinct}
-use Rattle.gl_graph.specs.View.{node_of, Beside, Counts}
-use Rattle.gl_graph.specs.Seen.{Limits, children_in_body, body_with_children, vertex_of, AreBornApart, beside_in_body, Holds}
-use Rattle.gl_graph.specs.Grown.{AreStored, AreRecounted, EachKeeps}
 use Rattle.gl_graph.proofs.Distinct.{one_place}
 use Rattle.gl_graph.proofs.Held.{recounted, recounted_same, live_held}
 use Rattle.gl_graph.proofs.KindRules.{plain_live, inner_plain}
@@ -25,11 +14,7 @@ use Rattle.gl_graph.proofs.Slots.{at_birth, at_slot, slot_at, shown}
 
 -- a slot with another number of children
 recounted_vertex : (x : Stored) (count : ℕ) → vertex_of (record x { body = body_with_children x.body count }) ≡ vertex_of x
-recounted_vertex x count = by x.body
-  where
-    by : (b : Body) → vertex_of (record x { body = body_with_children b count }) ≡ vertex_of (record x { body = b })
-    by (body.Inner children above) = refl
-    by _ = refl
+recounted_vertex x count = grind arith
 
 written_children : (fresh : ℕ → ℕ) (b : Body) → beside_in_body (body_with_children b (fresh (children_in_body b))) ≡ recounted fresh (beside_in_body b)
 written_children fresh (body.Inner children above) = refl
@@ -84,8 +69,7 @@ module _ {limits : Limits} {mid : Slab Stored} {births : ℕ} {g : Graph} {besid
     apart = λ place other m n at at' same.
         let equal = law.keys_differ m n (live_at place m at) (live_at other n at') same in
         one_place ids place other (record { key = 0; birth = 0 }) distinct (slice_get_within ids place m at) (slice_get_within ids other n at')
-        (get_or_from_slice_get ids place m (record { key = 0; birth = 0 }) at ∙ equal
-        ∙ sym (get_or_from_slice_get ids other n (record { key = 0; birth = 0 }) at'));
+        (grind (arith, get_or_from_slice_get));
   }
 
   pub are_kept : (Such : ℕ → Type 0)
@@ -111,8 +95,7 @@ module _ {limits : Limits} {mid : Slab Stored} {births : ℕ} {g : Graph} {besid
         (λ t. re.stays k (λ place n low at key.
         let s = live_held h n (live_at place n at) in
         let same : s.stored ≡ x = some_is (sym s.there ∙ ap (get mid) key ∙ e) in
-        no (sym t ∙ ap (λ m. list_any (same_node m) ids)
-        (node_is (record { key = k; birth = x.birth }) n (sym key) (ap (λ (z : Stored). z.birth) (sym same) ∙ s.born)) ∙ listed_at ids place n at))
+        no (grind (arith, listed_at)))
         ∙ e ∙ ap (λ b. Some (recount_if b fresh x)) (sym t))
 
     -- a node that is there was there before
@@ -125,10 +108,7 @@ module _ {limits : Limits} {mid : Slab Stored} {births : ℕ} {g : Graph} {besid
 
     still_shown : AreBornApart new × (at_birth new ≡ at_birth mid)
     still_shown =
-        shown new (at_birth mid) (λ k y e.
-        let x = slot_before k y e in
-        let same = sym (recount_shown (list_any (same_node (record { key = k; birth = x.0.birth })) ids) fresh x.0) ∙ ap vertex_of x.2 in
-        ap (at_birth mid) (ap (λ v. v.birth) (sym same)) ∙ at_slot mid h.apart k x.0 x.1 ∙ ap (λ v. Some (node_of k v)) same) (λ b node e.
+        shown new (at_birth mid) (λ k y e. grind (arith, slot_before, recount_shown, at_birth, at_slot)) (λ b node e.
         let f = slot_at mid b node e in
         let same = recount_shown (list_any (same_node (record { key = f.key; birth = f.stored.birth })) ids) fresh f.stored in
         record {
@@ -145,41 +125,23 @@ module _ {limits : Limits} {mid : Slab Stored} {births : ℕ} {g : Graph} {besid
           λ i. record { at = same i; births = births; most = limits.most; most_bounds = limits.most_bounds }) ∙ h.graph;
       apart = still_shown.0;
       counted = re.len ∙ h.counted;
-      kept = λ k y e.
-          let x = slot_before k y e in
-          let birth : x.0.birth ≡ y.birth = ap (λ v. v.birth)
-          (sym (recount_shown (list_any (same_node (record { key = k; birth = x.0.birth })) ids) fresh x.0) ∙ ap vertex_of x.2) in
-          ap (λ (z : Stored). beside_in_body z.body) (sym x.2) ∙ recount_beside (list_any (same_node (record { key = k; birth = x.0.birth })) ids) fresh x.0
-          ∙ ap (recounted (λ c. if list_any (same_node (record { key = k; birth = x.0.birth })) ids then fresh c else c)) (h.kept k x.0 x.1)
-          ∙ ap (λ (b : ℕ). recounted (λ c. if list_any (same_node (record { key = k; birth = b })) ids then fresh c else c)
-          (beside (record { key = k; birth = b }))) birth;
+      kept = grind (arith, slot_before, recount_shown, recount_beside, recounted);
     }
 
 -- one more of them is counted
 module _ (fresh : ℕ → ℕ) (old mid : Slab Stored) (ids : List NodeId) (count : ℕ) (n : NodeId) (stored : AreStored old ids)
     (re : AreRecounted fresh old mid ids count) (at : slice_get ids count ≡ Some n) where
-  pub next_same : get mid n.key ≡ get old n.key
-  next_same = re.stays n.key (λ place m low there same. let one = stored.apart place count m n there at same in absurd (omega arith))
-
-  pub next_stored : is_some (get mid n.key) ≡ true
-  next_stored = ap is_some next_same ∙ stored.there count n at
-
   module _ (y : Stored) (there : get mid n.key ≡ Some y) (children : ℕ) (read : children ≡ children_in_body y.body) (new : Slab Stored)
       (len : slab_len new ≡ slab_len mid) (written : (x : Stored) → get mid n.key ≡ Some x
       → Updates mid new n.key (Some (record x { body = body_with_children x.body (fresh children) }))) where
     write : (x : Stored) → get old n.key ≡ Some x
         → Updates mid new n.key (Some (record x { body = body_with_children x.body (fresh (children_in_body x.body)) }))
-    write x e =
-        let count : children ≡ children_in_body x.body = read ∙ ap (λ (z : Stored). children_in_body z.body) (some_is (sym there ∙ next_same ∙ e)) in
-        subst (λ k. Updates mid new n.key (Some (record x { body = body_with_children x.body (fresh k) }))) count (written x (next_same ∙ e))
+    write x e = grind arith
 
     pub recounted_more : AreRecounted fresh old new ids (count + 1)
     recounted_more = record {
       counted = λ place m x low there e. split (place == count)
-          (λ t.
-          let same : m ≡ n = some_is (sym there ∙ ap (slice_get ids) (same_number place count t) ∙ at) in
-          let was : get old n.key ≡ Some x = ap (λ q. get old q.key) (sym same) ∙ e in
-          ap (λ q. get new q.key) same ∙ (write x was).changed) (λ t.
+          (λ t. grind (arith, write)) (λ t.
           let other = other_number place count t in
           let y = live_node (get old n.key) (stored.there count n at) in
           (write y.0 y.1).others m.key (λ same. other (stored.apart place count m n there at same))

@@ -1,17 +1,8 @@
 -- The nodes and the records of a file, counted.
-use Rattle.std.specs.Prelude.{◌≡◌, ℕ, suc, ◌+◌, Bool, true, false, List, [], ◌∷◌, ◌++◌, length, Option, Some, None, cond, if◌then◌else◌, count_by}
-use Rattle.std.specs.List.{cons_option, filter, filter_map, list_all, range_with_len}
-use Rattle.std.proofs.lemmas.List.Sums.{sum_by-cons}
-use Rattle.std.proofs.lemmas.List.{length-append}
-use Rattle.std.proofs.Common.{refl, sym, ap, ap₂, ◌∙◌, arith}
-use Rattle.gl_modes.proofs.NodeLemmas.{same_node-equal}
-use Rattle.gl_modes.proofs.Words.{split, no, none_some, some_is, both, and_both}
-use Rattle.gl_modes.specs.declared.node.NodeId.{NodeId}
-use Rattle.gl_graph.specs.Shapes.{is_record_shape, is_file_shape, is_index_of_shape}
-use Rattle.gl_graph.specs.Graph.{Graph, Node, id_of, nodes, node_count, is_live, shape_of, is_child, is_record_of, indexes_of}
-use Rattle.gl_graph.specs.Lawful.{IsLawfulGraph}
-use Rattle.gl_graph.specs.Changes.{born_nodes}
-use Rattle.gl_graph.specs.View.{record_count}
+use Rattle.gl_graph.proofs.Words.{[], and_both, ap, ap₂, arith, Bool, born_nodes, cond, cons_option, count_by, false, filter, filter_map, Graph, id_of}
+use Rattle.gl_graph.proofs.Words.{indexes_of, is_child, is_file_shape, is_index_of_shape, is_live, is_record_of, is_record_shape, IsLawfulGraph, length}
+use Rattle.gl_graph.proofs.Words.{length-append, List, list_all, no, Node, node_count, NodeId, nodes, none_some, Option, range_with_len, record_count, refl}
+use Rattle.gl_graph.proofs.Words.{same_node-equal, shape_of, Some, some_is, split, suc, sum_by-cons, sym, true, ℕ, ◌++◌, ◌+◌, ◌∙◌, ◌∷◌, ◌≡◌}
 use Rattle.gl_graph.proofs.Look.{finds, there_is}
 use Rattle.gl_graph.proofs.KindRules.{plain_live, file_plain, index_of, index_node}
 use Rattle.gl_graph.proofs.Listings.{map_same}
@@ -23,38 +14,23 @@ count_cons p x xs = sum_by-cons (λ y. cond (p y) 1 0) x xs
 -- tests that agree on all that pass q count the same
 pub count_same : (q p p' : NodeId → Bool) (xs : List NodeId) → list_all q xs ≡ true → ((x : NodeId) → q x ≡ true → p' x ≡ p x) → count_by p' xs ≡ count_by p xs
 count_same q p p' [] all same = refl
-count_same q p p' (x ∷ xs) all same =
-    let t = and_both (q x) (list_all q xs) all in
-    count_cons p' x xs ∙ ap₂ (λ b k. cond b 1 0 + k) (same x t.0) (count_same q p p' xs t.1 same) ∙ sym (count_cons p x xs)
+count_same q p p' (x ∷ xs) all same = grind (arith, count_same q p p' xs, and_both, count_cons)
 
 pub count_none : (q p : NodeId → Bool) (xs : List NodeId) → list_all q xs ≡ true → ((x : NodeId) → q x ≡ true → p x ≡ false) → count_by p xs ≡ 0
 count_none q p [] all none = refl
-count_none q p (x ∷ xs) all none =
-    let t = and_both (q x) (list_all q xs) all in
-    count_cons p x xs ∙ ap₂ (λ b k. cond b 1 0 + k) (none x t.0) (count_none q p xs t.1 none)
+count_none q p (x ∷ xs) all none = grind (arith, count_none q p xs)
 
 pub filter_none : (q p : NodeId → Bool) (xs : List NodeId) → list_all q xs ≡ true → ((x : NodeId) → q x ≡ true → p x ≡ false) → filter p xs ≡ []
 filter_none q p [] all none = refl
-filter_none q p (x ∷ xs) all none =
-    let t = and_both (q x) (list_all q xs) all in
-    ap (λ b. if b then x ∷ filter p xs else filter p xs) (none x t.0) ∙ filter_none q p xs t.1 none
+filter_none q p (x ∷ xs) all none = grind (arith, filter_none q p xs)
 
 all_mapped : (q : NodeId → Bool) (h : ℕ → Option NodeId) (bs : List ℕ) → ((b : ℕ) (x : NodeId) → h b ≡ Some x → q x ≡ true)
     → list_all q (filter_map h bs) ≡ true
 all_mapped q h [] each = refl
-all_mapped q h (b ∷ bs) each = by (h b) (each b) (all_mapped q h bs each)
-  where
-    by : (o : Option NodeId) → ((x : NodeId) → o ≡ Some x → q x ≡ true) → list_all q (filter_map h bs) ≡ true
-        → list_all q (cons_option o (filter_map h bs)) ≡ true
-    by None e rest = rest
-    by (Some x) e rest = both _ _ (e x refl) rest
+all_mapped q h (b ∷ bs) each = grind (arith, all_mapped q h bs each)
 
 pub nodes_live : (g : Graph) → list_all (is_live g) (nodes g) ≡ true
-nodes_live g = all_mapped (is_live g) (λ b. id_of b (g.at b)) (range_with_len 1 g.births) (λ b x e. by b (g.at b) refl x e)
-  where
-    by : (b : ℕ) (o : Option Node) → g.at b ≡ o → (x : NodeId) → id_of b o ≡ Some x → is_live g x ≡ true
-    by b None f x e = absurd (none_some e)
-    by b (Some n) f x e = ap (is_live g) (sym (some_is e)) ∙ there_is _ n (finds n.key (g.at b) n f refl)
+nodes_live g = grind (arith, all_mapped, none_some, some_is, there_is, finds)
 
 -- the ids of nodes that are born
 abbrev pub new_ids : ℕ → List Node → List NodeId
@@ -75,11 +51,7 @@ module _ (g : Graph) (law : IsLawfulGraph g) (ns : List Node) where
   grown = born_nodes g ns
 
   pub nodes_grown : nodes grown ≡ nodes g ++ new_ids (g.births + 1) ns
-  nodes_grown =
-      parts g law ns (λ b. id_of b (grown.at b))
-      ∙ ap₂ (λ xs ys. xs ++ ys) (map_same (λ b. id_of b (g.at b)) (λ b. id_of b (grown.at b)) 1 g.births
-      (λ b low high. ap (id_of b) (old_at g ns b (omega arith))))
-      (listed_new (λ b. id_of b (grown.at b)) (g.births + 1) ns (λ k b e. ap (id_of b) (new_at g ns k b (none_above g law ns) (sym e))))
+  nodes_grown = grind (arith, parts, map_same, old_at, listed_new, new_at, none_above)
 
   pub count_grown : node_count grown ≡ node_count g + length ns
   count_grown = ap length nodes_grown ∙ length-append (nodes g) (new_ids (g.births + 1) ns) ∙ ap (λ k. node_count g + k) (count_ids (g.births + 1) ns)

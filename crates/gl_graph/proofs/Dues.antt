@@ -1,21 +1,10 @@
 -- What the graph says is to be stored beside each node, and how that changes.
-use Rattle.std.specs.Prelude.{◌≡◌, ◌≢◌, ℕ, zero, suc, ◌+◌, ◌-◌, ◌<◌, ◌≤◌, ◌^◌, Bool, true, false, ◌&&◌, List, [], ◌∷◌, length, Option, Some, None, cond}
-use Rattle.std.specs.Prelude.{if◌then◌else◌, slice_get}
-use Rattle.std.specs.List.{list_any}
-use Rattle.std.proofs.Common.{refl, sym, ap, ◌∙◌, arith, rules}
-use Rattle.std.proofs.lemmas.List.Sums.{count_by-le-length}
-use Rattle.gl_modes.proofs.Words.{no, not_true, number_same, number_other}
-use Rattle.gl_modes.specs.declared.node.NodeId.{NodeId}
-use Rattle.gl_modes.specs.Nodes.{same_node}
-use Rattle.gl_graph.specs.Shapes.{Shape, Inner, File, Index, Interval, Rec, is_inner_shape, is_file_shape, is_index_shape, is_record_shape, is_index_of_shape}
-use Rattle.gl_graph.specs.Shapes.{is_movable_shape}
-use Rattle.gl_graph.specs.Graph.{Graph, Node, nodes, node_at, is_live, shape_in, shape_of, parents_in, parents_of, is_child, indexes_of, interval}
-use Rattle.gl_graph.specs.Graph.{record_parents}
-use Rattle.gl_graph.specs.Lawful.{IsLawfulGraph, AreInnerParents, HasShape, are_inner}
-use Rattle.gl_graph.specs.Changes.{born_node, without_node}
-use Rattle.gl_graph.specs.View.{record_count, children_of, intervals_from, Beside, Counts, Lists, Spans, Nothing, due_as, due}
-use Rattle.gl_graph.specs.Seen.{beside_in_body, intervals_in_body}
-use Rattle.gl_graph.specs.declared.node.Body.{Body}
+use Rattle.gl_graph.proofs.Words.{[], ap, are_inner, AreInnerParents, arith, beside_in_body, Body, Bool, born_node, children_of, cond, count_by-le-length}
+use Rattle.gl_graph.proofs.Words.{Counts, due, false, File, Graph, HasShape, if◌then◌else◌, Index, indexes_of, Inner, interval, intervals_from}
+use Rattle.gl_graph.proofs.Words.{intervals_in_body, is_child, is_file_shape, is_index_of_shape, is_inner_shape, is_live, is_movable_shape, is_record_shape}
+use Rattle.gl_graph.proofs.Words.{IsLawfulGraph, length, List, list_any, Lists, no, Node, node_at, NodeId, nodes, None, not_true, number_other, number_same}
+use Rattle.gl_graph.proofs.Words.{Option, parents_in, parents_of, record_count, record_parents, refl, rules, same_node, Shape, shape_in, shape_of, slice_get}
+use Rattle.gl_graph.proofs.Words.{Some, Spans, suc, sym, true, without_node, zero, ℕ, ◌&&◌, ◌+◌, ◌-◌, ◌<◌, ◌^◌, ◌∙◌, ◌∷◌, ◌≡◌, ◌≢◌, ◌≤◌}
 use Rattle.gl_graph.specs.declared.node.Body.TheVariants as body
 use Rattle.gl_graph.proofs.Born.{born_frames, old_same}
 use Rattle.gl_graph.proofs.Counts.{count_none, nodes_live}
@@ -40,29 +29,16 @@ abbrev pub record_test : NodeId → Option Node → Bool
 record_test f o = is_record_shape (shape_in o) && list_any (same_node f) (parents_in o)
 
 pub inner_due : (g : Graph) (n : NodeId) → is_inner_shape (shape_of g n) ≡ true → due g n ≡ Counts (children_of g n)
-inner_due g n h = by (shape_of g n) h
-  where
-    by : (o : Option Shape) → is_inner_shape o ≡ true → due_as g n o ≡ Counts (children_of g n)
-    by o k = search rules
+inner_due g n h = grind arith
 
 pub file_due : (g : Graph) (n : NodeId) → is_file_shape (shape_of g n) ≡ true → due g n ≡ Lists (indexes_of g n) (record_count g n)
-file_due g n h = by (shape_of g n) h
-  where
-    by : (o : Option Shape) → is_file_shape o ≡ true → due_as g n o ≡ Lists (indexes_of g n) (record_count g n)
-    by o k = search rules
-
-pub record_due : (g : Graph) (n : NodeId) → is_record_shape (shape_of g n) ≡ true → due g n ≡ Nothing
-record_due g n h = by (shape_of g n) h
-  where
-    by : (o : Option Shape) → is_record_shape o ≡ true → due_as g n o ≡ Nothing
-    by o k = search rules
+file_due g n h = grind arith
 
 pub record_fixed : (o : Option Shape) → is_record_shape o ≡ true → is_movable_shape o ≡ false
 record_fixed o k = search rules
 
 pub not_among : (g : Graph) (ps : List NodeId) (n : NodeId) → are_inner g ps ≡ true → is_live g n ≡ false → list_any (same_node n) ps ≡ false
-not_among g ps n inner dead =
-    not_true _ (λ t. no (sym dead ∙ plain_live g n (inner_plain _ (all_at (λ q. is_inner_shape (shape_of g q)) ps n t inner))))
+not_among g ps n inner dead = grind (arith, not_true, no, plain_live, inner_plain, all_at)
 
 -- the intervals of an index, by their places
 pub span_count : (g : Graph) (n : NodeId) (from count : ℕ) → length (intervals_from g n from count) ≡ count
@@ -76,11 +52,7 @@ span_get g n from (suc count) zero c low e = let same : from ≡ c = omega arith
 span_get g n from (suc count) (suc place) c low e = span_get g n (from + 1) count place c (omega arith) (omega arith)
 
 pub intervals_stored : (b : Body) (is : List NodeId) → beside_in_body b ≡ Spans is → intervals_in_body b ≡ is
-intervals_stored (body.Index kept above) is e = ap spans_in e
-  where
-    spans_in : Beside → List NodeId
-    spans_in (Spans xs) = xs
-    spans_in _ = []
+intervals_stored (body.Index kept above) is e = cc
 intervals_stored _ is e = cc
 
 -- what is due beside a node that stays
@@ -89,8 +61,7 @@ pub due_stays : (g g' : Graph) (n : NodeId) (f : ℕ → ℕ) → node_at g' n �
     → (is_file_shape (shape_of g n) ≡ true → (indexes_of g' n ≡ indexes_of g n) × (record_count g' n ≡ record_count g n))
     → ((i : NodeId) (bs : List ℕ) → shape_of g n ≡ Some (Index i bs) → (place : ℕ) → place ≤ length bs → interval g' n place ≡ interval g n place)
     → recounted f (due g n) ≡ due g' n
-due_stays g g' n f same inner file index =
-    due_after g g' n f (shape_of g n) (λ e. inner (ap is_inner_shape e)) file index ∙ sym (ap (λ o. due_as g' n (shape_in o)) same)
+due_stays g g' n f same inner file index = grind (arith, due_after)
 
 no_file : (o : Option Shape) → is_inner_shape o ≡ true → file_or_interval o ≡ true → ⊥
 no_file o h k = search rules
@@ -98,16 +69,7 @@ no_file o h k = search rules
 module _ (g : Graph) (law : IsLawfulGraph g) where
   -- no inner node is a parent of an interval or a record
   pub no_inner_parent : (m q : NodeId) → is_inner_shape (shape_of g m) ≡ true → is_movable_shape (shape_of g q) ≡ false → is_child g m q ≡ false
-  no_inner_parent m q inner fixed =
-      not_true (is_child g m q) (λ c. let p = parent_is g law q m c in by p.0 (sym (ap is_movable_shape p.1) ∙ fixed) p.2)
-    where
-      no_index : (o : Option Shape) → is_inner_shape o ≡ true → is_index_shape o ≡ true → ⊥
-      no_index o h k = search rules
-
-      by : (sh : Shape) → is_movable_shape (Some sh) ≡ false → parent_kind sh (shape_of g m) ≡ true → ⊥
-      by (Interval place) f k = no_index (shape_of g m) inner k
-      by (Rec keys) f k = no_file (shape_of g m) inner k
-      by _ f k = no (sym f)
+  no_inner_parent m q inner fixed = grind (arith, not_true, parent_is, parent_kind, no_file, no)
 
   pub no_inner_among : (f m : NodeId) (keys : List ℕ) → is_file_shape (shape_of g f) ≡ true → is_inner_shape (shape_of g m) ≡ true
       → list_any (same_node m) (record_parents g f keys) ≡ false
@@ -115,11 +77,7 @@ module _ (g : Graph) (law : IsLawfulGraph g) where
 
   -- the number of children fits, and one more
   pub children_fit : (n : NodeId) → children_of g n + 1 < 2 ^ 64
-  children_fit n =
-      let few : children_of g n ≤ length (nodes g) = count_by-le-length (is_child g n) (nodes g) in
-      let room = law.room in
-      let limit = law.limit in
-      omega arith
+  children_fit n = grind (arith, count_by-le-length)
 
   pub dead_children : (n : NodeId) → is_live g n ≡ false → children_of g n ≡ 0
   dead_children n dead =
@@ -149,14 +107,7 @@ module _ (g : Graph) (law : IsLawfulGraph g) where
   pub count_without : (t : Option Node → Bool) (none : t None ≡ false) (g' : Graph) (r : NodeId) → is_live g r ≡ true → g'.births ≡ g.births
       → g'.at r.birth ≡ None → ((b : ℕ) → b ≢ r.birth → t (g'.at b) ≡ t (g.at b))
       → count_where t none g ≡ count_where t none g' + ones (t (node_at g r))
-  count_without t none g' r live births gone same =
-      let x = live_node (node_at g r) live in
-      let at = found_at g r x.0 x.1 in
-      let low = law.born r.birth (there_is (g.at r.birth) x.0 at.0) in
-      let all = count_changed t none g g' r.birth births same low.0 low.1 in
-      let here : ones (t (g.at r.birth)) ≡ ones (t (node_at g r)) = ap (λ o. ones (t o)) (at.0 ∙ sym x.1) in
-      let nothing : ones (t (g'.at r.birth)) ≡ 0 = ap (λ o. ones (t o)) gone ∙ ap ones none in
-      omega arith
+  count_without t none g' r live births gone same = grind (arith, live_node, found_at, there_is, count_changed)
 
   pub count_left : (t : Option Node → Bool) (none : t None ≡ false) (r : NodeId) → is_live g r ≡ true
       → count_where t none g ≡ count_where t none (without_node g r) + ones (t (node_at g r))

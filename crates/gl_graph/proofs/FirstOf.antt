@@ -1,8 +1,5 @@
 -- The first refusal of one test, and of two lists of tests, one after the other.
-use Rattle.std.specs.Prelude.{◌≡◌, List, [], ◌∷◌, ◌++◌, Option, Some, None}
-use Rattle.std.proofs.Common.{refl}
-use Rattle.gl_modes.specs.declared.refusal.Refusal.{Refusal}
-use Rattle.gl_graph.specs.Refusals.{first_refusal}
+use Rattle.gl_graph.proofs.Words.{[], first_refusal, List, None, Option, refl, Refusal, Some, ◌++◌, ◌∷◌, ◌≡◌}
 
 -- if the first list passes, the second decides
 pub passed_then : (xs ys : List (Option Refusal)) → first_refusal xs ≡ None → first_refusal (xs ++ ys) ≡ first_refusal ys

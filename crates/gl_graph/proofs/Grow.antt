@@ -1,21 +1,9 @@
 -- One node after the other is born.
-use Rattle.std.specs.Prelude.{◌≡◌, ◌≢◌, ℕ, suc, ◌+◌, true, false, not, ◌==◌, ◌||◌, List, [], ◌∷◌, ◌++◌, length, Option, Some, None, is_some}
-use Rattle.std.specs.List.{list_any}
-use Rattle.std.proofs.Math.Bool.{or-false}
-use Rattle.std.proofs.lemmas.Bool.{not-true}
-use Rattle.std.proofs.lemmas.List.Folds.{list_any-append}
-use Rattle.std.proofs.lemmas.List.{length-append}
-use Rattle.std.proofs.Common.{refl, sym, ap, ap₂, ◌∙◌, subst, arith, inl, inr}
-use Rattle.gl_modes.proofs.Words.{split, no, none_some, some_is, or_elim, both, and_both, same_number, other_number, number_other}
-use Rattle.gl_modes.specs.declared.node.NodeId.{NodeId}
-use Rattle.slab.specs.Slab.{Slab, get, slab_len, Updates}
-use Rattle.gl_graph.specs.declared.node.Node.{Node as Stored}
-use Rattle.gl_graph.specs.Shapes.{Interval}
-use Rattle.gl_graph.specs.Graph.{Graph, Node}
-use Rattle.gl_graph.specs.Changes.{born_node, born_nodes, interval_nodes, keys_of, are_apart}
-use Rattle.gl_graph.specs.View.{graph_of, node_of}
-use Rattle.gl_graph.specs.Seen.{shape_in_body, vertex_of, seen, AreBornApart, AreBornWithin, parents_in_body}
-use Rattle.gl_graph.specs.Grown.{IsGrown, ids_of, AreIntervalsBorn}
+use Rattle.gl_graph.proofs.Words.{[], and_both, ap, are_apart, AreIntervalsBorn, arith, born_node, born_nodes, both, false, get, Graph, graph_of, ids_of, inr}
+use Rattle.gl_graph.proofs.Words.{Interval, interval_nodes, is_some, IsGrown, keys_of, length, length-append, List, list_any, list_any-append, no, Node}
+use Rattle.gl_graph.proofs.Words.{node_of, NodeId, None, none_some, not-true, number_other, or-false, or_elim, other_number, parents_in_body, refl, same_number}
+use Rattle.gl_graph.proofs.Words.{seen, shape_in_body, Slab, slab_len, Some, some_is, split, Stored, subst, suc, sym, true, Updates, vertex_of, ℕ, ◌++◌, ◌+◌}
+use Rattle.gl_graph.proofs.Words.{◌==◌, ◌||◌, ◌∙◌, ◌∷◌, ◌≡◌, ◌≢◌}
 use Rattle.gl_graph.proofs.Unrefused.{or_no}
 use Rattle.gl_graph.proofs.Slots.{inserted, inserted_apart, inserted_within}
 
@@ -32,26 +20,7 @@ any_more k xs x = list_any-append (λ y. y == k) xs (x ∷ []) ∙ ap (λ b. lis
 
 apart_more : (xs : List ℕ) (x : ℕ) → are_apart xs ≡ true → list_any (λ y. y == x) xs ≡ false → are_apart (xs ++ x ∷ []) ≡ true
 apart_more [] x h k = refl
-apart_more (y ∷ xs) x h k =
-    let t = and_both (not (list_any (λ z. z == y) xs)) (are_apart xs) h in
-    let o = or_no (y == x) (list_any (λ z. z == x) xs) k in
-    both _ _ (ap not (any_more y xs x ∙ ap₂ (λ a b. a || b) (not-true (list_any (λ z. z == y) xs) t.0)
-    (number_other x y (λ e. other_number y x o.0 (sym e))))) (apart_more xs x t.1 o.1)
-
-pub grown_none : (s : Slab Stored) (births : ℕ) → AreBornApart s → AreBornWithin s births → IsGrown s births s []
-grown_none s births apart within =
-    let same : births ≡ births + 0 = omega arith in
-    record {
-      graph = λ limits. ap (λ b. graph_of (seen limits s b)) (sym same);
-      apart = apart;
-      within = subst (AreBornWithin s) same within;
-      len = omega arith;
-      stays = λ k x e. e;
-      came = λ k x e. inl e;
-      vacant = λ k h. absurd (no h);
-      taken = λ k h. absurd (no h);
-      keys_apart = refl;
-    }
+apart_more (y ∷ xs) x h k = grind (arith, apart_more xs x, and_both, or_no, both, any_more, not-true, number_other, other_number)
 
 module _ (old now next : Slab Stored) (births : ℕ) (ns : List Node) (grown : IsGrown old births now ns) (key : ℕ) (x : Stored)
     (free : get now key ≡ None) (u : Updates now next key (Some x)) (birth : x.birth ≡ births + length ns + 1)
@@ -72,11 +41,7 @@ module _ (old now next : Slab Stored) (births : ℕ) (ns : List Node) (grown : I
   listed k = ap (list_any (λ y. y == k)) (keys_more ns (node_of key (vertex_of x))) ∙ any_more k (keys_of ns) key
 
   was_vacant : get old key ≡ None
-  was_vacant = by (get old key) refl
-    where
-      by : (o : Option Stored) → get old key ≡ o → get old key ≡ None
-      by None e = e
-      by (Some y) e = absurd (none_some (sym free ∙ grown.stays key y e))
+  was_vacant = grind arith
 
   pub grown_more : IsGrown old births next more
   grown_more = record {
@@ -86,8 +51,7 @@ module _ (old now next : Slab Stored) (births : ℕ) (ns : List Node) (grown : I
         ∙ ap (λ g. born_node g (node_of key (vertex_of x))) (grown.graph limits)
         ∙ sym (born_more (graph_of (seen limits old births)) ns (node_of key (vertex_of x)));
     apart = inserted_apart (record { most = 0; most_bounds = 0 }) now next (births + length ns) key x grown.apart grown.within free u birth;
-    within = subst (AreBornWithin next) count
-        (inserted_within (record { most = 0; most_bounds = 0 }) now next (births + length ns) key x grown.apart grown.within free u birth);
+    within = grind (arith, count, inserted_within);
     len = let e = length-append ns (node_of key (vertex_of x) ∷ []) in let was = grown.len in omega arith;
     stays = λ k y e. let now_there = grown.stays k y e in u.others k (not_key k y now_there) ∙ now_there;
     came = λ k y e. split (k == key)
@@ -95,9 +59,7 @@ module _ (old now next : Slab Stored) (births : ℕ) (ns : List Node) (grown : I
         inr (place, ap (λ z. shape_in_body z.body) (sym same) ∙ shape))
         (λ t. grown.came k y (sym (u.others k (other_number k key t)) ∙ e));
     vacant = λ k h. or_elim _ _ (sym (listed k) ∙ h) (λ was. grown.vacant k was) (λ is. ap (get old) (sym (same_number key k is)) ∙ was_vacant);
-    taken = λ k h. split (k == key) (λ t. ap is_some (ap (get next) (same_number k key t) ∙ u.changed))
-        (λ t. ap is_some (u.others k (other_number k key t))
-        ∙ grown.taken k (or_elim _ _ (sym (listed k) ∙ h) (λ was. was) (λ is. absurd (other_number k key t (sym (same_number key k is))))));
+    taken = grind (arith, same_number, other_number, or_elim, listed);
     keys_apart = ap are_apart (keys_more ns (node_of key (vertex_of x))) ∙ apart_more (keys_of ns) key grown.keys_apart unlisted;
   }
 
@@ -105,8 +67,7 @@ module _ (old now next : Slab Stored) (births : ℕ) (ns : List Node) (grown : I
 pub intervals_more : (index : NodeId) (from : ℕ) (keys : List ℕ) (key c : ℕ) → from + length keys ≡ c
     → interval_nodes index from (keys ++ key ∷ []) ≡ interval_nodes index from keys ++ record { key = key; shape = Interval c; parents = index ∷ [] } ∷ []
 intervals_more index from [] key c e = let same : from ≡ c = omega arith in λ i. record { key = key; shape = Interval (same i); parents = index ∷ [] } ∷ []
-intervals_more index from (k ∷ keys) key c e =
-    ap (λ xs. record { key = k; shape = Interval from; parents = index ∷ [] } ∷ xs) (intervals_more index (from + 1) keys key c (omega arith))
+intervals_more index from (k ∷ keys) key c e = grind (arith, intervals_more index (from + 1) keys key c (omega arith))
 
 pub ids_more : (birth : ℕ) (keys : List ℕ) (key b : ℕ) → birth + length keys ≡ b → ids_of birth (keys ++ key ∷ []) ≡ ids_of birth keys
     ++ record { key = key; birth = b } ∷ []
@@ -126,13 +87,11 @@ intervals_born old now next index place ids next_ids born key x free u birth len
     let many = born.many in
     let nodes = count_intervals index 0 born.keys in
     let all = intervals_more index 0 born.keys key place (omega arith) in
-    let node : node_of key (vertex_of x) ≡ record { key = key; shape = Interval place; parents = index ∷ [] } =
-    (λ i. record { key = key; shape = shape i; parents = parents i }) in
+    let node : node_of key (vertex_of x) ≡ record { key = key; shape = Interval place; parents = index ∷ [] } = grind arith in
     let more = grown_more old now next index.birth (interval_nodes index 0 born.keys) born.grown key x free u (omega arith) len place shape in
     record {
       keys = born.keys ++ key ∷ [];
       many = length-append born.keys (key ∷ []) ∙ ap (λ n. n + 1) many;
       grown = subst (IsGrown old index.birth next) (ap (λ n. interval_nodes index 0 born.keys ++ n ∷ []) node ∙ sym all) more;
-      ids_are = listed ∙ ap (λ xs. xs ++ record { key = key; birth = index.birth + 1 + place } ∷ []) born.ids_are
-          ∙ sym (ids_more (index.birth + 1) born.keys key (index.birth + 1 + place) (omega arith));
+      ids_are = grind (arith, listed, ids_more);
     }

@@ -1,18 +1,10 @@
 -- What the slab holds after each write: the graph it shows, and what it stores beside each node.
-use Rattle.std.specs.Prelude.{◌≡◌, ◌≢◌, ℕ, zero, suc, ◌+◌, ◌≤◌, true, false, ◌==◌, List, [], ◌∷◌, length, Option, Some, None, is_some, if◌then◌else◌}
-use Rattle.std.proofs.Common.{refl, sym, ap, ap₂, ◌∙◌, subst, arith}
-use Rattle.gl_modes.proofs.NodeLemmas.{node_is, same_node-refl, same_node-differ}
-use Rattle.gl_modes.proofs.Words.{split, none_some, some_is, same_number, other_number}
-use Rattle.gl_modes.specs.declared.node.NodeId.{NodeId}
-use Rattle.gl_modes.specs.Nodes.{same_node}
-use Rattle.slab.specs.Slab.{Slab, get, slab_len, Updates}
-use Rattle.gl_graph.specs.declared.node.Node.{Node as Stored}
-use Rattle.gl_graph.specs.Shapes.{Shape, Inner, File, Index, is_file_shape}
-use Rattle.gl_graph.specs.Graph.{Graph, node_at, is_live, indexes_of, interval, node_count}
-use Rattle.gl_graph.specs.Lawful.{IsLawfulGraph}
-use Rattle.gl_graph.specs.Changes.{with_node, born_node, without_node}
-use Rattle.gl_graph.specs.View.{node_of, record_count, children_of, intervals_from, Beside, Counts, Lists, Spans, due_as, due}
-use Rattle.gl_graph.specs.Seen.{Limits, vertex_of, AreBornWithin, beside_in_body, Holds, AreSound}
+use Rattle.gl_graph.proofs.Words.{[], ap, ap₂, AreBornWithin, AreSound, arith, Beside, beside_in_body, born_node, children_of, Counts, due, due_as, false, File}
+use Rattle.gl_graph.proofs.Words.{get, Graph, Holds, if◌then◌else◌, Index, indexes_of, Inner, interval, intervals_from, is_file_shape, is_live, is_some}
+use Rattle.gl_graph.proofs.Words.{IsLawfulGraph, length, Limits, List, Lists, node_at, node_count, node_is, node_of, NodeId, None, none_some, Option}
+use Rattle.gl_graph.proofs.Words.{other_number, record_count, refl, same_node, same_node-differ, same_node-refl, same_number, Shape, Slab, slab_len, Some}
+use Rattle.gl_graph.proofs.Words.{some_is, Spans, split, Stored, subst, suc, sym, true, Updates, vertex_of, with_node, without_node, zero, ℕ, ◌+◌, ◌==◌, ◌∙◌}
+use Rattle.gl_graph.proofs.Words.{◌∷◌, ◌≡◌, ◌≢◌, ◌≤◌}
 use Rattle.gl_graph.proofs.Changed.{nodes_same}
 use Rattle.gl_graph.proofs.Counts.{count_grown}
 use Rattle.gl_graph.proofs.Left.{fewer_nodes}
@@ -36,8 +28,7 @@ put_other n b beside m h = ap (λ t. if t then b else beside m) h
 spans_same : (g g' : Graph) (n : NodeId) (from count last : ℕ) → from + count ≡ last + 1
     → ((place : ℕ) → place ≤ last → interval g' n place ≡ interval g n place) → intervals_from g n from count ≡ intervals_from g' n from count
 spans_same g g' n from zero last e same = refl
-spans_same g g' n from (suc count) last e same =
-    ap₂ (λ x xs. x ∷ xs) (sym (same from (omega arith))) (spans_same g g' n (from + 1) count last (omega arith) same)
+spans_same g g' n from (suc count) last e same = grind (arith, spans_same g g' n (from + 1) count last (omega arith) same)
 
 -- what is due beside a node that keeps its shape: another number of children, and all else as it was
 pub due_after : (g g' : Graph) (n : NodeId) (f : ℕ → ℕ) (o : Option Shape) → (o ≡ Some Inner → children_of g' n ≡ f (children_of g n))
@@ -112,14 +103,7 @@ module _ {limits : Limits} {old new : Slab Stored} {births : ℕ} {g : Graph} {b
     (same : x.birth ≡ was.birth) (len : slab_len new ≡ slab_len old) where
   kept_after : (after : NodeId → Beside) → beside_in_body x.body ≡ after n → ((m : NodeId) → m.key ≢ n.key → after m ≡ beside m)
       → (k : ℕ) (y : Stored) → get new k ≡ Some y → beside_in_body y.body ≡ after (record { key = k; birth = y.birth })
-  kept_after after here other k y e =
-      split (k == n.key) (λ t.
-      let key = same_number k n.key t in
-      let is : x ≡ y = some_is (sym u.changed ∙ ap (get new) (sym key) ∙ e) in
-      ap (λ (z : Stored). beside_in_body z.body) (sym is) ∙ here
-      ∙ ap after (node_is n (record { key = k; birth = y.birth }) (sym key) (sym born ∙ sym same ∙ ap (λ (z : Stored). z.birth) is))) (λ t.
-      let ne = other_number k n.key t in
-      h.kept k y (sym (u.others k ne) ∙ e) ∙ sym (other (record { key = k; birth = y.birth }) ne))
+  kept_after after here other k y e = grind arith
 
   -- beside the node alone
   pub beside_written : node_of n.key (vertex_of x) ≡ node_of n.key (vertex_of was) → Holds limits new births g (put n (beside_in_body x.body) beside)

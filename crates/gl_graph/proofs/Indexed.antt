@@ -1,31 +1,14 @@
 -- An index is born with its intervals: what is stored beside the nodes is due again after its file lists it and its parents count it.
-use Rattle.std.specs.Prelude.{◌≡◌, ◌≢◌, ℕ, zero, suc, ◌+◌, ◌<◌, ◌≤◌, ◌^◌, Bool, true, false, not, ◌==◌, ◌&&◌, List, [], ◌∷◌, ◌++◌, length, Option, Some, None}
-use Rattle.std.specs.Prelude.{is_some, cond, if◌then◌else◌, count_by, Vec}
-use Rattle.std.specs.List.{list_any}
-use Rattle.std.specs.declared.alloc.Global.{Global}
-use Rattle.std.proofs.Common.{refl, sym, ap, ap₂, ◌∙◌, subst, arith, ⊎_elim, rules}
-use Rattle.smallvec.specs.SmallVec.{SmallVec}
-use Rattle.gl_modes.proofs.NodeLemmas.{node_is, same_node-refl, same_node-equal, same_node-differ}
-use Rattle.gl_modes.proofs.Words.{split, cases_of, no, none_some, some_is, not_true, both, same_number, or_elim}
-use Rattle.gl_modes.specs.declared.node.NodeId.{NodeId}
-use Rattle.gl_modes.specs.Nodes.{same_node}
-use Rattle.slab.specs.Slab.{Slab, get, slab_len, ContainsKey, Updates}
-use Rattle.gl_graph.specs.declared.node.Body.{Body}
+use Rattle.gl_graph.proofs.Words.{[], ap, ap₂, are_apart, AreBornApart, AreBornWithin, AreInnerParents, AreIntervalsBorn, AreRecounted, AreSound, arith, Beside}
+use Rattle.gl_graph.proofs.Words.{beside_in_body, Body, body_with_indexes, body_with_intervals, Bool, born_index, born_node, born_nodes, both, cases_of}
+use Rattle.gl_graph.proofs.Words.{children_of, ContainsKey, count_by, due, due_as, false, get, Global, Graph, graph_of, Holds, ids_of, if◌then◌else◌, Index}
+use Rattle.gl_graph.proofs.Words.{indexes_of, Inside, Interval, interval, interval_nodes, intervals_from, is_inner_shape, is_live, is_some, IsFreeKey}
+use Rattle.gl_graph.proofs.Words.{IsIndexBorn, IsLawfulGraph, IsSound, length, Limits, limits_of, List, list_any, Lists, no, Node, node_at, node_count, node_of}
+use Rattle.gl_graph.proofs.Words.{NodeId, None, none_some, not_true, Nothing, Option, or_elim, parents_in_body, record_count, refl, reindex_refusal, same_node}
+use Rattle.gl_graph.proofs.Words.{same_node-equal, same_number, seen, shape_in, shape_in_body, shape_of, Slab, slab_len, SmallVec, Some, Spans, split, Stored}
+use Rattle.gl_graph.proofs.Words.{subst, suc, sym, true, Updates, Vec, vertex_of, View, view_of, zero, ℕ, ⊎_elim, ◌++◌, ◌+◌, ◌<◌, ◌==◌, ◌^◌, ◌∙◌, ◌∷◌, ◌≡◌, ◌≢◌}
 use Rattle.gl_graph.specs.declared.node.Body.TheVariants as body
-use Rattle.gl_graph.specs.declared.node.Node.{Node as Stored}
-use Rattle.gl_graph.specs.Shapes.{Shape, Index, Interval, is_inner_shape, is_file_shape}
-use Rattle.gl_graph.specs.Graph.{Graph, Node, node_at, is_live, shape_in, shape_of, indexes_of, interval, node_count, IsFreeKey}
-use Rattle.gl_graph.specs.Lawful.{IsLawfulGraph, AreInnerParents}
-use Rattle.gl_graph.specs.Changes.{born_node, born_nodes, born_index, interval_nodes, are_apart, IsIndexBorn}
-use Rattle.gl_graph.specs.Refusals.{reindex_refusal}
-use Rattle.gl_graph.specs.View.{View, graph_of, node_of, record_count, children_of, intervals_from, Beside, Lists, Spans, Nothing, due_as, due}
-use Rattle.gl_graph.specs.Seen.{Limits, vertex_of, seen, shape_in_body, parents_in_body, body_with_intervals, body_with_indexes, beside_in_body, Holds}
-use Rattle.gl_graph.specs.Seen.{AreSound, AreBornApart, AreBornWithin}
-use Rattle.gl_graph.specs.Grown.{ids_of, AreIntervalsBorn, AreRecounted}
-use Rattle.gl_graph.specs.Sound.{limits_of, view_of, IsSound}
-use Rattle.gl_graph.specs.declared.graph.Graph.TheInside.{Inside}
-use Rattle.gl_graph.proofs.Beside.{held}
-use Rattle.gl_graph.proofs.Born.{old_same, old_or_new, place_in, new_id, new_not_old, old_below}
+use Rattle.gl_graph.proofs.Born.{old_same, old_or_new, place_in, new_id, new_not_old}
 use Rattle.gl_graph.proofs.Counted.{AreKept, are_kept, counted_in, counts_written}
 use Rattle.gl_graph.proofs.Counts.{count_cons, count_grown}
 use Rattle.gl_graph.proofs.Dues.{child_test, record_test, inner_due, file_due, intervals_same, due_stays, children_fit, one_more}
@@ -38,7 +21,7 @@ use Rattle.gl_graph.proofs.NewIndex.{keys_of_intervals, interval_node, others, i
 use Rattle.gl_graph.proofs.SameParents.{intervals_shown, indexes_shown}
 use Rattle.gl_graph.proofs.Slots.{inserted_apart, inserted_within}
 use Rattle.gl_graph.proofs.Tally.{ones, count_borns}
-use Rattle.gl_graph.proofs.Unrefused.{IsRoomyIndex, index_births, reindex_unrefused}
+use Rattle.gl_graph.proofs.Unrefused.{IsRoomyIndex}
 
 intervals_written : (b : Body) (fresh : Vec NodeId Global) (f : NodeId) (bs : List ℕ) → shape_in_body b ≡ Index f bs
     → beside_in_body (body_with_intervals b fresh) ≡ Spans fresh.items
@@ -47,11 +30,7 @@ intervals_written _ fresh f bs e = cc
 
 indexes_written : (b : Body) (fresh : SmallVec NodeId) (is : List NodeId) (k : ℕ) → beside_in_body b ≡ Lists is k
     → beside_in_body (body_with_indexes b fresh) ≡ Lists fresh.items k
-indexes_written (body.File kept above) fresh is k e = ap (λ (l : Beside). Lists fresh.items (records_in l)) e
-  where
-    records_in : Beside → ℕ
-    records_in (Lists xs n) = n
-    records_in _ = 0
+indexes_written (body.File kept above) fresh is k e = cc
 indexes_written _ fresh is k e = cc
 
 dead_due : (g : Graph) (n : NodeId) → is_live g n ≡ false → due g n ≡ Nothing
@@ -61,9 +40,7 @@ dead_due g n dead = cases_of (node_at g n) (λ e. ap (λ o. due_as g n (shape_in
 none_among : (t : Node → Bool) (index : NodeId) (place : ℕ) (keys : List ℕ)
     → ((p k : ℕ) → t (record { key = k; shape = Interval p; parents = index ∷ [] }) ≡ false) → count_by t (interval_nodes index place keys) ≡ 0
 none_among t index place [] none = refl
-none_among t index place (k ∷ keys) none =
-    count_cons t (record { key = k; shape = Interval place; parents = index ∷ [] }) (interval_nodes index (place + 1) keys)
-    ∙ ap₂ (λ b n. ones b + n) (none place k) (none_among t index (place + 1) keys none)
+none_among t index place (k ∷ keys) none = grind (arith, none_among t index (place + 1) keys none)
 
 -- the intervals of an index that names each at its place
 spans_listed : (g : Graph) (index : NodeId) (from b : ℕ) (keys : List ℕ)
@@ -76,15 +53,7 @@ spans_listed g index from b (k ∷ keys) at =
 
 -- other room is not seen
 pub roomy_sound : (i : Inside) → IsSound i → (s : Slab Stored) → s ≡ record i.nodes { capacity = s.capacity } → AreSound (limits_of i) s i.births
-roomy_sound i sound s e = subst (λ (n : Slab Stored). AreSound (limits_of i) n i.births) (sym e) (record {
-  lawful = sound.lawful;
-  holds = record {
-    graph = sound.holds.graph;
-    apart = sound.holds.apart;
-    counted = sound.holds.counted;
-    kept = sound.holds.kept;
-  };
-})
+roomy_sound i sound s e = grind arith
 
 pub roomy_view : (i : Inside) (v : View) → view_of i ≡ v → (s : Slab Stored) → s ≡ record i.nodes { capacity = s.capacity }
     → seen (limits_of i) s i.births ≡ v
@@ -92,18 +61,12 @@ roomy_view i v view s e = ap (λ (n : Slab Stored). seen (limits_of i) n i.birth
 
 pub roomy : (i : Inside) (sound : IsSound i) (v : View) (view : view_of i ≡ v) (s : Slab Stored) → s ≡ record i.nodes { capacity = s.capacity }
     → Holds (limits_of i) s i.births (graph_of v) (due (graph_of v))
-roomy i sound v view s e =
-    let h = held i sound v view in
-    subst (λ (n : Slab Stored). Holds (limits_of i) n i.births (graph_of v) (due (graph_of v))) (sym e)
-    (record { graph = h.graph; apart = h.apart; counted = h.counted; kept = h.kept })
+roomy i sound v view s e = grind arith
 
 -- an index that no test refuses can be numbered, with its intervals
 pub births_left : {limits : Limits} {s : Slab Stored} {births : ℕ} {g : Graph} {beside : NodeId → Beside} → Holds limits s births g beside
     → IsLawfulGraph g → (ps : List NodeId) (f : NodeId) (bs : List ℕ) → reindex_refusal g ps f bs ≡ None → births + 1 + (length bs + 1) < 2 ^ 64
-births_left {g = g} h law ps f bs free =
-    let low = index_births g ps f bs (reindex_unrefused g ps f bs free) law.limit in
-    let same = births_held h in
-    omega arith
+births_left {g = g} h law ps f bs free = grind arith
 
 module _ {limits : Limits} {old mid : Slab Stored} {births : ℕ} {g : Graph} (h : Holds limits old births g (due g)) (law : IsLawfulGraph g)
     (key : ℕ) (x : Stored) (free : get old key ≡ None) (u : Updates old mid key (Some x)) (next : x.birth ≡ births + 1)
@@ -168,10 +131,7 @@ module _ {limits : Limits} {old mid : Slab Stored} {births : ℕ} {g : Graph} (h
         by k' v (Some y) e' = absurd (none_some (sym v ∙ u.others k' (λ same. none_some (sym free ∙ ap (get old) (sym same) ∙ e')) ∙ e'))
 
     apart_keys : are_apart (key ∷ keys) ≡ true
-    apart_keys =
-        both _ _ (split (list_any (λ y. y == key) keys)
-        (λ t. absurd (none_some (sym (born'.grown.vacant key (ap (list_any (λ y. y == key)) (keys_of_intervals id 0 keys) ∙ t)) ∙ u.changed))) (λ t. ap not t))
-        (ap are_apart (sym (keys_of_intervals id 0 keys)) ∙ born'.grown.keys_apart)
+    apart_keys = grind (arith, both, none_some, keys_of_intervals)
 
     lawful : IsLawfulGraph after
     lawful = index_lawful g law key ps file bounds keys may.inner may.file may.few may.rise may.unused may.indexes born'.many apart_keys free_keys may.room
@@ -195,17 +155,14 @@ module _ {limits : Limits} {old mid : Slab Stored} {births : ℕ} {g : Graph} (h
       where
         by : (k : ℕ) (y : Stored) → get grown k ≡ Some y → (o : Option Stored) → get mid k ≡ o
             → beside_in_body y.body ≡ first (record { key = k; birth = y.birth })
-        by k y e (Some z) there =
-            let same : z ≡ y = some_is (sym (born'.grown.stays k z there) ∙ e) in added.kept k y (there ∙ ap Some same)
+        by k y e (Some z) there = grind arith
         by k y e None there =
             let ne : k ≢ key = λ same. none_some (sym there ∙ ap (get mid) same ∙ u.changed) in
             let dead : is_live g (record { key = k; birth = y.birth }) ≡ false =
             not_true _ (λ t. none_some (sym there ∙ u.others k ne ∙ (live_held h (record { key = k; birth = y.birth }) t).there)) in
             ⊎_elim (λ (was : get mid k ≡ Some y). absurd (none_some (sym there ∙ was)))
             (λ (new : (place : ℕ) × (shape_in_body y.body ≡ Interval place)). nothing y.body new.0 new.1) (born'.grown.came k y e)
-            ∙ sym (put_other id (beside_in_body x.body) (due g) (record { key = k; birth = y.birth })
-            (same_node-differ (record { key = k; birth = y.birth }) id (λ q. ne (ap (λ (m : NodeId). m.key) q)))
-            ∙ dead_due g (record { key = k; birth = y.birth }) dead)
+            ∙ sym (grind arith)
           where
             nothing : (b : Body) (place : ℕ) → shape_in_body b ≡ Interval place → beside_in_body b ≡ Nothing
             nothing (body.Interval at up) place e' = refl
@@ -258,11 +215,7 @@ module _ {limits : Limits} {old mid : Slab Stored} {births : ℕ} {g : Graph} (h
             file_third slot.born (rewrite slot.stored file_third) refl len4 (indexes_shown file.key slot.stored.body list)
 
         still : (m : NodeId) → is_live g m ≡ true → same_node m file ≡ false → now m ≡ due g m
-        still m live other =
-            let apart : same_node m id ≡ false =
-            not_true _ (λ t. let low = old_below g law ns m live in let b = ap (λ (q : NodeId). q.birth) (same_node-equal m id t) in absurd (omega arith)) in
-            put_other file (beside_in_body (body_with_indexes slot.stored.body list)) second m other
-            ∙ put_other id (beside_in_body (body_with_intervals x.body fresh)) first m apart ∙ put_other id (beside_in_body x.body) (due g) m apart
+        still m live other = grind arith
 
         same_frames : Rattle.gl_graph.proofs.KindRules.Frames g after
         same_frames = frames g law key ps file bounds keys may.inner may.file may.few may.rise may.unused may.indexes born'.many apart_keys free_keys may.room
@@ -271,11 +224,7 @@ module _ {limits : Limits} {old mid : Slab Stored} {births : ℕ} {g : Graph} (h
         inner = parents_kept g after law same_frames 1 ps may.inner
 
         inner_other : (m : NodeId) → is_inner_shape (shape_of g m) ≡ true → same_node m file ≡ false
-        inner_other m i = not_true _ (λ t. no
-            (sym (no_inner (shape_of g file) may.file) ∙ ap (λ q. is_inner_shape (shape_of g q)) (sym (same_node-equal m file t)) ∙ i))
-          where
-            no_inner : (o : Option Shape) → is_file_shape o ≡ true → is_inner_shape o ≡ false
-            no_inner o k = search rules
+        inner_other m i = grind arith
 
         pub index_parents : AreKept (λ children. children + 1 < 2 ^ 64) fourth ps
         index_parents =
@@ -290,8 +239,7 @@ module _ {limits : Limits} {old mid : Slab Stored} {births : ℕ} {g : Graph} (h
         records_kept : (f : NodeId) → record_count after f ≡ record_count g f
         records_kept f =
             let all : record_count after f ≡ record_count g f + count_by (λ n. record_test f (Some n)) ns = count_borns (record_test f) refl g ns in
-            let head : count_by (λ n. record_test f (Some n)) ns ≡ 0 + count_by (λ n. record_test f (Some n)) (interval_nodes id 0 keys) =
-            count_cons (λ n. record_test f (Some n)) index (interval_nodes id 0 keys) in
+            let head : count_by (λ n. record_test f (Some n)) ns ≡ 0 + count_by (λ n. record_test f (Some n)) (interval_nodes id 0 keys) = grind arith in
             let rest = none_among (λ n. record_test f (Some n)) id 0 keys (λ p k. refl) in
             omega arith
 
@@ -301,16 +249,14 @@ module _ {limits : Limits} {old mid : Slab Stored} {births : ℕ} {g : Graph} (h
             let head : count_by (λ n. child_test m (Some n)) ns
             ≡ ones (list_any (same_node m) ps) + count_by (λ n. child_test m (Some n)) (interval_nodes id 0 keys) =
             count_cons (λ n. child_test m (Some n)) index (interval_nodes id 0 keys) in
-            let apart : same_node m id ≡ false =
-            not_true _ (λ t. let low = old_below g law ns m live in let b = ap (λ (q : NodeId). q.birth) (same_node-equal m id t) in absurd (omega arith)) in
+            let apart : same_node m id ≡ false = grind arith in
             let rest = none_among (λ n. child_test m (Some n)) id 0 keys (λ p k. ap (λ b. Rattle.std.specs.Prelude.◌||◌ b false) apart) in
             omega arith
 
         due_file : beside_in_body (body_with_indexes slot.stored.body list) ≡ due after file
         due_file =
             indexes_written slot.stored.body list (indexes_of g file) (record_count g file) (slot.kept ∙ file_due g file may.file)
-            ∙ ap₂ Lists (list_is ∙ ap (λ b. indexes_of g file ++ record { key = key; birth = b + 1 } ∷ []) (sym births_are)
-            ∙ sym (file_index g law key ps file bounds keys)) (sym (records_kept file))
+            ∙ ap₂ Lists (grind (arith, births_are, file_index)) (sym (records_kept file))
             ∙ sym (file_due after file ((same_frames.shapes file (file_plain _ may.file)).file ∙ may.file))
 
         due_index : beside_in_body (body_with_intervals x.body fresh) ≡ due after id
@@ -363,10 +309,7 @@ module _ {limits : Limits} {old mid : Slab Stored} {births : ℕ} {g : Graph} (h
 
               new_due : (m : NodeId) → same_node m file ≡ false → same_node m id ≡ false → (y : Node) → node_at after m ≡ Some y → (k : ℕ)
                   → place_in ns k ≡ Some y → m ≡ new_id g law ns y k → recounted (more m) (now m) ≡ due after m
-              new_due m other apart y there zero at is =
-                  let birth : g.births + 1 + 0 ≡ g.births + 1 = omega arith in
-                  absurd (no (sym apart ∙ ap (λ q. same_node q id) (is ∙ node_is (new_id g law ns y 0) id (ap (λ (z : Node). z.key) (sym (some_is at))) birth)
-                  ∙ same_node-refl id))
+              new_due m other apart y there zero at is = grind arith
               new_due m other apart y there (suc k) at is =
                   let dead : is_live g m ≡ false = not_true _ (λ t. new_not_old g law ns (suc k) y (ap (is_live g) (sym is) ∙ t)) in
                   ap (recounted (more m)) (put_other file (beside_in_body (body_with_indexes slot.stored.body list)) second m other

@@ -1,14 +1,8 @@
 -- The interval of a key is the one that contains it.
-use Rattle.std.specs.Prelude.{◌≡◌, ℕ, zero, suc, ◌+◌, ◌<◌, ◌≤◌, true, nat_le, List, [], ◌∷◌, ◌&&◌, length, Some, None, slice_index_or, if◌then◌else◌}
-use Rattle.std.proofs.Common.{sym, ap, subst, arith, add-one, ◌∙◌}
-use Rattle.std.proofs.lemmas.Bool.Decides.{nat_tests}
-use Rattle.gl_modes.proofs.Words.{and_both, both, none_some, some_is, split}
-use Rattle.gl_modes.specs.declared.node.NodeId.{NodeId}
-use Rattle.gl_graph.specs.Graph.{Graph, interval, interval_at, interval_of, interval_place, shape_of}
-use Rattle.gl_graph.specs.Intervals.{HoldsKey, beginning}
-use Rattle.gl_graph.specs.Laws.{IntervalsHoldKeys, KeysHaveIntervals}
-use Rattle.gl_graph.specs.Lawful.{IsLawfulGraph, IsRising}
-use Rattle.gl_graph.specs.Shapes.{bounds_in, is_index_shape}
+use Rattle.gl_graph.proofs.Words.{[], ap, arith, both, bounds_in, Graph, if◌then◌else◌, interval, interval_at, interval_of, interval_place, IntervalsHoldKeys}
+use Rattle.gl_graph.proofs.Words.{is_index_shape, IsLawfulGraph, IsRising, KeysHaveIntervals, length, List, nat_le, nat_tests, NodeId, None, shape_of}
+use Rattle.gl_graph.proofs.Words.{slice_index_or, Some, split, subst, suc, sym, true, zero, ℕ, ◌<◌, ◌∙◌, ◌∷◌, ◌≡◌, ◌≤◌}
+use Rattle.gl_graph.specs.Intervals.{HoldsKey}
 use Rattle.gl_graph.proofs.KeyPlace.{not_below, place_counted, rising_at}
 use Rattle.gl_graph.proofs.KindRules.{index_in, index_node}
 
@@ -21,10 +15,6 @@ record IsPlace (bs : List ℕ) (key k : ℕ) : Type 0 where
 before_more : (b : ℕ) (bs : List ℕ) (key k : ℕ) → b ≤ key → IsPlace bs key k → (j : ℕ) → j < suc k → slice_index_or (b ∷ bs) j 0 ≤ key
 before_more b bs key k low p zero h = low
 before_more b bs key k low p (suc j) h = p.before j (omega arith)
-
-after_more : (b : ℕ) (bs : List ℕ) (key k : ℕ) → IsPlace bs key k → (j : ℕ) → suc k ≤ j → j < length (b ∷ bs) → key < slice_index_or (b ∷ bs) j 0
-after_more b bs key k p zero h l = absurd (omega arith)
-after_more b bs key k p (suc j) h l = p.after j (omega arith) (omega arith)
 
 all_above : (b : ℕ) (bs : List ℕ) (key : ℕ) → IsRising (b ∷ bs) → key < b → (j : ℕ) → 0 ≤ j → j < length (b ∷ bs) → key < slice_index_or (b ∷ bs) j 0
 all_above b bs key rising high zero h l = high
@@ -42,8 +32,7 @@ some_place (b ∷ bs) key rising =
       record {
         within = let w = rest.1.within in omega arith;
         before = before_more b bs key rest.0 low rest.1;
-        after =
-            after_more b bs key rest.0 rest.1;
+        after = grind arith;
       },
     ))
     (λ e.
@@ -56,27 +45,13 @@ counted bs key k p = place_counted bs key k p.within p.before p.after
 place_is : (bs : List ℕ) (key : ℕ) → IsRising bs → IsPlace bs key (interval_place bs key)
 place_is bs key rising = let p = some_place bs key rising in subst (IsPlace bs key) (counted bs key p.0 p.1) p.1
 
-begins_by : (bs : List ℕ) (key k : ℕ) → IsPlace bs key k → beginning bs k ≤ key
-begins_by bs key zero p = omega arith
-begins_by bs key (suc k) p = p.before k (omega arith)
-
 -- the interval at that place contains the key
 place_holds : (bs : List ℕ) (key k : ℕ) → IsPlace bs key k → HoldsKey bs k key
-place_holds bs key k p = record {
-  begun = begins_by bs key k p;
-  next = λ h. subst (λ i. key < slice_index_or (0 ∷ bs) i 0) (sym (add-one k)) (p.after k (omega arith) h);
-}
+place_holds bs key k p = grind arith
 
 -- and no other interval does
 held_there : (bs : List ℕ) (key k : ℕ) → IsRising (0 ∷ bs) → k ≤ length bs → HoldsKey bs k key → IsPlace bs key k
-held_there bs key k rising low holds = record {
-  within = low;
-  before = λ j h. let b = holds.begun in let r = not_below (0 ∷ bs) (suc j) k rising (omega arith) (omega arith) in omega arith;
-  after = λ j h l.
-      let n = holds.next (omega arith) in
-      let r = not_below (0 ∷ bs) (k + 1) (suc j) rising (omega arith) (omega arith) in
-      omega arith;
-}
+held_there bs key k rising low holds = grind (arith, not_below)
 
 module _ (g : Graph) (law : IsLawfulGraph g) (index : NodeId) (shape : is_index_shape (shape_of g index) ≡ true) where
   abbrev bs : List ℕ
@@ -112,13 +87,7 @@ record HasInterval (g : Graph) (index n : NodeId) (place : ℕ) : Type 0 where
   pub is : n ≡ interval g index place
 
 interval_there : (g : Graph) (index n : NodeId) (place : ℕ) → interval_at g index place ≡ Some n → HasInterval g index n place
-interval_there g index n place at =
-    split (is_index_shape (shape_of g index) && nat_le place (length (bounds_in (shape_of g index))))
-    (λ e.
-    let t = and_both _ _ e in
-    let le = t.1 in
-    record { shape = t.0; low = grind (arith, nat_tests); is = some_is (sym at ∙ ap (λ b. if b then Some (interval g index place) else None) e) })
-    (λ e. absurd (none_some (sym (ap (λ b. if b then Some (interval g index place) else None) e) ∙ at)))
+interval_there g index n place at = grind arith
 
 pub intervals_hold_keys : IntervalsHoldKeys
 intervals_hold_keys g law index n place key at =

@@ -1,12 +1,6 @@
 -- The place of a key among increasing bounds.
-use Rattle.std.specs.Prelude.{◌≡◌, ℕ, zero, suc, ◌+◌, ◌<◌, ◌≤◌, true, false, nat_lt, nat_le, List, [], ◌∷◌, length, cond, slice_index_or}
-use Rattle.std.specs.List.{list_all}
-use Rattle.std.proofs.Common.{ap, ◌∙◌, arith, rules, ⊎_elim, ◌⊎◌}
-use Rattle.std.proofs.lemmas.List.Sums.{sum_by-cons}
-use Rattle.std.proofs.lemmas.Bool.Decides.{nat_tests}
-use Rattle.gl_modes.proofs.Words.{and_both}
-use Rattle.gl_graph.specs.Graph.{interval_place}
-use Rattle.gl_graph.specs.Lawful.{IsRising}
+use Rattle.gl_graph.proofs.Words.{[], and_both, ap, arith, cond, false, interval_place, IsRising, length, List, list_all, nat_le, nat_lt, nat_tests}
+use Rattle.gl_graph.proofs.Words.{slice_index_or, suc, sum_by-cons, true, zero, ℕ, ◌+◌, ◌<◌, ◌∙◌, ◌∷◌, ◌≡◌, ◌≤◌}
 
 above_all : (b : ℕ) (bs : List ℕ) (j : ℕ) → list_all (λ c. nat_lt b c) bs ≡ true → j < length bs → b < slice_index_or bs j 0
 above_all b [] j h low = absurd (omega arith)
@@ -22,11 +16,7 @@ rising_at (b ∷ bs) (suc i) (suc j) h low high = rising_at bs i j h.1 (omega ar
 
 -- increasing numbers, one not before another
 pub not_below : (xs : List ℕ) (i j : ℕ) → IsRising xs → i ≤ j → j < length xs → slice_index_or xs i 0 ≤ slice_index_or xs j 0
-not_below xs i j rising le low = ⊎_elim (λ h. let r = rising_at xs i j rising h low in omega arith)
-    (λ e. let same = ap (λ k. slice_index_or xs k 0) e in omega arith) (less_or_same i j le)
-  where
-    less_or_same : (i j : ℕ) → i ≤ j → (i < j) ⊎ (i ≡ j)
-    less_or_same i j h = search rules
+not_below xs i j rising le low = grind (arith, rising_at)
 
 -- not above the key before place k, above it from there on: k bounds are not above it
 pub place_counted : (bs : List ℕ) (key k : ℕ) → k ≤ length bs → ((j : ℕ) → j < k → slice_index_or bs j 0 ≤ key)

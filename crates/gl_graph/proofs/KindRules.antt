@@ -1,17 +1,10 @@
 -- What the kinds require is kept if files, indexes, intervals and inner nodes stay as they were: one lemma for each kind.
-use Rattle.std.specs.Prelude.{◌≡◌, ℕ, ◌≤◌, Bool, true, false, ◌||◌, is_some, nat_le, List, [], ◌∷◌, length, Option, Some, None}
-use Rattle.std.specs.List.{list_all, list_any}
-use Rattle.std.proofs.lemmas.List.Sums.{count_by-le-length}
-use Rattle.std.proofs.Common.{refl, sym, ap, ap₂, ◌∙◌, subst, arith, rules}
-use Rattle.gl_modes.proofs.NodeLemmas.{node_is, same_node-equal, same_node-refl}
-use Rattle.gl_modes.proofs.Words.{cases_of, or_elim, or_left, or_right, and_both, both, no}
-use Rattle.gl_modes.specs.declared.node.NodeId.{NodeId}
-use Rattle.gl_modes.specs.Nodes.{same_node}
-use Rattle.gl_graph.specs.Shapes.{Shape, Inner, File, Index, Interval, Rec, is_inner_shape, is_file_shape, is_record_shape, is_index_shape}
-use Rattle.gl_graph.specs.Shapes.{is_index_of_shape, bounds_in, place_in}
-use Rattle.gl_graph.specs.Graph.{Graph, Node, nodes, node_at, is_live, shape_in, shape_of, parents_in, is_child, indexes_of, interval, interval_of}
-use Rattle.gl_graph.specs.Graph.{interval_place, intervals_of, record_parents, key_or_zero}
-use Rattle.gl_graph.specs.Lawful.{are_inner, AreInnerParents, IsIndexNode, HasShape, IsWellFormed, IsLawfulGraph}
+use Rattle.gl_graph.proofs.Words.{[], and_both, ap, ap₂, are_inner, AreInnerParents, arith, Bool, bounds_in, cases_of, count_by-le-length, false, File, Graph}
+use Rattle.gl_graph.proofs.Words.{HasShape, Index, indexes_of, Inner, Interval, interval, interval_of, interval_place, intervals_of, is_child, is_file_shape}
+use Rattle.gl_graph.proofs.Words.{is_index_of_shape, is_index_shape, is_inner_shape, is_live, is_record_shape, is_some, IsIndexNode, IsLawfulGraph}
+use Rattle.gl_graph.proofs.Words.{IsWellFormed, key_or_zero, length, List, list_all, list_any, no, Node, node_at, node_is, NodeId, nodes, None, Option, or_elim}
+use Rattle.gl_graph.proofs.Words.{or_left, or_right, place_in, Rec, record_parents, refl, rules, same_node, same_node-equal, Shape, shape_in, shape_of, Some}
+use Rattle.gl_graph.proofs.Words.{subst, sym, true, ℕ, ◌||◌, ◌∙◌, ◌∷◌, ◌≡◌, ◌≤◌}
 use Rattle.gl_graph.proofs.Look.{all_at, all_filter, found_at, shaped_node, child_node, there_is}
 
 -- a living node that is no record
@@ -96,8 +89,7 @@ module _ (g : Graph) (law : IsLawfulGraph g) where
   interval_is f i k h =
       let index = index_of f (shape_of g i) h in
       let node = index_node i index.0 index.1 index.2 in
-      let low : interval_place (bounds_in (shape_of g i)) k ≤ length (bounds_in (shape_of g i)) =
-      count_by-le-length (λ b. nat_le b k) (bounds_in (shape_of g i)) in
+      let low : interval_place (bounds_in (shape_of g i)) k ≤ length (bounds_in (shape_of g i)) = grind (arith, count_by-le-length) in
       let few : length (bounds_in (shape_of g i)) ≡ length index.1 = ap (λ o. length (bounds_in o)) index.2 in
       node.intervals (interval_place (bounds_in (shape_of g i)) k) (omega arith)
 
@@ -121,9 +113,7 @@ module _ (g : Graph) (law : IsLawfulGraph g) where
 
   pub parent_by : (sh : Shape) (ps : List NodeId) (q p : NodeId) → HasShape g q sh ps → list_any (same_node p) ps ≡ true → parent_kind sh (shape_of g p) ≡ true
   parent_by (Index f bs) ps q p h k = all_at (λ x. is_inner_shape (shape_of g x)) ps p k h.0.inner
-  parent_by (Interval place) ps q p h k =
-      or_elim _ _ (sym (ap (list_any (same_node p)) h.1) ∙ k)
-      (λ here. ap (λ x. is_index_shape (shape_of g x)) (same_node-equal p h.0 here) ∙ h.2) (λ none. absurd (no none))
+  parent_by (Interval place) ps q p h k = grind arith
   parent_by (Rec keys) ps q p h k = parent_of_record h.0 p keys h.1.file_is (sym (ap (list_any (same_node p)) h.1.parents) ∙ k)
   parent_by _ ps q p h k = all_at (λ x. is_inner_shape (shape_of g x)) ps p k h.inner
 
@@ -143,9 +133,7 @@ module _ (g : Graph) (law : IsLawfulGraph g) where
 module _ (g g' : Graph) (law : IsLawfulGraph g) (same : Frames g g') where
   inner_kept : (ps : List NodeId) → are_inner g ps ≡ true → are_inner g' ps ≡ true
   inner_kept [] h = refl
-  inner_kept (p ∷ ps) h =
-      let t = and_both _ _ h in
-      both _ _ ((same.shapes p (inner_plain _ t.0)).inner ∙ t.0) (inner_kept ps t.1)
+  inner_kept (p ∷ ps) h = grind (arith, inner_kept ps)
 
   pub parents_kept : (least : ℕ) (ps : List NodeId) → AreInnerParents g least ps → AreInnerParents g' least ps
   parents_kept least ps a = record { enough = a.enough; few = a.few; inner = inner_kept ps a.inner; distinct = a.distinct }
@@ -177,8 +165,7 @@ module _ (g g' : Graph) (law : IsLawfulGraph g) (same : Frames g g') where
       let it = interval_is g law f i key t.0 in
       let index = index_of f (shape_of g i) t.0 in
       let shape = same.shapes i (ap is_plain index.2) in
-      let one : interval_of g' i key ≡ interval_of g i key =
-      ap (λ bs. interval g' i (interval_place bs key)) shape.bounds ∙ interval_kept i (interval_place (bounds_in (shape_of g i)) key) _ it refl in
+      let one : interval_of g' i key ≡ interval_of g i key = grind (arith, interval_kept) in
       ap₂ (λ x xs. x ∷ xs) one (intervals_kept f is keys t.1)
 
   pub record_parents_kept : (f : NodeId) (keys : List ℕ) → indexes_of g' f ≡ indexes_of g f → record_parents g' f keys ≡ record_parents g f keys
@@ -192,25 +179,11 @@ module _ (g g' : Graph) (law : IsLawfulGraph g) (same : Frames g g') where
   shape_kept Inner ps n node e es ep h = parents_kept 0 ps h
   shape_kept (File adopted) ps n node e es ep h = parents_kept 1 ps h
   shape_kept (Index f bs) ps n node e es ep h = (parents_kept 1 ps h.0, index_kept n f bs h.1)
-  shape_kept (Interval place) ps n node e es ep h =
-      let shape = same.shapes h.0 (index_plain _ h.2) in (
-        h.0,
-        h.1,
-        shape.index ∙ h.2,
-        subst (λ (bs : List ℕ). place ≤ length bs) (sym shape.bounds) h.3,
-        h.4 ∙ sym (interval_kept h.0 place node (subst (λ q. node_at g q ≡ Some node) h.4 e) es),
-      )
+  shape_kept (Interval place) ps n node e es ep h = grind (arith, index_plain, interval_kept)
   shape_kept (Rec keys) ps n node e es ep h =
-      let child : is_child g h.0 n ≡ true =
-      ap (λ o. list_any (same_node h.0) (parents_in o)) e ∙ ap (list_any (same_node h.0)) (ep ∙ h.1.parents) ∙ or_left _ _ (same_node-refl h.0) in
-      let rec : is_record_shape (shape_of g n) ≡ true = ap (λ o. is_record_shape (shape_in o)) e ∙ ap (λ x. is_record_shape (Some x)) es in (
-        h.0,
-        record {
-          file_is = (same.shapes h.0 (file_plain _ h.1.file_is)).file ∙ h.1.file_is;
-          a_key_each = h.1.a_key_each ∙ ap length (sym (same.indexes h.0 n rec child));
-          parents = h.1.parents ∙ sym (record_parents_kept h.0 keys (same.indexes h.0 n rec child));
-        },
-      )
+      let child : is_child g h.0 n ≡ true = grind arith in
+      let rec : is_record_shape (shape_of g n) ≡ true = ap (λ o. is_record_shape (shape_in o)) e ∙ ap (λ x. is_record_shape (Some x)) es in
+      (grind (arith, file_plain, record_parents_kept))
 
   pub well_formed_kept : (n : NodeId) (node : Node) → node_at g n ≡ Some node → IsWellFormed g' n node
   well_formed_kept n node e = shape_kept node.shape node.parents n node e refl refl (law.well_formed n node e)

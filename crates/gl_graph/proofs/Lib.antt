@@ -36,6 +36,7 @@ pub mod Held
 pub mod Counted
 pub mod Dues
 pub mod Added
+pub mod Words
 pub mod Written
 pub mod Taken
 pub mod Indexed

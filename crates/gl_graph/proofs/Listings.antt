@@ -1,11 +1,6 @@
 -- The lists of nodes and of indexes, birth by birth.
-use Rattle.std.specs.Prelude.{◌≡◌, ◌⊎◌, ℕ, zero, suc, ◌+◌, ◌<◌, ◌≤◌, Bool, List, [], ◌∷◌, ◌++◌, length, Option, Some, None, if◌then◌else◌}
-use Rattle.std.specs.List.{cons_option, filter, filter_map, range_with_len}
-use Rattle.std.proofs.Common.{refl, sym, ap, ap₂, ◌∙◌, subst, arith, ⊎_elim}
-use Rattle.gl_modes.proofs.Words.{split}
-use Rattle.gl_modes.specs.declared.node.NodeId.{NodeId}
-use Rattle.gl_graph.specs.Shapes.{is_index_of_shape}
-use Rattle.gl_graph.specs.Graph.{Graph, id_of, shape_of, indexes_of}
+use Rattle.gl_graph.proofs.Words.{[], ap, ap₂, arith, Bool, cons_option, filter, filter_map, Graph, id_of, if◌then◌else◌, indexes_of, is_index_of_shape, length}
+use Rattle.gl_graph.proofs.Words.{List, NodeId, None, Option, range_with_len, refl, shape_of, Some, suc, zero, ℕ, ◌++◌, ◌+◌, ◌<◌, ◌∷◌, ◌≡◌, ◌≤◌, ◌⊎◌}
 
 abbrev pub kept : (NodeId → Bool) → Option NodeId → Option NodeId
 kept p None = None
@@ -13,16 +8,7 @@ kept p (Some x) = if p x then Some x else None
 
 pub filter_of_map : (p : NodeId → Bool) (h : ℕ → Option NodeId) (bs : List ℕ) → filter p (filter_map h bs) ≡ filter_map (λ b. kept p (h b)) bs
 filter_of_map p h [] = refl
-filter_of_map p h (b ∷ bs) = by (h b) (filter_of_map p h bs)
-  where
-    by : (o : Option NodeId) → filter p (filter_map h bs) ≡ filter_map (λ c. kept p (h c)) bs
-        → filter p (cons_option o (filter_map h bs)) ≡ cons_option (kept p o) (filter_map (λ c. kept p (h c)) bs)
-    by None e = e
-    by (Some x) e =
-        split (p x) (λ t. ap (λ z. if z then x ∷ filter p (filter_map h bs) else filter p (filter_map h bs)) t ∙ ap (λ xs. x ∷ xs) e
-        ∙ sym (ap (λ z. cons_option (if z then Some x else None) (filter_map (λ c. kept p (h c)) bs)) t))
-        (λ t. ap (λ z. if z then x ∷ filter p (filter_map h bs) else filter p (filter_map h bs)) t ∙ e
-        ∙ sym (ap (λ z. cons_option (if z then Some x else None) (filter_map (λ c. kept p (h c)) bs)) t))
+filter_of_map p h (b ∷ bs) = grind (arith, filter_of_map p h bs)
 
 pub range_append : (a n m k c : ℕ) → n + m ≡ k → a + n ≡ c → range_with_len a k ≡ range_with_len a n ++ range_with_len c m
 range_append a zero m k c e f = let same : k ≡ m = omega arith in let from : a ≡ c = omega arith in ap₂ range_with_len from same
@@ -36,16 +22,7 @@ map_same h h' a (suc n) same = ap₂ cons_option (same a (omega arith) (omega ar
 
 cons_fewer : (o o' : Option NodeId) (xs xs' : List NodeId) → (o' ≡ o) ⊎ (o' ≡ None) → length xs' ≤ length xs
     → length (cons_option o' xs') ≤ length (cons_option o xs)
-cons_fewer o o' xs xs' e le = ⊎_elim (λ same. subst (λ (x : Option NodeId). length (cons_option x xs') ≤ length (cons_option o xs)) (sym same)
-    (grown o)) (λ none. subst (λ (x : Option NodeId). length (cons_option x xs') ≤ length (cons_option o xs)) (sym none) (gone o)) e
-  where
-    grown : (x : Option NodeId) → length (cons_option x xs') ≤ length (cons_option x xs)
-    grown None = le
-    grown (Some x) = omega arith
-
-    gone : (x : Option NodeId) → length xs' ≤ length (cons_option x xs)
-    gone None = le
-    gone (Some x) = omega arith
+cons_fewer o o' xs xs' e le = grind arith
 
 pub map_fewer : (h h' : ℕ → Option NodeId) → ((b : ℕ) → (h' b ≡ h b) ⊎ (h' b ≡ None)) → (bs : List ℕ) → length (filter_map h' bs) ≤ length (filter_map h bs)
 map_fewer h h' fewer [] = omega arith

@@ -1,42 +1,31 @@
 -- The law of the graph is kept when an inner node, a file or an index moves, and when a record gets another key.
-use Rattle.std.specs.Prelude.{◌≡◌, ℕ, zero, suc, ◌≤◌, Bool, true, false, not, ◌==◌, List, [], ◌∷◌, length, Option, Some, if◌then◌else◌}
-use Rattle.std.specs.List.{list_all, list_any}
-use Rattle.std.proofs.Math.Path.{fun_ext}
-use Rattle.std.proofs.Common.{refl, sym, ap, ◌∙◌, subst, arith}
-use Rattle.gl_modes.proofs.NodeLemmas.{same_node-equal, same_node-from_equal, same_node-refl}
-use Rattle.gl_modes.proofs.Words.{split, or_elim, or_left, or_right, no, same_number, number_same}
-use Rattle.gl_modes.specs.declared.node.NodeId.{NodeId}
-use Rattle.gl_modes.specs.Nodes.{same_node}
-use Rattle.gl_graph.specs.Shapes.{Shape, Inner, File, Index, Rec, is_file_shape, is_record_shape, is_index_of_shape, is_movable_shape, keys_in, least_parents}
-use Rattle.gl_graph.specs.Graph.{Graph, Node, node_count, node_at, is_live, parents_in, parents_of, shape_in, shape_of, is_child, indexes_of}
-use Rattle.gl_graph.specs.Graph.{record_parents, first_in, first_parent}
-use Rattle.gl_graph.specs.Routes.{IsRoute, is_at_or_below}
-use Rattle.gl_graph.specs.Lawful.{AreInnerParents, HasShape, IsLawfulGraph}
-use Rattle.gl_graph.specs.Changes.{with_node, reparented, with_parents, keys_with, rekeyed_keys, rekeyed_parents, rekeyed_node, rekeyed}
-use Rattle.gl_graph.proofs.Look.{all_at, found_at}
+use Rattle.gl_graph.proofs.Words.{[], ap, AreInnerParents, arith, Bool, File, first_in, first_parent, Graph, HasShape, Index, indexes_of, Inner, is_at_or_below}
+use Rattle.gl_graph.proofs.Words.{is_child, is_file_shape, is_live, is_movable_shape, is_record_shape, IsLawfulGraph, IsRoute, keys_in, keys_with}
+use Rattle.gl_graph.proofs.Words.{least_parents, length, List, list_all, list_any, no, Node, node_at, node_count, NodeId, not, or_elim, or_left, or_right}
+use Rattle.gl_graph.proofs.Words.{parents_in, parents_of, Rec, record_parents, refl, rekeyed, rekeyed_keys, rekeyed_parents, same_node, same_node-equal}
+use Rattle.gl_graph.proofs.Words.{same_node-from_equal, same_node-refl, Shape, shape_in, shape_of, Some, subst, suc, sym, true, with_node, with_parents, zero}
+use Rattle.gl_graph.proofs.Words.{ℕ, ◌∙◌, ◌∷◌, ◌≡◌, ◌≤◌}
+use Rattle.gl_graph.proofs.Look.{all_at}
 use Rattle.gl_graph.proofs.KindRules.{Frames, is_plain, file_plain, plain_live, rec_not_plain, parent_plain, record_parent_plain, parents_kept}
-use Rattle.gl_graph.proofs.KindRules.{index_kept, record_parents_kept, one_shape}
+use Rattle.gl_graph.proofs.KindRules.{index_kept, record_parents_kept}
 use Rattle.gl_graph.proofs.Changed.{IsAlike, changed_frames, changed_lawful, indexes_same}
 use Rattle.gl_graph.proofs.RouteLengths.{route_short}
 
 pub some_at : (q : NodeId → Bool) (ps : List NodeId) (p : NodeId) → list_any (same_node p) ps ≡ true → q p ≡ true → list_any q ps ≡ true
 some_at q [] p h k = absurd (no h)
-some_at q (x ∷ xs) p h k = or_elim _ _ h (λ here. or_left (q x) _ (ap q (sym (same_node-equal p x here)) ∙ k))
-    (λ there. or_right (q x) _ (some_at q xs p there k))
+some_at q (x ∷ xs) p h k = grind (arith, some_at q xs p)
 
 -- p is n or has a route to n: by at most k steps, both ways
 pub below_found : (g : Graph) (n : NodeId) (k : ℕ) (p : NodeId) (path : List NodeId) → length path ≤ k → IsRoute g p path n → is_at_or_below k g n p ≡ true
 below_found g n zero p [] few r = same_node-from_equal n p (sym r)
 below_found g n zero p (q ∷ path) few r = absurd (omega arith)
 below_found g n (suc k) p [] few r = or_left _ _ (same_node-from_equal n p (sym r))
-below_found g n (suc k) p (q ∷ path) few r =
-    or_right (same_node n p) _ (some_at (is_at_or_below k g n) (parents_of g p) q r.0 (below_found g n k q path (omega arith) r.1))
+below_found g n (suc k) p (q ∷ path) few r = grind (arith, below_found g n k q path (omega arith), or_right, some_at)
 
 -- if some pass, one is found
 pub any_found : (q : NodeId → Bool) (ps : List NodeId) → list_any q ps ≡ true → (p : NodeId) × (list_any (same_node p) ps ≡ true) × (q p ≡ true)
 any_found q [] h = absurd (no h)
-any_found q (x ∷ xs) h =
-    or_elim _ _ h (λ here. (x, or_left _ _ (same_node-refl x), here)) (λ there. let f = any_found q xs there in (f.0, or_right (same_node f.0 x) _ f.1, f.2))
+any_found q (x ∷ xs) h = grind (arith, any_found q xs)
 
 pub below_route : (g : Graph) (n : NodeId) (k : ℕ) (p : NodeId) → is_at_or_below k g n p ≡ true → (path : List NodeId) × IsRoute g p path n
 below_route g n zero p h = ([], sym (same_node-equal n p h))
@@ -51,47 +40,19 @@ pub below_complete : (g : Graph) (law : IsLawfulGraph g) (n p : NodeId) (path : 
     → is_at_or_below (node_count g) g n p ≡ true
 below_complete g law n p path live r = below_found g n (node_count g) p path (let few = route_short g law p n path live r in omega arith) r
 
--- a graph with one place changed
-pub graph_at : (g : Graph) (f : ℕ → Option Node) (n : NodeId) (is : Node) → ((b : ℕ) → b ≡ n.birth → f b ≡ Some is)
-    → ((b : ℕ) → (b == n.birth) ≡ false → f b ≡ g.at b)
-    → with_node g n.birth is ≡ record { at = f; births = g.births; most = g.most; most_bounds = g.most_bounds }
-graph_at g f n is here other =
-    let e : (λ (b : ℕ). if b == n.birth then Some is else g.at b) ≡ f = fun_ext (λ b. split (b == n.birth)
-    (λ h. ap (λ x. if x then Some is else g.at b) h ∙ sym (here b (same_number b n.birth h)))
-    (λ h. ap (λ x. if x then Some is else g.at b) h ∙ sym (other b h))) in
-    λ i. record { at = e i; births = g.births; most = g.most; most_bounds = g.most_bounds }
-
 pub with_parents_is : (g : Graph) (n : NodeId) (ps : List NodeId) (was : Node) → node_at g n ≡ Some was
     → with_node g n.birth (record was { parents = ps }) ≡ with_parents g n ps
-with_parents_is g n ps was e =
-    graph_at g (with_parents g n ps).at n (record was { parents = ps })
-    (λ b same. ap (λ x. if x then reparented ps (g.at b) else g.at b) (number_same b n.birth same) ∙ ap (reparented ps) (ap g.at same ∙ (found_at g n was e).0))
-    (λ b h. ap (λ x. if x then reparented ps (g.at b) else g.at b) h)
+with_parents_is g n ps was e = grind arith
 
 pub rekeyed_is : (g : Graph) (r index : NodeId) (key : ℕ) (was : Node) → node_at g r ≡ Some was
     → with_node g r.birth (record { key = was.key; shape = Rec (rekeyed_keys g r index key); parents = rekeyed_parents g r index key }) ≡ rekeyed g r index key
-rekeyed_is g r index key was e =
-    graph_at g (rekeyed g r index key).at r (record { key = was.key; shape = Rec (rekeyed_keys g r index key); parents = rekeyed_parents g r index key })
-    (λ b same. ap (λ x. if x then rekeyed_node (rekeyed_keys g r index key) (rekeyed_parents g r index key) (g.at b) else g.at b) (number_same b r.birth same)
-    ∙ ap (rekeyed_node (rekeyed_keys g r index key) (rekeyed_parents g r index key)) (ap g.at same ∙ (found_at g r was e).0))
-    (λ b h. ap (λ x. if x then rekeyed_node (rekeyed_keys g r index key) (rekeyed_parents g r index key) (g.at b) else g.at b) h)
+rekeyed_is g r index key was e = grind arith
 
 pub movable_alike : (sh : Shape) → is_movable_shape (Some sh) ≡ true → IsAlike sh sh
-movable_alike sh h = record {
-  plain = λ k. one_shape _ _ refl;
-  index = λ f. refl;
-  rec = refl;
-  no_interval =
-      λ place e. no (sym (ap (λ x. is_movable_shape (Some x)) e) ∙ h);
-}
+movable_alike sh h = grind arith
 
 pub rec_alike : (was : Shape) (keys keys' : List ℕ) → was ≡ Rec keys → IsAlike was (Rec keys')
-rec_alike was keys keys' e = record {
-  plain = λ k. absurd (no (sym (ap (λ x. is_plain (Some x)) e) ∙ k));
-  index = λ f. sym (ap (λ x. is_index_of_shape f (Some x)) e);
-  rec = sym (ap (λ x. is_record_shape (Some x)) e);
-  no_interval = λ place i. no (ap (λ x. is_record_shape (Some x)) (sym i ∙ e));
-}
+rec_alike was keys keys' e = grind arith
 
 module _ (g : Graph) (law : IsLawfulGraph g) (n : NodeId) (was : Node) (there : node_at g n ≡ Some was) where
   -- a move
@@ -112,8 +73,7 @@ module _ (g : Graph) (law : IsLawfulGraph g) (n : NodeId) (was : Node) (there : 
       (move_well ps (with_node g n.birth (record was { parents = ps })) was.shape refl movable
       (changed_frames g n was (record was { parents = ps }) there refl alike) inner (law.well_formed n was there))
       (λ p h. all_at (is_live g) ps p h live)
-      (λ p path h r. no (sym (ap not (below_complete g law n p path (all_at (is_live g) ps p h live) r))
-      ∙ all_at (λ q. not (is_at_or_below (node_count g) g n q)) ps p h clear)))
+      (λ p path h r. no (grind (arith, below_complete, all_at))))
 
   -- no route leads to a record from a node that is none
   pub record_end : (p : NodeId) (path : List NodeId) → is_record_shape (shape_of g n) ≡ true → is_plain (shape_of g p) ≡ true → IsRoute g p path n → ⊥
@@ -149,8 +109,7 @@ module _ (g : Graph) (law : IsLawfulGraph g) (n : NodeId) (was : Node) (there : 
         first_parent g n,
         record {
           file_is = (frames.shapes (first_parent g n) (file_plain _ file.0)).file ∙ file.0;
-          a_key_each = keys_with_length (indexes_of g (first_parent g n)) (keys_in (shape_of g n)) index key (ap length keys_are ∙ file.1)
-              ∙ ap length (sym (indexes_same g n was is there refl alike (first_parent g n)));
+          a_key_each = grind (arith, keys_with_length, indexes_same);
           parents = sym (record_parents_kept g (with_node g n.birth is) law frames (first_parent g n) (rekeyed_keys g n index key)
               (indexes_same g n was is there refl alike (first_parent g n)));
         },

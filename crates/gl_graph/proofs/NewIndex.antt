@@ -1,17 +1,10 @@
 -- A new index with its intervals: the law of the graph is kept.
-use Rattle.std.specs.Prelude.{◌≡◌, ℕ, zero, suc, ◌+◌, ◌≤◌, true, false, ◌&&◌, ◌==◌, List, [], ◌∷◌, ◌++◌, length, Option, Some, None, is_some, if◌then◌else◌}
-use Rattle.std.specs.List.{cons_option, list_any}
-use Rattle.std.proofs.lemmas.List.{length-append}
-use Rattle.std.proofs.Common.{refl, sym, ap, ◌∙◌, subst, arith, inl, inr}
-use Rattle.gl_modes.proofs.NodeLemmas.{same_node-equal, same_node-refl, node_is}
-use Rattle.gl_modes.proofs.Words.{split, or_elim, both, no, none_some, some_is}
-use Rattle.gl_modes.specs.declared.node.NodeId.{NodeId}
-use Rattle.gl_modes.specs.Nodes.{same_node}
-use Rattle.gl_graph.specs.Shapes.{Index, Interval, bounds_in, is_inner_shape, is_file_shape, is_index_shape, is_record_shape, is_index_of_shape}
-use Rattle.gl_graph.specs.Graph.{Graph, Node, nodes, node_count, node_at, is_live, parents_in, shape_in, shape_of, is_child, indexes_of, interval}
-use Rattle.gl_graph.specs.Graph.{key_or_zero, IsFreeKey}
-use Rattle.gl_graph.specs.Lawful.{IsRising, AreInnerParents, HasShape, IsWellFormed, IsLawfulGraph}
-use Rattle.gl_graph.specs.Changes.{keys_of, are_apart, born_node, born_nodes, born_index, interval_nodes}
+use Rattle.gl_graph.proofs.Words.{[], ap, are_apart, AreInnerParents, arith, born_index, born_node, born_nodes, both, cons_option, false, Graph, HasShape}
+use Rattle.gl_graph.proofs.Words.{if◌then◌else◌, Index, indexes_of, inl, Interval, interval, interval_nodes, is_child, is_file_shape, is_index_of_shape}
+use Rattle.gl_graph.proofs.Words.{is_inner_shape, is_live, is_record_shape, IsFreeKey, IsLawfulGraph, IsRising, IsWellFormed, keys_of, length, length-append}
+use Rattle.gl_graph.proofs.Words.{List, list_any, no, Node, node_at, node_count, node_is, NodeId, nodes, None, none_some, or_elim, refl, same_node}
+use Rattle.gl_graph.proofs.Words.{same_node-equal, same_node-refl, shape_in, shape_of, Some, some_is, split, subst, suc, sym, true, zero, ℕ, ◌&&◌, ◌++◌, ◌+◌}
+use Rattle.gl_graph.proofs.Words.{◌==◌, ◌∙◌, ◌∷◌, ◌≡◌, ◌≤◌}
 use Rattle.gl_graph.proofs.Tally.{list_born, list_borns}
 use Rattle.gl_graph.proofs.Look.{all_at}
 use Rattle.gl_graph.proofs.KindRules.{Frames, inner_plain, file_plain, plain_live, parents_kept}
@@ -31,10 +24,7 @@ keys_of_intervals id place (k ∷ ks) = ap (λ xs. k ∷ xs) (keys_of_intervals 
 pub interval_node : (id : NodeId) (place : ℕ) (keys : List ℕ) (k c : ℕ) (node : Node) → place + k ≡ c
     → place_in (interval_nodes id place keys) k ≡ Some node → node ≡ record { key = node.key; shape = Interval c; parents = id ∷ [] }
 interval_node id place [] k c node e f = absurd (none_some f)
-interval_node id place (key ∷ keys) zero c node e f =
-    let is : record { key = key; shape = Interval place; parents = id ∷ [] } ≡ node = some_is f in
-    let same : place ≡ c = omega arith in
-    sym is ∙ (λ i. record { key = (is i).key; shape = Interval (same i); parents = id ∷ [] })
+interval_node id place (key ∷ keys) zero c node e f = grind arith
 interval_node id place (key ∷ keys) (suc k) c node e f = interval_node id (place + 1) keys k c node (omega arith) f
 
 module _ (g : Graph) (law : IsLawfulGraph g) (key : ℕ) (ps : List NodeId) (file : NodeId) (bounds keys : List ℕ) where
@@ -79,10 +69,7 @@ module _ (g : Graph) (law : IsLawfulGraph g) (key : ℕ) (ps : List NodeId) (fil
 
   -- an interval is at the place that its index gives
   pub interval_there : (k : ℕ) (node : Node) → place_in (interval_nodes id 0 keys) k ≡ Some node → interval grown id k ≡ new_id g law ns node (suc k)
-  interval_there k node e =
-      let birth : g.births + 1 + 1 + k ≡ g.births + 1 + suc k = omega arith in
-      node_is (interval grown id k) (new_id g law ns node (suc k))
-      (ap key_or_zero (new_at g ns (suc k) (g.births + 1 + 1 + k) (none_above g law ns) birth ∙ e)) birth
+  interval_there k node e = grind (arith, node_is, new_id, new_at, none_above)
 
   module _ (inner : AreInnerParents g 1 ps) (is_file : is_file_shape (shape_of g file) ≡ true) (few : length bounds ≤ g.most_bounds)
       (rising : IsRising (0 ∷ bounds)) (no_records : list_any (λ r. is_record_shape (shape_of g r) && is_child g file r) (nodes g) ≡ false)
@@ -128,14 +115,7 @@ module _ (g : Graph) (law : IsLawfulGraph g) (key : ℕ) (ps : List NodeId) (fil
         let below = place_below (interval_nodes id 0 keys) k node e in
         let many = count_intervals id 0 keys in
         let low : k ≤ length bounds = omega arith in
-        subst (λ (y : Node). HasShape grown (new_id g law ns node (suc k)) y.shape y.parents) (sym is) (
-          id,
-          refl,
-          ap (λ o. is_index_shape (shape_in o)) index_there,
-          subst (λ (o : Option Node). k ≤ length (bounds_in (shape_in o)))
-              (sym index_there) low,
-          sym (interval_there k node e),
-        )
+        subst (λ (y : Node). HasShape grown (new_id g law ns node (suc k)) y.shape y.parents) (sym is) (grind (arith, index_there, interval_there))
 
     inner_live : (p : NodeId) → list_any (same_node p) ps ≡ true → is_live g p ≡ true
     inner_live p h = plain_live g p (inner_plain _ (all_at (λ q. is_inner_shape (shape_of g q)) ps p h inner.inner))
@@ -145,8 +125,7 @@ module _ (g : Graph) (law : IsLawfulGraph g) (key : ℕ) (ps : List NodeId) (fil
     up (suc k) node p e h =
         let is = interval_node id 0 keys k k node (omega arith) e in
         or_elim (same_node p id) false (ap (λ (y : Node). list_any (same_node p) y.parents) (sym is) ∙ h)
-        (λ here. subst (IsFresh g law ns) (sym (same_node-equal p id here))
-        (inr (ap is_some index_there, λ q c. inner_live q (sym (ap (λ o. list_any (same_node q) (parents_in o)) index_there) ∙ c)))) (λ none. absurd (no none))
+        (λ here. grind (arith, index_there, inner_live)) (λ none. absurd (no none))
 
     keys_are : keys_of ns ≡ key ∷ keys
     keys_are = ap (λ xs. key ∷ xs) (keys_of_intervals id 0 keys)
@@ -155,7 +134,5 @@ module _ (g : Graph) (law : IsLawfulGraph g) (key : ℕ) (ps : List NodeId) (fil
     index_lawful =
         born_lawful g law ns unused well up (λ k node e. free node.key (ap (list_any (λ x. x == node.key)) (sym keys_are) ∙ key_listed ns k node e))
         (places_apart ns (ap are_apart keys_are ∙ apart))
-        (λ f. split (same_node f file) (λ e. let more : length (indexes_of grown f) ≡ length (indexes_of g file) + 1 =
-        ap (λ x. length (indexes_of grown x)) (same_node-equal f file e) ∙ ap length file_index ∙ length-append (indexes_of g file) (id ∷ []) in omega arith)
-        (λ e. subst (λ (is : List NodeId). length is ≤ 7) (sym (others f e)) (law.seven_indexes f))) (let all = count_grown g law ns in
+        (λ f. grind (arith, file_index, length-append, others)) (let all = count_grown g law ns in
         let many = count_intervals id 0 keys in omega arith)

@@ -1,19 +1,13 @@
 -- A new inner node, file or record, and a new index with its intervals: the law of the graph is kept.
-use Rattle.std.specs.Prelude.{◌≡◌, ℕ, zero, suc, ◌+◌, ◌<◌, ◌≤◌, true, false, not, ◌||◌, ◌==◌, List, [], ◌∷◌, length, Some}
-use Rattle.std.specs.List.{list_any}
-use Rattle.std.proofs.Common.{refl, sym, ap, ◌∙◌, subst, arith, inl}
-use Rattle.gl_modes.proofs.Words.{or_right, and_both, no, none_some, some_is, number_same}
-use Rattle.gl_modes.specs.declared.node.NodeId.{NodeId}
-use Rattle.gl_modes.specs.Nodes.{same_node}
-use Rattle.gl_graph.specs.Shapes.{Inner, File, Rec, is_inner_shape, is_file_shape, is_index_of_shape}
-use Rattle.gl_graph.specs.Graph.{Graph, Node, node_count, is_live, shape_of, indexes_of, record_parents, IsFreeKey, shape_in}
-use Rattle.gl_graph.specs.Lawful.{AreInnerParents, IsWellFormed, IsLawfulGraph}
-use Rattle.gl_graph.specs.Changes.{keys_of, are_apart, born_node}
+use Rattle.gl_graph.proofs.Words.{[], and_both, ap, are_apart, AreInnerParents, arith, born_node, false, File, Graph, indexes_of, inl, Inner, is_file_shape}
+use Rattle.gl_graph.proofs.Words.{is_index_of_shape, is_inner_shape, is_live, IsFreeKey, IsLawfulGraph, IsWellFormed, keys_of, length, List, list_any, no, Node}
+use Rattle.gl_graph.proofs.Words.{node_count, NodeId, none_some, not, number_same, or_right, Rec, record_parents, refl, same_node, shape_in, shape_of, Some}
+use Rattle.gl_graph.proofs.Words.{some_is, subst, suc, sym, true, zero, ℕ, ◌+◌, ◌<◌, ◌==◌, ◌||◌, ◌∙◌, ◌∷◌, ◌≡◌, ◌≤◌}
 use Rattle.gl_graph.proofs.Tally.{list_borns}
 use Rattle.gl_graph.proofs.Look.{all_at}
 use Rattle.gl_graph.proofs.KindRules.{inner_plain, file_plain, plain_live, record_parent_plain, parents_kept, record_parents_kept}
 use Rattle.gl_graph.proofs.Counts.{count_grown}
-use Rattle.gl_graph.proofs.Born.{place_in, new_id, born_frames, born_lawful}
+use Rattle.gl_graph.proofs.Born.{place_in, born_frames, born_lawful}
 
 pub place_there : (ns : List Node) (k : ℕ) → k < length ns → (node : Node) × (place_in ns k ≡ Some node)
 place_there [] k low = absurd (omega arith)
@@ -53,9 +47,7 @@ module _ (g : Graph) (law : IsLawfulGraph g) (node : Node) (no_index : (f : Node
       → ((p : NodeId) → list_any (same_node p) node.parents ≡ true → is_live g p ≡ true)
       → IsFreeKey g node.key → node_count g + 1 ≤ g.most → IsLawfulGraph (born_node g node)
   one_lawful well up free room =
-      born_lawful g law one (λ f r h k. one_indexes f) (λ k x e. let o = only k x e in let birth : g.births + 1 ≡ g.births + 1 + k = omega arith in
-      subst (λ y. IsWellFormed (born_node g node) (new_id g law one y k) y) o.1
-      (subst (λ b. IsWellFormed (born_node g node) (record { key = node.key; birth = b }) node) birth well))
+      born_lawful g law one (λ f r h k. one_indexes f) (λ k x e. grind arith)
       (λ k x p e h. inl (up p (ap (λ y. list_any (same_node p) y.parents) (only k x e).1 ∙ h))) (λ k x e. subst (λ y. IsFreeKey g y.key) (only k x e).1 free)
       (λ j k a b e f same. (only j a e).0 ∙ sym (only k b f).0) (λ f. subst (λ (is : List NodeId). length is ≤ 7) (sym (one_indexes f)) (law.seven_indexes f))
       (let all = count_grown g law one in omega arith)
@@ -72,8 +64,7 @@ pub file_lawful : (g : Graph) (law : IsLawfulGraph g) (key : ℕ) (ps : List Nod
     → node_count g + 1 ≤ g.most → IsLawfulGraph (born_node g (record { key = key; shape = File false; parents = ps }))
 file_lawful g law key ps inner free room =
     let node : Node = record { key = key; shape = File false; parents = ps } in
-    one_lawful g law node (λ f. refl) (parents_kept g (born_node g node) law
-    (born_frames g law (node ∷ []) (λ f r h k. one_indexes g law node (λ f'. refl) f)) 1 ps inner)
+    one_lawful g law node (λ f. refl) (grind arith)
     (λ p h. plain_live g p (inner_plain _ (all_at (λ q. is_inner_shape (shape_of g q)) ps p h inner.inner))) free room
 
 pub record_lawful : (g : Graph) (law : IsLawfulGraph g) (key : ℕ) (file : NodeId) (keys : List ℕ) → is_file_shape (shape_of g file) ≡ true
@@ -83,12 +74,5 @@ record_lawful g law key file keys is_file each free room =
     let node : Node = record { key = key; shape = Rec keys; parents = record_parents g file keys } in
     let frames = born_frames g law (node ∷ []) (λ f r h k. one_indexes g law node (λ f'. refl) f) in
     let same = one_indexes g law node (λ f'. refl) file in
-    one_lawful g law node (λ f. refl) (
-      file,
-      record {
-        file_is = (frames.shapes file (file_plain _ is_file)).file ∙ is_file;
-        a_key_each = each ∙ ap length (sym same);
-        parents =
-            sym (record_parents_kept g (born_node g node) law frames file keys same);
-      },
-    ) (λ p h. plain_live g p (record_parent_plain g law file p keys is_file h)) free room
+    one_lawful g law node (λ f. refl)
+    (grind (arith, file_plain, record_parents_kept)) (λ p h. plain_live g p (record_parent_plain g law file p keys is_file h)) free room

@@ -1,16 +1,8 @@
 -- The parents of a record: one file, and one interval for each of its indexes.
-use Rattle.std.specs.Prelude.{◌≡◌, ℕ, ◌<◌, Bool, true, false, ◌||◌, List, [], ◌∷◌, length, Option, Some, slice_index_or, zero, suc, ◌&&◌}
-use Rattle.std.specs.List.{list_all, list_any}
-use Rattle.std.proofs.Common.{refl, sym, ap, ap₂, ◌∙◌, subst, arith, rules}
-use Rattle.std.proofs.Math.Bool.{or-false}
-use Rattle.gl_modes.proofs.NodeLemmas.{same_node-equal}
-use Rattle.gl_modes.proofs.Words.{split, no, and_both}
-use Rattle.gl_modes.specs.declared.node.NodeId.{NodeId}
-use Rattle.gl_modes.specs.Nodes.{same_node}
-use Rattle.gl_graph.specs.Shapes.{Shape, Rec, is_file_shape, is_index_shape, is_record_shape, is_index_of_shape, keys_in}
-use Rattle.gl_graph.specs.Graph.{Graph, shape_of, shape_in, parents_in, parents_of, first_parent, is_record_of, nodes, indexes_of, interval_of}
-use Rattle.gl_graph.specs.Graph.{intervals_of, record_parents}
-use Rattle.gl_graph.specs.Lawful.{IsLawfulGraph}
+use Rattle.gl_graph.proofs.Words.{[], and_both, ap, arith, Bool, false, first_parent, Graph, indexes_of, interval_of, intervals_of, is_file_shape}
+use Rattle.gl_graph.proofs.Words.{is_index_of_shape, is_index_shape, is_record_of, is_record_shape, IsLawfulGraph, keys_in, length, List, list_all, list_any}
+use Rattle.gl_graph.proofs.Words.{no, NodeId, nodes, Option, or-false, parents_in, parents_of, Rec, record_parents, refl, rules, same_node, same_node-equal}
+use Rattle.gl_graph.proofs.Words.{Shape, shape_in, shape_of, slice_index_or, Some, split, subst, suc, sym, true, zero, ℕ, ◌<◌, ◌||◌, ◌∙◌, ◌∷◌, ◌≡◌}
 use Rattle.gl_graph.proofs.Look.{all_filter, shaped_node}
 use Rattle.gl_graph.proofs.KindRules.{interval_is}
 use Rattle.gl_graph.proofs.Moved.{file_of_record}
@@ -75,5 +67,4 @@ module _ (g : Graph) (law : IsLawfulGraph g) (r : NodeId) (rec : is_record_shape
 
   -- it is a record of its file alone
   pub record_of_file : (f : NodeId) → is_file_shape (shape_of g f) ≡ true → is_record_of g f r ≡ same_node f (first_parent g r)
-  record_of_file f h =
-      ap₂ (λ b ps. b && list_any (same_node f) ps) rec its_parents ∙ file_among g law (first_parent g r) f (keys_in (shape_of g r)) h
+  record_of_file f h = grind (arith, its_parents, file_among)

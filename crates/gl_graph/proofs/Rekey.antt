@@ -1,27 +1,16 @@
 -- One key of a record is written at the place of its index, and its interval at the next place.
-use Rattle.std.specs.Prelude.{◌≡◌, ◌≢◌, ℕ, zero, suc, ◌+◌, ◌^◌, ◌<◌, Bool, true, false, not, nat_lt, ◌&&◌, ◌||◌, List, [], ◌∷◌, length, Some}
-use Rattle.std.specs.Prelude.{None, is_some, if◌then◌else◌, slice_index_or, slice_set, position}
-use Rattle.std.specs.List.{list_any, position_or_len}
-use Rattle.std.proofs.lemmas.Bool.Decides.{nat_tests}
-use Rattle.gl_modes.proofs.Words.{split, no, none_some, some_is}
-use Rattle.gl_modes.proofs.NodeLemmas.{same_node-sym, same_node-equal, same_node-differ, same_node-refl}
+use Rattle.gl_graph.proofs.Words.{[], ap, ap₂, AreSound, arith, beside_in_body, Body, body_rekeyed, body_with_key, Bool, ContainsKey, due, due_as, false}
+use Rattle.gl_graph.proofs.Words.{first_parent, get, Graph, graph_of, Holds, if◌then◌else◌, indexes_of, interval_of, intervals_of, is_index_of_shape, is_live}
+use Rattle.gl_graph.proofs.Words.{is_record_shape, IsLawfulGraph, keys_in, keys_with, length, Limits, List, list_any, no, node_at, node_of, NodeId, None}
+use Rattle.gl_graph.proofs.Words.{none_some, parents_in_body, position, position_or_len, Rec, refl, rekeyed, rekeyed_keys, rekeyed_parents, same_node}
+use Rattle.gl_graph.proofs.Words.{same_node-differ, same_node-equal, same_node-refl, same_node-sym, seen, Shape, shape_in, shape_in_body, shape_of, Slab}
+use Rattle.gl_graph.proofs.Words.{slab_len, slice_index_or, slice_set, Some, some_is, Stored, subst, suc, sym, true, Updates, vertex_of, with_node, zero, ℕ}
+use Rattle.gl_graph.proofs.Words.{◌+◌, ◌<◌, ◌^◌, ◌||◌, ◌∙◌, ◌∷◌, ◌≡◌, ◌≢◌}
 use Rattle.std.proofs.lemmas.List.Quantifiers.{position-Some}
-use Rattle.std.proofs.Common.{refl, sym, ap, ap₂, ◌∙◌, subst, arith}
-use Rattle.gl_modes.specs.declared.node.NodeId.{NodeId}
-use Rattle.gl_modes.specs.Nodes.{same_node}
-use Rattle.slab.specs.Slab.{Slab, get, slab_len, ContainsKey, Updates}
-use Rattle.gl_graph.specs.declared.node.Body.{Body}
 use Rattle.gl_graph.specs.declared.node.Body.TheVariants as body
-use Rattle.gl_graph.specs.declared.node.Node.{Node as Stored}
-use Rattle.gl_graph.specs.Shapes.{Shape, Rec, is_record_shape, is_index_of_shape, keys_in}
-use Rattle.gl_graph.specs.Graph.{Graph, node_at, is_live, shape_in, shape_of, parents_in, first_parent, indexes_of, interval_of, intervals_of, record_parents}
-use Rattle.gl_graph.specs.Lawful.{IsLawfulGraph}
-use Rattle.gl_graph.specs.Changes.{with_node, keys_with, rekeyed_keys, rekeyed_parents, rekeyed}
-use Rattle.gl_graph.specs.View.{graph_of, node_of, due_as, due}
-use Rattle.gl_graph.specs.Seen.{Limits, shape_in_body, vertex_of, seen, body_with_key, body_rekeyed, parents_in_body, beside_in_body, Holds, AreSound}
 use Rattle.gl_graph.proofs.Changed.{IsAlike}
 use Rattle.gl_graph.proofs.Distinct.{one_place, indexes_distinct, index_listed}
-use Rattle.gl_graph.proofs.Moved.{rec_alike, rekeyed_is, rekey_lawful}
+use Rattle.gl_graph.proofs.Moved.{rekeyed_is, rekey_lawful}
 use Rattle.gl_graph.proofs.KindRules.{index_of, is_plain, plain_live}
 use Rattle.gl_graph.proofs.Removed.{rec_live}
 use Rattle.gl_graph.proofs.SameParents.{key_parents, parent_set, parent_set_shape}
@@ -59,8 +48,7 @@ pub intervals_set : (g : Graph) (is : List NodeId) (ks : List ℕ) (i : NodeId) 
 intervals_set g [] ks i key place e low here = absurd (omega arith)
 intervals_set g (j ∷ is) [] i key place e low here = absurd (omega arith)
 intervals_set g (j ∷ is) (k ∷ ks) i key zero e low here = ap (λ n. interval_of g n key ∷ intervals_of g is ks) (here i)
-intervals_set g (j ∷ is) (k ∷ ks) i key (suc place) e low here =
-    ap (λ xs. interval_of g j k ∷ xs) (intervals_set g is ks i key place (omega arith) (omega arith) (λ d. here d))
+intervals_set g (j ∷ is) (k ∷ ks) i key (suc place) e low here = grind (arith, intervals_set g is ks i key place (omega arith) (omega arith))
 
 -- an interval for each index
 pub count_intervals_of : (g : Graph) (is : List NodeId) (ks : List ℕ) → length ks ≡ length is → length (intervals_of g is ks) ≡ length is
@@ -129,16 +117,7 @@ module _ {limits : Limits} {old : Slab Stored} {births : ℕ} {g : Graph} (h : H
 
   -- the key and its interval have their places in what is stored
   pub rekeys : HasPlace old r place
-  rekeys = record {
-    there = ap is_some slot.there;
-    keys = λ x e. (let same = ap (λ o. length (keys_in (shape_in o))) (node_is x e) in let l = low in let n = each in omega arith);
-    parents = λ x e.
-        (let same : parents_in_body x.body ≡ record_parents g (first_parent g r) keys = sym (ap parents_in (node_is x e)) ∙ its_parents g law r rec in
-        let count : length (parents_in_body x.body) ≡ suc (length is) = ap length same ∙ ap suc (count_intervals_of g is keys each) in
-        let l = low in
-        omega arith);
-    place_fits = (let l = low in let few = law.seven_indexes (first_parent g r) in omega arith);
-  }
+  rekeys = grind (arith, slot, node_is, low, each, its_parents, count_intervals_of)
 
   keys_are : keys_with is keys i key ≡ slice_set keys place key
   keys_are = keys_set is keys i key place each low (λ d. ap (λ q. same_node q i) (here d) ∙ same_node-refl i) other
@@ -146,8 +125,7 @@ module _ {limits : Limits} {old : Slab Stored} {births : ℕ} {g : Graph} (h : H
   module _ {new : Slab Stored} (interval : NodeId) (its_interval : interval ≡ interval_of g i key) (written : (x : Stored) → get old r.key ≡ Some x
       → Updates old new r.key (Some (record x { body = body_rekeyed x.body place key interval }))) (len : slab_len new ≡ slab_len old) where
     write : (x : Stored) → get old r.key ≡ Some x → Updates old new r.key (Some (record x { body = body_rekeyed x.body place key (interval_of g i key) }))
-    write = subst (λ (n : NodeId). (x : Stored) → get old r.key ≡ Some x
-        → Updates old new r.key (Some (record x { body = body_rekeyed x.body place key n }))) its_interval written
+    write = grind arith
 
     abbrev was : Stored
     was = slot.stored
@@ -159,25 +137,16 @@ module _ {limits : Limits} {old : Slab Stored} {births : ℕ} {g : Graph} (h : H
     rec_body = ap (λ o. is_record_shape (shape_in o)) (sym (node_is was slot.there)) ∙ rec
 
     shape_is : shape_in_body x.body ≡ Rec (rekeyed_keys g r i key)
-    shape_is =
-        parent_set_shape (body_with_key was.body place key) (place + 1) (interval_of g i key) ∙ body_keys was.body place key rec_body
-        ∙ ap (λ o. Rec (slice_set (keys_in (shape_in o)) place key)) (sym (node_is was slot.there)) ∙ ap Rec (sym keys_are)
+    shape_is = grind (arith, parent_set_shape, body_keys, slot, keys_are)
 
     parents_are : parents_in_body x.body ≡ rekeyed_parents g r i key
-    parents_are =
-        let one : place + 1 ≡ suc place = omega arith in
-        parent_set (body_with_key was.body place key) (place + 1) (interval_of g i key)
-        (ap (λ sh. is_record_shape (Some sh)) (body_keys was.body place key rec_body))
-        ∙ ap (λ ps. slice_set ps (place + 1) (interval_of g i key)) (key_parents was.body place key)
-        ∙ ap₂ (λ ps k. slice_set ps k (interval_of g i key)) (sym (ap parents_in (node_is was slot.there)) ∙ its_parents g law r rec) one
-        ∙ ap (λ xs. first_parent g r ∷ xs) (sym (intervals_set g is keys i key place each low here) ∙ ap (intervals_of g is) (sym keys_are))
+    parents_are = grind (arith, parent_set, body_keys, key_parents, slot, its_parents, intervals_set, each, low, here, keys_are)
 
     node_rekeyed : node_of r.key (vertex_of x) ≡ record { key = r.key; shape = Rec (rekeyed_keys g r i key); parents = rekeyed_parents g r i key }
     node_rekeyed = let s = shape_is in let p = parents_are in λ j. record { key = r.key; shape = s j; parents = p j }
 
     alike : IsAlike (shape_in_body was.body) (shape_in_body x.body)
-    alike = subst (λ s. IsAlike (shape_in_body was.body) s) (sym shape_is)
-        (rec_alike (shape_in_body was.body) (keys_in (Some (shape_in_body was.body))) (rekeyed_keys g r i key) (record_body (shape_in_body was.body) rec_body))
+    alike = grind arith
 
     abbrev there' : Graph
     there' = after h r was x slot.there slot.born (write was slot.there) refl len
@@ -204,31 +173,19 @@ module _ {limits : Limits} {old : Slab Stored} {births : ℕ} {g : Graph} (h : H
         ∙ due_changed h r was x slot.there slot.born (write was slot.there) refl len (key_beside was.body place key (interval_of g i key)) alike law (λ c. c) m
         (λ k. let all = children_changed h r was x slot.there slot.born (write was slot.there) refl len
         (key_beside was.body place key (interval_of g i key)) alike law m in
-        let none : ones (list_any (same_node m) (parents_in_body was.body)) ≡ 0 =
-        ap ones (sym (ap (λ o. list_any (same_node m) (parents_in o)) (node_is was slot.there)) ∙ no_inner_parent g law m r k
-        (record_fixed (shape_of g r) rec)) in
-        let none' : ones (list_any (same_node m) (parents_in_body x.body)) ≡ 0 =
-        ap ones (ap (list_any (same_node m)) parents_are ∙ no_inner_among g law (first_parent g r) m (rekeyed_keys g r i key) (its_file g law r rec) k) in
-        omega arith) (λ f. ap₂ (λ s ps. is_record_shape (Some s) && list_any (same_node m) ps) shape_is parents_are
-        ∙ file_among g law (first_parent g r) m (rekeyed_keys g r i key) f ∙ sym (record_of_file g law r rec m f)
-        ∙ ap (record_test m) (node_is was slot.there))
+        let none : ones (list_any (same_node m) (parents_in_body was.body)) ≡ 0 = grind (arith, ones, slot, no_inner_parent, record_fixed) in
+        let none' : ones (list_any (same_node m) (parents_in_body x.body)) ≡ 0 = grind (arith, ones, parents_are, no_inner_among, its_file) in
+        omega arith) (λ f. grind (arith, shape_is, parents_are, file_among, record_of_file, record_test, slot))
         (ap (λ s. due_as there' r (Some s)) shape_is ∙ sym (ap (λ s. due_as there' r (Some s)) (record_body (shape_in_body was.body) rec_body)))
         ∙ ap (λ (g' : Graph). due g' m) graph_is)
 
 -- an item that passes a test is found by it
 first_within : {A : Type 0} (p : A → Bool) (xs : List A) → list_any p xs ≡ true → position_or_len p xs < length xs
 first_within p [] h = absurd (no h)
-first_within p (x ∷ xs) h =
-    split (p x) (λ e. let none : position_or_len p (x ∷ xs) ≡ 0 = ap (λ b. if not b then 1 + position_or_len p xs else 0) e in omega arith) (λ e.
-    let rest = first_within p xs (sym (ap (λ b. b || list_any p xs) e) ∙ h) in
-    let more : position_or_len p (x ∷ xs) ≡ 1 + position_or_len p xs = ap (λ b. if not b then 1 + position_or_len p xs else 0) e in
-    omega arith)
+first_within p (x ∷ xs) h = grind (arith, first_within p xs)
 
 pub not_missed : {A : Type 0} (p : A → Bool) (xs : List A) → list_any p xs ≡ true → position p xs ≡ None → ⊥
-not_missed p xs h e =
-    let low = first_within p xs h in
-    let there : nat_lt (position_or_len p xs) (length xs) ≡ true = grind (arith, nat_tests) in
-    none_some (sym e ∙ ap (λ b. if b then Some (position_or_len p xs) else None) there)
+not_missed p xs h e = grind (arith, low, first_within, none_some)
 
 -- an index of a file is found among the file's
 pub index_among : (g : Graph) (law : IsLawfulGraph g) (f i : NodeId) → is_index_of_shape f (shape_of g i) ≡ true

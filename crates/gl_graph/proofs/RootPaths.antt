@@ -1,14 +1,6 @@
 -- Paths to the root: each node has one, and they grow and shrink by a step.
-use Rattle.std.specs.Prelude.{◌≡◌, ◌⊎◌, ℕ, zero, suc, List, [], ◌∷◌, length}
-use Rattle.std.specs.List.{list_any}
-use Rattle.std.proofs.Common.{refl, ap, ◌∙◌, arith, inl, inr, ⊎_elim}
-use Rattle.gl_modes.proofs.NodeLemmas.{same_node-refl}
-use Rattle.gl_modes.proofs.Words.{or_left}
-use Rattle.gl_modes.specs.declared.node.NodeId.{NodeId}
-use Rattle.gl_modes.specs.Nodes.{same_node}
-use Rattle.gl_graph.specs.Graph.{Graph, parents_of, node_count}
-use Rattle.gl_graph.specs.Routes.{IsRoute}
-use Rattle.gl_graph.specs.Laws.{NodesHaveRootPaths, RootPathsGrow, RootPathsShrink}
+use Rattle.gl_graph.proofs.Words.{[], ap, arith, Graph, inl, inr, IsRoute, length, List, list_any, node_count, NodeId, NodesHaveRootPaths, or_left, parents_of}
+use Rattle.gl_graph.proofs.Words.{refl, RootPathsGrow, RootPathsShrink, same_node, same_node-refl, suc, zero, ℕ, ⊎_elim, ◌∙◌, ◌∷◌, ◌≡◌, ◌⊎◌}
 use Rattle.gl_graph.proofs.RouteLengths.{live_end, route_short}
 
 -- a route up to a node without parents, or of k steps
@@ -30,8 +22,7 @@ goes_up g (suc k) n = by (parents_of g n) refl (goes_up g k)
           end = up.end;
           walk = p ∷ up.walk;
           route = (ap (list_any (same_node p)) e ∙ or_left _ _ (same_node-refl p), up.route);
-          done =
-              ⊎_elim (λ (r : parents_of g up.end ≡ []). inl r) (λ (l : length up.walk ≡ k). inr (ap suc l)) up.done;
+          done = grind arith;
         }
 
 pub root_path_there : NodesHaveRootPaths

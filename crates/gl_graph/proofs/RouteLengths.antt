@@ -1,18 +1,11 @@
 -- A route has fewer steps than the graph has nodes, since it meets no node twice.
-use Rattle.std.specs.Prelude.{◌≡◌, ℕ, zero, suc, ◌+◌, ◌<◌, ◌≤◌, Bool, true, false, List, [], ◌∷◌, ◌++◌, length, Option, Some, None, is_some}
-use Rattle.std.specs.List.{cons_option, list_any, range_with_len, filter_map, AllByRecursion, IsDistinct}
+use Rattle.gl_graph.proofs.Words.{[], AllByRecursion, ap, arith, Bool, cases_eq, cons_option, false, filter_map, Graph, id_of, is_live, is_some, IsLawfulGraph}
+use Rattle.gl_graph.proofs.Words.{IsRoute, length, List, list_any, nat_tests, no, Node, node_count, NodeId, nodes, None, Option, or_elim, or_right, parents_of}
+use Rattle.gl_graph.proofs.Words.{range_with_len, refl, same_node, same_node-equal, same_node-refl, Some, subst, suc, sym, true, with_key, zero, ℕ, ⊎_elim}
+use Rattle.gl_graph.proofs.Words.{◌++◌, ◌+◌, ◌<◌, ◌∙◌, ◌∷◌, ◌≡◌, ◌≤◌}
+use Rattle.std.specs.List.{IsDistinct}
 use Rattle.std.specs.Cmp.{IsEquivalence}
 use Rattle.std.proofs.lemmas.Map.Made.{length-le_from_is_member}
-use Rattle.std.proofs.Common.{refl, sym, ap, ◌∙◌, subst, arith, ⊎_elim}
-use Rattle.std.proofs.lemmas.Bool.{cases_eq}
-use Rattle.std.proofs.lemmas.Bool.Decides.{nat_tests}
-use Rattle.gl_modes.proofs.NodeLemmas.{node_is, same_node-equal, same_node-from_equal, same_node-refl}
-use Rattle.gl_modes.proofs.Words.{no, or_elim, or_left, or_right, some_is}
-use Rattle.gl_modes.specs.declared.node.NodeId.{NodeId}
-use Rattle.gl_modes.specs.Nodes.{same_node}
-use Rattle.gl_graph.specs.Graph.{Graph, Node, id_of, with_key, nodes, node_count, parents_of, is_live}
-use Rattle.gl_graph.specs.Routes.{IsRoute}
-use Rattle.gl_graph.specs.Lawful.{IsLawfulGraph}
 use Rattle.gl_graph.proofs.Look.{found, live_node}
 
 pub node_equivalence : IsEquivalence same_node
@@ -25,10 +18,7 @@ there_id p (Some x) xs h = or_right (p x) _ h
 here_id : (q : NodeId) (k : ℕ) (o : Option Node) (xs : List NodeId) → is_some (with_key q.key o) ≡ true → q.birth ≡ k
     → list_any (same_node q) (cons_option (id_of k o) xs) ≡ true
 here_id q k None xs h e = absurd (no h)
-here_id q k (Some n) xs h e =
-    let x = live_node (with_key q.key (Some n)) h in
-    let f = found q.key (Some n) x.0 x.1 in
-    or_left _ _ (same_node-from_equal q (record { key = n.key; birth = k }) (node_is q _ (sym f.1 ∙ ap (λ y. y.key) (sym (some_is f.0))) e))
+here_id q k (Some n) xs h e = grind arith
 
 found_is : (key : ℕ) (o : Option Node) → is_some (with_key key o) ≡ true → is_some o ≡ true
 found_is key o h = let x = live_node (with_key key o) h in ap is_some (found key o x.0 x.1).0
@@ -45,12 +35,7 @@ module _ (g : Graph) (law : IsLawfulGraph g) where
 
   apart : (s m r : NodeId) (pre path : List NodeId) → IsRoute g s pre m → IsRoute g m path r → AllByRecursion (λ y. same_node s y ≡ false) path
   apart s m r pre [] before route = tt
-  apart s m r pre (p ∷ path) before route =
-      let on = longer s m p pre before route.0 in (by (same_node s p) refl on, apart s p r (pre ++ p ∷ []) path on route.1)
-    where
-      by : (b : Bool) → same_node s p ≡ b → IsRoute g s (pre ++ p ∷ []) p → same_node s p ≡ false
-      by true e on = absurd (no_return s p pre on (same_node-equal s p e))
-      by false e on = e
+  apart s m r pre (p ∷ path) before route = grind (arith, apart s p r (pre ++ p ∷ []) path, longer, no_return, same_node-equal)
 
   pub distinct : (n r : NodeId) (path : List NodeId) → IsRoute g n path r → IsDistinct same_node (n ∷ path)
   unfolding IsDistinct
@@ -60,8 +45,7 @@ module _ (g : Graph) (law : IsLawfulGraph g) where
   pub live_path : (n r q : NodeId) (path : List NodeId) → is_live g n ≡ true → IsRoute g n path r → list_any (same_node q) (n ∷ path) ≡ true
       → is_live g q ≡ true
   live_path n r q [] live route h = or_elim _ _ h (λ here. ap (is_live g) (same_node-equal q n here) ∙ live) (λ none. absurd (no none))
-  live_path n r q (p ∷ path) live route h =
-      or_elim _ _ h (λ here. ap (is_live g) (same_node-equal q n here) ∙ live) (λ there. live_path p r q path (law.parents_live n p route.0) route.1 there)
+  live_path n r q (p ∷ path) live route h = grind (arith, live_path p r q path)
 
   listed_from : (q : NodeId) (k n : ℕ) → k ≤ q.birth → q.birth < k + n → is_live g q ≡ true
       → list_any (same_node q) (filter_map (λ b. id_of b (g.at b)) (range_with_len k n)) ≡ true
@@ -71,9 +55,7 @@ module _ (g : Graph) (law : IsLawfulGraph g) where
       (λ ne. there_id (same_node q) (id_of k (g.at k)) _ (listed_from q (k + 1) n (omega arith) (omega arith) live)) (cases_eq q.birth k)
 
   pub listed : (q : NodeId) → is_live g q ≡ true → list_any (same_node q) (nodes g) ≡ true
-  listed q live =
-      let within = law.born q.birth (found_is q.key (g.at q.birth) live) in
-      listed_from q 1 g.births within.0 (omega arith) live
+  listed q live = grind (arith, found_is, listed_from)
 
   -- a route has fewer steps than the graph has nodes
   pub route_short : (n r : NodeId) (path : List NodeId) → is_live g n ≡ true → IsRoute g n path r → length path < node_count g

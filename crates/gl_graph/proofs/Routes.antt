@@ -1,12 +1,6 @@
 -- No cycle appears: after parents are removed, nodes added, or one node's parents changed.
-use Rattle.std.specs.Prelude.{◌≡◌, ◌≢◌, ◌⊎◌, true, false, List, [], ◌∷◌, ◌++◌}
-use Rattle.std.proofs.Common.{sym, ap, ◌∙◌, subst, inl, inr, ⊎_elim}
-use Rattle.gl_modes.proofs.NodeLemmas.{same_node-equal, same_node-other}
-use Rattle.gl_modes.proofs.Words.{split, no}
-use Rattle.gl_modes.specs.declared.node.NodeId.{NodeId}
-use Rattle.gl_modes.specs.Nodes.{same_node}
-use Rattle.gl_graph.specs.Graph.{Graph, is_live, is_child}
-use Rattle.gl_graph.specs.Routes.{IsRoute, IsAcyclic}
+use Rattle.gl_graph.proofs.Words.{[], ap, false, Graph, inl, inr, is_child, is_live, IsAcyclic, IsRoute, List, no, NodeId, same_node, same_node-equal}
+use Rattle.gl_graph.proofs.Words.{same_node-other, split, subst, sym, true, ⊎_elim, ◌++◌, ◌∙◌, ◌∷◌, ◌≡◌, ◌≢◌, ◌⊎◌}
 
 pub join : (g : Graph) (a b c : NodeId) (path path' : List NodeId) → IsRoute g a path b → IsRoute g b path' c → IsRoute g a (path ++ path') c
 join g a b c [] path' r r' = subst (λ x. IsRoute g x path' c) (sym r) r'

@@ -1,16 +1,8 @@
 -- What a write of a body leaves of its shape and its parents.
-use Rattle.std.specs.Prelude.{◌≡◌, ℕ, true, Some, Vec, slice_set}
-use Rattle.std.proofs.Common.{refl}
-use Rattle.gl_modes.proofs.Words.{no}
-use Rattle.std.specs.declared.alloc.Global.{Global}
-use Rattle.smallvec.specs.SmallVec.{SmallVec}
-use Rattle.gl_modes.specs.declared.node.NodeId.{NodeId}
-use Rattle.gl_graph.specs.declared.node.Body.{Body}
+use Rattle.gl_graph.proofs.Words.{Body, body_adopted, body_with_indexes, body_with_intervals, body_with_key, body_with_parent, body_with_parents}
+use Rattle.gl_graph.proofs.Words.{body_with_records, body_without_index, Global, is_movable_shape, is_record_shape, no, Node, NodeId, parents_in_body, refl}
+use Rattle.gl_graph.proofs.Words.{shape_in_body, slice_set, SmallVec, Some, true, Vec, ℕ, ◌≡◌}
 use Rattle.gl_graph.specs.declared.node.Body.TheVariants as body
-use Rattle.gl_graph.specs.Graph.{Node}
-use Rattle.gl_graph.specs.Shapes.{is_movable_shape, is_record_shape}
-use Rattle.gl_graph.specs.Seen.{shape_in_body, parents_in_body, body_adopted, body_with_records, body_with_intervals, body_with_indexes}
-use Rattle.gl_graph.specs.Seen.{body_without_index, body_with_parents, body_with_parent, body_with_key}
 
 pub adopted_parents : (b : Body) → parents_in_body (body_adopted b) ≡ parents_in_body b
 adopted_parents (body.Inner children above) = refl

@@ -1,15 +1,8 @@
 -- The graph of a slab of nodes, and how one changed slot changes it.
-use Rattle.std.specs.Prelude.{◌≡◌, ◌≢◌, ℕ, zero, suc, ◌+◌, true, ◌==◌, List, [], ◌∷◌, map, Option, Some, None, if◌then◌else◌, slice_index_or}
-use Rattle.std.proofs.Math.Path.{fun_ext}
-use Rattle.std.proofs.Common.{refl, sym, ap, ◌∙◌, arith}
-use Rattle.gl_modes.proofs.Words.{split, cases_of, none_some, some_is, number_same, same_number, other_number, number_other}
-use Rattle.gl_modes.specs.declared.node.NodeId.{NodeId}
-use Rattle.slab.specs.Slab.{Slab, get, Updates}
-use Rattle.gl_graph.specs.declared.node.Node.{Node as Stored}
-use Rattle.gl_graph.specs.Graph.{Node, Graph, with_key, node_at, is_live}
-use Rattle.gl_graph.specs.Changes.{with_node, born_node, without_node}
-use Rattle.gl_graph.specs.View.{node_of, born_at, graph_of}
-use Rattle.gl_graph.specs.Seen.{Limits, vertex_of, see, seen, named_in, named, AreBornApart, AreBornWithin}
+use Rattle.gl_graph.proofs.Words.{[], ap, AreBornApart, AreBornWithin, arith, born_at, born_node, cases_of, fun_ext, get, Graph, graph_of, if◌then◌else◌}
+use Rattle.gl_graph.proofs.Words.{is_live, Limits, List, map, named, Node, node_at, node_of, NodeId, None, none_some, Option, other_number, refl, same_number}
+use Rattle.gl_graph.proofs.Words.{see, seen, Slab, slice_index_or, Some, some_is, split, Stored, suc, sym, true, Updates, vertex_of, with_key, with_node}
+use Rattle.gl_graph.proofs.Words.{without_node, zero, ℕ, ◌+◌, ◌==◌, ◌∙◌, ◌∷◌, ◌≡◌, ◌≢◌}
 use Rattle.gl_graph.proofs.Look.{finds, misses, found_at, live_node}
 
 -- slots of a list, as those of a slab
@@ -23,11 +16,7 @@ born_found from [] apart k c x f e = absurd (none_some e)
 born_found from (None ∷ xs) apart zero c x f e = absurd (none_some e)
 born_found from (None ∷ xs) apart (suc k) c x f e =
     born_found (from + 1) xs (λ i j a b p q r. let t = apart (suc i) (suc j) a b p q r in omega arith) k c x (omega arith) e
-born_found from (Some y ∷ xs) apart zero c x f e =
-    let same : y ≡ x = some_is e in
-    let key : from ≡ c = omega arith in
-    ap (λ b. if b then Some (node_of from (vertex_of y)) else born_at (from + 1) (map see xs) x.birth)
-    (number_same y.birth x.birth (ap (λ z. z.birth) same)) ∙ (λ i. Some (node_of (key i) (vertex_of (same i))))
+born_found from (Some y ∷ xs) apart zero c x f e = grind arith
 born_found from (Some y ∷ xs) apart (suc k) c x f e =
     split (y.birth == x.birth) (λ t. let same = apart zero (suc k) y x refl e (same_number y.birth x.birth t) in absurd (omega arith))
     (λ t. ap (λ b. if b then Some (node_of from (vertex_of y)) else born_at (from + 1) (map see xs) x.birth) t
@@ -58,9 +47,7 @@ born_from from (Some y ∷ xs) birth node e =
       stored = y;
       there = refl;
       born = same_number y.birth birth t;
-      is =
-          sym (some_is (sym (ap (λ b. if b then Some (node_of from (vertex_of y)) else born_at (from + 1) (map see xs) birth) t) ∙ e))
-          ∙ (λ i. node_of (key i) (vertex_of y));
+      is = grind arith;
     }) (λ t. one_later from (Some y) xs birth node
     (born_from (from + 1) xs birth node (sym (ap (λ b. if b then Some (node_of from (vertex_of y)) else born_at (from + 1) (map see xs) birth) t) ∙ e)))
 
@@ -100,13 +87,7 @@ module _ (limits : Limits) (s : Slab Stored) (births : ℕ) (apart : AreBornApar
 
   -- a look-up by the key finds the node that the id names
   pub node_named : (n : NodeId) → node_at graph n ≡ seen_in n.key (named s n)
-  node_named n =
-      cases_of (get s n.key) (λ e. not_named n (λ x f. absurd (none_some (sym e ∙ f))) ∙ sym (ap (λ o. seen_in n.key (named_in n.birth o)) e))
-      (λ x e. split (x.birth == n.birth) (λ t. finds n.key (at_birth s n.birth) (node_of n.key (vertex_of x))
-      (ap (at_birth s) (sym (same_number x.birth n.birth t)) ∙ at_slot s apart n.key x e) refl
-      ∙ sym (ap (λ o. seen_in n.key (named_in n.birth o)) e ∙ ap (λ b. seen_in n.key (if b then Some x else None)) t))
-      (λ t. not_named n (λ y f same. other_number x.birth n.birth t (ap (λ z. z.birth) (some_is (sym e ∙ f)) ∙ same))
-      ∙ sym (ap (λ o. seen_in n.key (named_in n.birth o)) e ∙ ap (λ b. seen_in n.key (if b then Some x else None)) t)))
+  node_named n = grind (arith, not_named, none_some, finds, same_number, at_slot, other_number, some_is)
 
   pub node_there : (k : ℕ) (x : Stored) → get s k ≡ Some x → node_at graph (record { key = k; birth = x.birth }) ≡ Some (node_of k (vertex_of x))
   node_there k x e = finds k (at_birth s x.birth) (node_of k (vertex_of x)) (at_slot s apart k x e) refl
@@ -140,14 +121,7 @@ module _ (old new : Slab Stored) (key : ℕ) (slot : Option Stored) (apart : Are
     (alone : (k : ℕ) (x : Stored) → k ≢ key → get old k ≡ Some x → x.birth ≢ birth) where
   pub slot_changed : AreBornApart new × (at_birth new ≡ (λ (b : ℕ). if b == birth then seen_in key slot else at_birth old b))
   slot_changed =
-      shown new (λ b. if b == birth then seen_in key slot else at_birth old b) (λ k x e. split (k == key) (λ t.
-      let same = same_number k key t in
-      let is : slot ≡ Some x = sym u.changed ∙ ap (get new) (sym same) ∙ e in
-      ap (λ z. if z then seen_in key slot else at_birth old x.birth) (number_same x.birth birth (now x is)) ∙ ap (seen_in key) is
-      ∙ ap (λ j. Some (node_of j (vertex_of x))) (sym same)) (λ t.
-      let ne = other_number k key t in
-      let there = sym (u.others k ne) ∙ e in
-      ap (λ z. if z then seen_in key slot else at_birth old x.birth) (number_other x.birth birth (alone k x ne there)) ∙ at_slot old apart k x there))
+      shown new (λ b. if b == birth then seen_in key slot else at_birth old b) (λ k x e. grind (arith, at_slot))
       (λ b node e. split (b == birth) (λ t. here b t node slot refl (sym (ap (λ z. if z then seen_in key slot else at_birth old b) t) ∙ e)) (λ t.
       let f = slot_at old b node (sym (ap (λ z. if z then seen_in key slot else at_birth old b) t) ∙ e) in
       let ne : f.key ≢ key = λ k. other_number b birth t (sym f.born ∙ was f.stored (ap (get old) (sym k) ∙ f.there)) in
@@ -155,8 +129,7 @@ module _ (old new : Slab Stored) (key : ℕ) (slot : Option Stored) (apart : Are
     where
       here : (b : ℕ) → (b == birth) ≡ true → (node : Node) → (o : Option Stored) → slot ≡ o → seen_in key o ≡ Some node → IsSlot new b node
       here b t node None e h = absurd (none_some h)
-      here b t node (Some x) e h =
-          record { key = key; stored = x; there = u.changed ∙ e; born = now x e ∙ sym (same_number b birth t); is = sym (some_is h) }
+      here b t node (Some x) e h = grind arith
 
 -- a node is added under a free key
 module _ (limits : Limits) (old new : Slab Stored) (births key : ℕ) (x : Stored) (apart : AreBornApart old) (within : AreBornWithin old births)
@@ -170,9 +143,7 @@ module _ (limits : Limits) (old new : Slab Stored) (births key : ℕ) (x : Store
   inserted_apart = added.0
 
   pub inserted_within : AreBornWithin new (births + 1)
-  inserted_within k y e =
-      split (k == key) (λ t. let b : x.birth ≡ y.birth = ap (λ w. w.birth) (some_is (sym u.changed ∙ ap (get new) (sym (same_number k key t)) ∙ e))
-      in omega arith) (λ t. let low = within k y (sym (u.others k (other_number k key t)) ∙ e) in omega arith)
+  inserted_within k y e = grind arith
 
   pub inserted : graph_of (seen limits new (births + 1)) ≡ born_node (graph_of (seen limits old births)) (node_of key (vertex_of x))
   inserted = let same = added.1 in λ i. record { at = same i; births = births + 1; most = limits.most; most_bounds = limits.most_bounds }
@@ -193,11 +164,7 @@ module _ (limits : Limits) (old new : Slab Stored) (births key : ℕ) (was x : S
 
   -- what is written is not seen in the graph
   pub unseen : node_of key (vertex_of x) ≡ node_of key (vertex_of was) → graph_of (seen limits new births) ≡ graph_of (seen limits old births)
-  unseen alike =
-      let same : (λ (b : ℕ). if b == was.birth then Some (node_of key (vertex_of x)) else at_birth old b) ≡ at_birth old = fun_ext (λ b. split (b == was.birth)
-      (λ t. ap (λ z. if z then Some (node_of key (vertex_of x)) else at_birth old b) t ∙ ap Some alike ∙ sym (at_slot old apart key was there)
-      ∙ ap (at_birth old) (sym (same_number b was.birth t))) (λ t. ap (λ z. if z then Some (node_of key (vertex_of x)) else at_birth old b) t)) in
-      written ∙ (λ i. record { at = same i; births = births; most = limits.most; most_bounds = limits.most_bounds })
+  unseen alike = grind (arith, at_slot, written)
 
 -- a node is removed
 module _ (limits : Limits) (old new : Slab Stored) (births : ℕ) (n : NodeId) (was : Stored) (apart : AreBornApart old)

@@ -1,31 +1,14 @@
 -- A record, or a node with its children, is removed: what is stored beside the rest is due again after its parents and its file count it no longer.
-use Rattle.std.specs.Prelude.{◌≡◌, ◌≢◌, ◌⊎◌, ℕ, ◌+◌, ◌-◌, ◌≤◌, Bool, true, false, ◌==◌, ◌||◌, not, List, length, Option, Some, None, is_some}
-use Rattle.std.specs.Prelude.{if◌then◌else◌, slice_get, Vec}
-use Rattle.std.specs.Global.{Box}
-use Rattle.std.specs.List.{filter, list_any}
-use Rattle.std.specs.declared.alloc.Global.{Global}
-use Rattle.std.proofs.Math.Path.{fun_ext}
-use Rattle.std.proofs.lemmas.Option.{slice_get_within}
-use Rattle.std.proofs.Common.{refl, sym, ap, ap₂, ◌∙◌, subst, arith, inl, inr, ⊎_elim, rules}
-use Rattle.gl_modes.proofs.NodeLemmas.{node_is, same_node-refl, same_node-equal, same_node-differ, same_node-sym}
-use Rattle.gl_modes.proofs.Words.{split, no, none_some, some_is, not_true, or_left, number_same, number_other, same_number, other_number}
-use Rattle.gl_modes.specs.declared.node.NodeId.{NodeId}
-use Rattle.gl_modes.specs.Nodes.{same_node}
-use Rattle.slab.specs.Slab.{Slab, get, slab_len, ContainsKey, Updates}
-use Rattle.gl_graph.specs.declared.node.Body.{Body}
+use Rattle.gl_graph.proofs.Words.{ap, ap₂, are_distinct, are_inner, AreBornApart, AreGone, AreRecounted, AreSound, AreStored, arith, Beside, beside_in_body}
+use Rattle.gl_graph.proofs.Words.{Body, body_with_records, body_without_index, Bool, Box, children_of, ContainsKey, due, due_as, false, filter, first_parent}
+use Rattle.gl_graph.proofs.Words.{fun_ext, get, Global, Graph, graph_of, Holds, if◌then◌else◌, Index, IndexBody, indexes_of, inl, inr, interval, intervals_from}
+use Rattle.gl_graph.proofs.Words.{intervals_in_body, is_child, is_file_shape, is_in_use, is_index_of_shape, is_index_shape, is_inner_shape, is_live}
+use Rattle.gl_graph.proofs.Words.{is_movable_shape, is_record_shape, is_some, IsLawfulGraph, length, Limits, List, list_any, Lists, no, node_at, node_is}
+use Rattle.gl_graph.proofs.Words.{NodeId, None, none_some, not, not_true, number_same, Option, or_left, other_number, parents_in, parents_in_body, parents_of}
+use Rattle.gl_graph.proofs.Words.{record_count, refl, rules, same_node, same_node-differ, same_node-equal, same_node-refl, same_node-sym, seen, Shape, shape_in}
+use Rattle.gl_graph.proofs.Words.{shape_in_body, shape_of, Slab, slab_len, slice_get, slice_get_within, Some, some_is, split, Stored, subst, sym, true, Updates}
+use Rattle.gl_graph.proofs.Words.{Vec, without_branch, without_node, ℕ, ◌+◌, ◌-◌, ◌==◌, ◌||◌, ◌∙◌, ◌≡◌, ◌≢◌, ◌≤◌, ◌⊎◌}
 use Rattle.gl_graph.specs.declared.node.Body.TheVariants as body
-use Rattle.gl_graph.specs.declared.node.IndexBody.{IndexBody}
-use Rattle.gl_graph.specs.declared.node.Node.{Node as Stored}
-use Rattle.gl_graph.specs.Shapes.{Shape, Index, is_inner_shape, is_file_shape, is_index_shape, is_record_shape, is_index_of_shape, is_movable_shape}
-use Rattle.gl_graph.specs.Graph.{Graph, node_at, is_live, shape_in, shape_of, parents_in, parents_of, is_child, first_parent, indexes_of, interval}
-use Rattle.gl_graph.specs.Graph.{intervals_of, node_count}
-use Rattle.gl_graph.specs.Lawful.{IsLawfulGraph, are_inner, are_distinct}
-use Rattle.gl_graph.specs.Changes.{without_node, without_branch}
-use Rattle.gl_graph.specs.Refusals.{is_in_use}
-use Rattle.gl_graph.specs.View.{graph_of, record_count, children_of, intervals_from, Beside, Lists, due_as, due}
-use Rattle.gl_graph.specs.Seen.{Limits, seen, shape_in_body, parents_in_body, intervals_in_body, body_with_records, body_without_index}
-use Rattle.gl_graph.specs.Seen.{beside_in_body, AreBornApart, Holds, AreSound}
-use Rattle.gl_graph.specs.Grown.{AreStored, AreGone, AreRecounted}
 use Rattle.gl_graph.proofs.Added.{records_written}
 use Rattle.gl_graph.proofs.Branch.{left, gone, gone_is, at_gone, at_beside, left_is, left_shape, left_birth, live, interval_count, is_interval_shape}
 use Rattle.gl_graph.proofs.Branch.{movable_no_interval, no_interval_file, no_branch, left_lawful, count_left, other_indexes, indexes_left, records_left}
@@ -42,7 +25,6 @@ use Rattle.gl_graph.proofs.Removed.{rec_live, was_there, removed_frames, removed
 use Rattle.gl_graph.proofs.SameParents.{records_shown, unlisted_shown}
 use Rattle.gl_graph.proofs.Slots.{at_birth, at_slot, slot_at, shown}
 use Rattle.gl_graph.proofs.Tally.{ones}
-use Rattle.gl_graph.proofs.Unrefused.{or_no}
 
 -- a record
 module _ {limits : Limits} {old : Slab Stored} {births : ℕ} {g : Graph} (h : Holds limits old births g (due g)) (law : IsLawfulGraph g) (r : NodeId)
@@ -96,8 +78,7 @@ module _ {limits : Limits} {old : Slab Stored} {births : ℕ} {g : Graph} (h : H
       records = all - 1
 
       write : (y : Stored) → get mid file.key ≡ Some y → Updates mid new file.key (Some (record y { body = body_with_records y.body records }))
-      write = subst (λ (n : NodeId). (y : Stored) → get mid n.key ≡ Some y
-          → Updates mid new n.key (Some (record y { body = body_with_records y.body records }))) is_its written_as
+      write = grind arith
 
       written : Holds limits new births rest (put file (beside_in_body (body_with_records slot.stored.body records)) (due g))
       written =
@@ -151,9 +132,7 @@ module _ {limits : Limits} {old : Slab Stored} {births : ℕ} {g : Graph} (h : H
   node_contained = ap is_some node_slot.there
 
   not_gone : (m : NodeId) → is_live (left g n) m ≡ true → same_node n m ≡ false
-  not_gone m alive =
-      let x = live_node (node_at (left g n) m) alive in
-      (or_no (same_node n m) (is_child g n m) (sym (gone_is g n lives m (ap is_some (sym (left_is g n m alive) ∙ x.1))) ∙ left_birth g n m x.0 x.1)).0
+  not_gone m alive = grind arith
 
   -- its parents have one child less
   children_less : (m : NodeId) → is_inner_shape (shape_of g m) ≡ true → children_of (left g n) m + ones
@@ -161,17 +140,13 @@ module _ {limits : Limits} {old : Slab Stored} {births : ℕ} {g : Graph} (h : H
   children_less m i =
       sym (count_without g law (child_test m) refl (left g n) n lives refl
       (at_gone g n n.birth (or_left (n.birth == n.birth) _ (number_same n.birth n.birth refl)))
-      (λ b ne. split (gone g n b)
-      (λ t. ap (child_test m) (at_gone g n b t) ∙ sym (no_child b ne t (g.at b) refl)) (λ t. ap (child_test m) (at_beside g n b t))))
+      (λ b ne. grind (arith, gone, child_test, at_gone, no_child, at_beside)))
     where
       no_child : (b : ℕ) → b ≢ n.birth → gone g n b ≡ true → (o : Option Rattle.gl_graph.specs.Graph.Node) → g.at b ≡ o → child_test m (g.at b) ≡ false
       no_child b ne t None e = ap (child_test m) e
       no_child b ne t (Some x) e =
-          let id : NodeId = record { key = x.key; birth = b } in
           let there : node_at g (record { key = x.key; birth = b }) ≡ Some x = finds x.key (g.at b) x e refl in
-          let c : is_child g n (record { key = x.key; birth = b }) ≡ true =
-          ap (λ o'. list_any (same_node n) (parents_in o')) (there ∙ sym e)
-          ∙ sym (ap (λ z. z || list_any (same_node n) (parents_in (g.at b))) (number_other b n.birth ne)) ∙ t in
+          let c : is_child g n (record { key = x.key; birth = b }) ≡ true = grind arith in
           ap (child_test m) (e ∙ sym there)
           ∙ no_inner_parent g law m (record { key = x.key; birth = b }) i (interval_fixed (shape_of g (record { key = x.key; birth = b }))
           (children_are g law n movable free (record { key = x.key; birth = b }) c).1)
@@ -204,8 +179,7 @@ module _ {limits : Limits} {old : Slab Stored} {births : ℕ} {g : Graph} (h : H
     parents_kept : AreKept (λ children. 1 ≤ children) s ps
     parents_kept =
         are_kept now (left_lawful g law n movable free) ps inner distinct (λ children. 1 ≤ children)
-        (λ m listed i. subst (λ b. 1 ≤ counted_in b) (sym (inner_same m (was_inner m i) ∙ inner_due g m (was_inner m i)))
-        (some_child g law m n (ap (list_any (same_node m)) parents_are ∙ listed)))
+        (λ m listed i. grind (arith, counted_in, was_inner, inner_due, some_child, parents_are))
 
     abbrev down : NodeId → ℕ → ℕ
     down m c = if list_any (same_node m) ps then c - 1 else c
@@ -226,9 +200,7 @@ module _ {limits : Limits} {old : Slab Stored} {births : ℕ} {g : Graph} (h : H
           → ((is_index_of_shape m (shape_of g n) ≡ false) × (beside m ≡ due g m)) ⊎
           (recounted (down m) (beside m) ≡ due (left g n) m)) → AreSound limits new births
       left_sound each =
-          sound_held settled (left_lawful g law n movable free) (λ m alive.
-          ⊎_elim (λ (t : (is_index_of_shape m (shape_of g n) ≡ false) × (beside m ≡ due g m)). ap (recounted (down m)) t.1 ∙ due_down m alive t.0)
-          (λ (t : recounted (down m) (beside m) ≡ due (left g n) m). t) (each m alive))
+          sound_held settled (left_lawful g law n movable free) (λ m alive. grind (arith, alive, recounted, due_down, left))
 
   -- no index
   module _ (alone : is_index_shape (shape_of g n) ≡ false) (mid : Slab Stored) (u : Updates old mid n.key None) (len : slab_len mid + 1 ≡ slab_len old) where
@@ -237,11 +209,7 @@ module _ {limits : Limits} {old : Slab Stored} {births : ℕ} {g : Graph} (h : H
         (node_removed h law n lives u len)
 
     of_none : (m : NodeId) → is_index_of_shape m (shape_of g n) ≡ false
-    of_none m = by (shape_of g n) alone
-      where
-        by : (o : Option Shape) → is_index_shape o ≡ false → is_index_of_shape m o ≡ false
-        by (Some (Index f bs)) k = absurd (no (sym k))
-        by _ k = refl
+    of_none m = grind arith
 
     module _ (x : Stored) (there : get old n.key ≡ Some x) (ps : List NodeId) (ps_are : ps ≡ parents_in_body x.body) where
       pub alone_kept : AreKept (λ children. 1 ≤ children) mid ps
@@ -257,11 +225,7 @@ module _ {limits : Limits} {old : Slab Stored} {births : ℕ} {g : Graph} (h : H
 -- a file that no longer lists an index
 unlisted_beside : (b : Body) (n : NodeId) (is : List NodeId) (k : ℕ) → beside_in_body b ≡ Lists is k
     → beside_in_body (body_without_index b n) ≡ Lists (filter (λ listed. not (same_node listed n)) is) k
-unlisted_beside (body.File kept above) n is k e = ap (without n) e
-  where
-    without : NodeId → Beside → Beside
-    without m (Lists xs c) = Lists (filter (λ listed. not (same_node listed m)) xs) c
-    without m b = b
+unlisted_beside (body.File kept above) n is k e = cc
 unlisted_beside _ n is k e = cc
 
 index_movable : (o : Option Shape) → is_index_shape o ≡ true → is_movable_shape o ≡ true
@@ -289,14 +253,7 @@ module _ {limits : Limits} {old : Slab Stored} {births : ℕ} {g : Graph} (h : H
 
   pub is_stored_index : (x : Stored) → get old n.key ≡ Some x
       → ((boxed : Box IndexBody) (above : Vec NodeId Global) → x.body ≡ body.Index boxed above → ⊥) → ⊥
-  is_stored_index x at none =
-      by x.body none (ap (λ (z : Stored). is_index_shape (Some (shape_in_body z.body))) (some_is (sym at ∙ its_slot.there))
-      ∙ sym (ap (λ o. is_index_shape (shape_in o)) its_slot.node) ∙ index)
-    where
-      by : (b : Body) → ((boxed : Box IndexBody) (above : Vec NodeId Global) → b ≡ body.Index boxed above → ⊥)
-          → is_index_shape (Some (shape_in_body b)) ≡ true → ⊥
-      by (body.Index boxed above) none k = none boxed above refl
-      by _ none k = no k
+  is_stored_index x at none = grind (arith, its_slot, no)
 
   module _ (x : Stored) (there : get old n.key ≡ Some x) (f : NodeId) (bs : List ℕ) (shape : shape_in_body x.body ≡ Index f bs) (mid : Slab Stored)
       (u : Updates old mid n.key None) (len : slab_len mid + 1 ≡ slab_len old) (ids : List NodeId) (ids_are : ids ≡ intervals_in_body x.body) where
@@ -330,11 +287,7 @@ module _ {limits : Limits} {old : Slab Stored} {births : ℕ} {g : Graph} (h : H
         → (is_live g m ≡ true) × (is_interval_shape (shape_of g m) ≡ true) × (is_child g n m ≡ true)
     interval_is place m e =
         let at = at_place place m e in
-        let node = ap (node_at g) at.1 ∙ (index_node g law n f bs shape_is).intervals place at.0 in (
-          ap is_some node,
-          ap (λ o. is_interval_shape (shape_in o)) node,
-          ap (is_child g n) at.1 ∙ interval_child g law n f bs shape_is place at.0,
-        )
+        let node = ap (node_at g) at.1 ∙ (index_node g law n f bs shape_is).intervals place at.0 in (grind arith)
 
     key_apart : (place : ℕ) (m : NodeId) → slice_get ids place ≡ Some m → m.key ≢ n.key
     key_apart place m e same =
@@ -362,20 +315,11 @@ module _ {limits : Limits} {old : Slab Stored} {births : ℕ} {g : Graph} (h : H
 
       slots : (k : ℕ) → get third k ≡ left_in g n (get old k)
       slots k =
-          split (k == n.key) (λ t.
-          let same : k ≡ n.key = same_number k n.key t in
-          taken.stays k (λ place m low e. λ (key : m.key ≡ k). key_apart place m e (key ∙ same))
-          ∙ ap (get mid) same ∙ u.changed
-          ∙ sym (ap (λ j. left_in g n (get old j)) same ∙ ap (left_in g n) there
-          ∙ ap (λ b. if b then None else Some x) (or_left (x.birth == n.birth) _ (number_same x.birth n.birth born))))
+          split (k == n.key) (λ t. grind (arith, stays, key_apart, born))
           (λ t. by (other_number k n.key t) (get old k) refl)
         where
           by : k ≢ n.key → (o : Option Stored) → get old k ≡ o → get third k ≡ left_in g n o
-          by ne None e =
-              taken.stays k (λ place m low at. λ (key : m.key ≡ k).
-              let y = live_held h m (interval_is place m at).0 in
-              none_some (sym e ∙ ap (get old) (sym key) ∙ y.there))
-              ∙ u.others k ne ∙ e
+          by ne None e = grind arith
           by ne (Some y) e =
               split (is_child g n (record { key = k; birth = y.birth })) (λ c.
               let it = child_interval g law n f bs shape_is (record { key = k; birth = y.birth }) c
@@ -399,14 +343,12 @@ module _ {limits : Limits} {old : Slab Stored} {births : ℕ} {g : Graph} (h : H
           by : (o : Option Stored) → get old k ≡ o → (o ≡ Some y) × (gone g n y.birth ≡ false)
           by None was = absurd (none_some (sym (slots k ∙ ap (left_in g n) was) ∙ e))
           by (Some z) was =
-              split (gone g n z.birth) (λ t. absurd (none_some (sym (slots k ∙ ap (left_in g n) was ∙ ap (λ b. if b then None else Some z) t) ∙ e))) (λ t.
-              let same : z ≡ y = some_is (sym (slots k ∙ ap (left_in g n) was ∙ ap (λ b. if b then None else Some z) t) ∙ e) in
-              (ap Some same, ap (λ w. gone g n w.birth) (sym same) ∙ t))
+              split (gone g n z.birth) (λ t. absurd (none_some (sym (slots k ∙ ap (left_in g n) was ∙ ap (λ b. if b then None else Some z) t) ∙ e)))
+              (λ t. grind arith)
 
       still_shown : AreBornApart third × (at_birth third ≡ (λ (b : ℕ). if gone g n b then None else at_birth old b))
       still_shown =
-          shown third (λ b. if gone g n b then None else at_birth old b) (λ k y e. let was = stood k y e in
-          ap (λ z. if z then None else at_birth old y.birth) was.1 ∙ at_slot old h.apart k y was.0)
+          shown third (λ b. if gone g n b then None else at_birth old b) (λ k y e. grind (arith, stood, at_birth, at_slot))
           (λ b node e. split (gone g n b) (λ t. absurd (none_some (sym (ap (λ z. if z then None else at_birth old b) t) ∙ e))) (λ t.
           let s = slot_at old b node (sym (ap (λ z. if z then None else at_birth old b) t) ∙ e) in
           record {
@@ -428,12 +370,7 @@ module _ {limits : Limits} {old : Slab Stored} {births : ℕ} {g : Graph} (h : H
               most_bounds = g'.most_bounds;
             }) h.graph;
         apart = still_shown.0;
-        counted = (let all = count_left g law n movable free in
-            let span : interval_count (shape_of g n) ≡ length bs + 1 = ap interval_count shape_is in
-            let was = h.counted in
-            let many = count_is in
-            let less = taken.len in
-            omega arith);
+        counted = grind (arith, count_left, movable, interval_count, shape_is, count_is);
         kept = λ k y e. h.kept k y (stood k y e).0;
       }
 
@@ -507,12 +444,5 @@ module _ {limits : Limits} {old : Slab Stored} {births : ℕ} {g : Graph} (h : H
             index_left_sound =
                 left_sound h law n movable free x there ps ps_are fourth now unlisted other_inner last re (λ m live'. split (same_node m f) (λ t.
                 let same = same_node-equal m f t in
-                inr (ap (λ q. recounted (fewer q) (now q)) same
-                ∙ ap (recounted (fewer f))
-                (put_here f (beside_in_body (body_without_index file_slot.stored.body n)) (due g)
-                ∙ unlisted_beside file_slot.stored.body n (indexes_of g f) (record_count g f) (file_slot.kept ∙ file_due g f is_file))
-                ∙ sym (unlisted_beside file_slot.stored.body n (indexes_of g f) (record_count g f) (file_slot.kept ∙ file_due g f is_file))
-                ∙ file_due_now ∙ ap (due (left g n)) (sym same))) (λ t. inl (
-                  ap (is_index_of_shape m) shape_is ∙ t,
-                  put_other f (beside_in_body (body_without_index file_slot.stored.body n)) (due g) m t,
-                )))
+                inr (grind (arith, recounted, put_here, file_slot, unlisted_beside, file_due, is_file, file_due_now, left))) (λ t. inl
+                (grind (arith, shape_is, put_other, file_slot))))

@@ -1,16 +1,8 @@
 -- The nodes that pass a test, listed and counted: how both change if all stays, if one birth changes, and if nodes are born.
-use Rattle.std.specs.Prelude.{◌≡◌, ◌≢◌, ℕ, zero, suc, ◌+◌, ◌<◌, ◌≤◌, Bool, true, false, ◌==◌, List, [], ◌∷◌, ◌++◌, Option, Some, None, cond, count_by}
-use Rattle.std.specs.Prelude.{if◌then◌else◌, ◌&&◌, length, is_some}
-use Rattle.std.specs.List.{cons_option, filter, filter_map, list_all, range_with_len}
-use Rattle.std.proofs.Math.Path.{fun_ext}
-use Rattle.std.proofs.lemmas.List.{append-nil}
-use Rattle.std.proofs.lemmas.List.Elements.{filter_map-append}
-use Rattle.std.proofs.lemmas.List.Sums.{sum_by-append}
-use Rattle.std.proofs.Common.{refl, sym, ap, ap₂, ◌∙◌, arith}
-use Rattle.gl_modes.proofs.Words.{split, and_both, same_number, other_number, number_same, number_other}
-use Rattle.gl_modes.specs.declared.node.NodeId.{NodeId}
-use Rattle.gl_graph.specs.Graph.{Graph, Node, id_of, nodes, node_at, is_live, node_count}
-use Rattle.gl_graph.specs.Changes.{born_node, born_nodes}
+use Rattle.gl_graph.proofs.Words.{[], and_both, ap, append-nil, ap₂, arith, Bool, born_node, born_nodes, cond, cons_option, count_by, false, filter, filter_map}
+use Rattle.gl_graph.proofs.Words.{filter_map-append, Graph, id_of, if◌then◌else◌, is_live, is_some, length, List, list_all, Node, node_at, node_count, NodeId}
+use Rattle.gl_graph.proofs.Words.{nodes, None, number_same, Option, other_number, range_with_len, refl, same_number, Some, split, suc, sum_by-append, sym, true}
+use Rattle.gl_graph.proofs.Words.{zero, ℕ, ◌&&◌, ◌++◌, ◌+◌, ◌<◌, ◌==◌, ◌∙◌, ◌∷◌, ◌≡◌, ◌≢◌, ◌≤◌}
 use Rattle.gl_graph.proofs.Born.{place_in}
 use Rattle.gl_graph.proofs.Look.{finds}
 use Rattle.gl_graph.proofs.Listings.{kept, filter_of_map, map_same, range_append}
@@ -22,10 +14,7 @@ ones b = cond b 1 0
 tally_same : (p p' : ℕ → Bool) (a n : ℕ) → ((b : ℕ) → a ≤ b → b < a + n → p' b ≡ p b)
     → count_by p' (range_with_len a n) ≡ count_by p (range_with_len a n)
 tally_same p p' a zero same = refl
-tally_same p p' a (suc n) same =
-    count_cons p' a (range_with_len (a + 1) n)
-    ∙ ap₂ (λ b k. ones b + k) (same a (omega arith) (omega arith)) (tally_same p p' (a + 1) n (λ b low high. same b (omega arith) (omega arith)))
-    ∙ sym (count_cons p a (range_with_len (a + 1) n))
+tally_same p p' a (suc n) same = grind (arith, tally_same p p' (a + 1) n, count_cons)
 
 -- tests that differ at one birth alone
 tally_one : (p p' : ℕ → Bool) (c a n : ℕ) → ((b : ℕ) → b ≢ c → p' b ≡ p b) → a ≤ c → c < a + n
@@ -34,12 +23,7 @@ tally_one p p' c a zero same low high = absurd (omega arith)
 tally_one p p' c a (suc n) same low high =
     let head : count_by p (range_with_len a (suc n)) ≡ ones (p a) + count_by p (range_with_len (a + 1) n) = count_cons p a (range_with_len (a + 1) n) in
     let head' : count_by p' (range_with_len a (suc n)) ≡ ones (p' a) + count_by p' (range_with_len (a + 1) n) = count_cons p' a (range_with_len (a + 1) n) in
-    split (a == c) (λ t.
-    let here : a ≡ c = same_number a c t in
-    let rest = tally_same p p' (a + 1) n (λ b above high'. same b (omega arith)) in
-    let was : ones (p a) ≡ ones (p c) = ap (λ b. ones (p b)) here in
-    let is : ones (p' a) ≡ ones (p' c) = ap (λ b. ones (p' b)) here in
-    omega arith) (λ t.
+    split (a == c) (λ t. grind (arith, tally_same)) (λ t.
     let ne = other_number a c t in
     let here : ones (p' a) ≡ ones (p a) = ap ones (same a ne) in
     let rest = tally_one p p' c (a + 1) n same (omega arith) (omega arith) in
@@ -71,19 +55,15 @@ module _ (t : Option Node → Bool) (none : t None ≡ false) where
   count_changed g g' c births same low high =
       let one = tally_one (λ b. t (g.at b)) (λ b. t (g'.at b)) c 1 g.births same low (omega arith) in
       let was = counted_births g in
-      let is : count_where g' ≡ count_by (λ b. t (g'.at b)) (range_with_len 1 g.births) =
-      counted_births g' ∙ ap (λ k. count_by (λ b. t (g'.at b)) (range_with_len 1 k)) births in
+      let is : count_where g' ≡ count_by (λ b. t (g'.at b)) (range_with_len 1 g.births) = grind (arith, counted_births) in
       omega arith
 
   -- no birth changes
   pub count_kept : (g g' : Graph) → g'.births ≡ g.births → ((b : ℕ) → t (g'.at b) ≡ t (g.at b)) → count_where g' ≡ count_where g
-  count_kept g g' births same =
-      counted_births g' ∙ ap (λ k. count_by (λ b. t (g'.at b)) (range_with_len 1 k)) births
-      ∙ tally_same (λ b. t (g.at b)) (λ b. t (g'.at b)) 1 g.births (λ b low high. same b) ∙ sym (counted_births g)
+  count_kept g g' births same = grind (arith, counted_births, tally_same)
 
   pub count_born : (g : Graph) (node : Node) → count_where (born_node g node) ≡ count_where g + ones (t (Some node))
   count_born g node =
-      let p : ℕ → Bool = λ b. t ((born_node g node).at b) in
       let all : count_where (born_node g node) ≡ count_by (λ b. t ((born_node g node).at b)) (range_with_len 1 (g.births + 1)) =
       counted_births (born_node g node) in
       let parts : count_by (λ b. t ((born_node g node).at b)) (range_with_len 1 (g.births + 1))
@@ -91,13 +71,8 @@ module _ (t : Option Node → Bool) (none : t None ≡ false) where
       + count_by (λ b. t ((born_node g node).at b)) ((g.births + 1) ∷ []) =
       ap (count_by (λ b. t ((born_node g node).at b))) (range_append 1 g.births 1 (g.births + 1) (g.births + 1) refl (omega arith))
       ∙ sum_by-append (λ b. cond (t ((born_node g node).at b)) 1 0) (range_with_len 1 g.births) ((g.births + 1) ∷ []) in
-      let old : count_by (λ b. t ((born_node g node).at b)) (range_with_len 1 g.births) ≡ count_where g =
-      tally_same (λ b. t (g.at b)) (λ b. t ((born_node g node).at b)) 1 g.births
-      (λ b low high. ap (λ z. t (if z then Some node else g.at b)) (let ne : b ≢ g.births + 1 = omega arith in number_other b (g.births + 1) ne))
-      ∙ sym (counted_births g) in
-      let new : count_by (λ b. t ((born_node g node).at b)) ((g.births + 1) ∷ []) ≡ ones (t (Some node)) + 0 =
-      count_cons (λ b. t ((born_node g node).at b)) (g.births + 1) []
-      ∙ ap (λ z. ones (t (if z then Some node else g.at (g.births + 1))) + 0) (number_same (g.births + 1) (g.births + 1) refl) in
+      let old : count_by (λ b. t ((born_node g node).at b)) (range_with_len 1 g.births) ≡ count_where g = grind (arith, tally_same, counted_births) in
+      let new : count_by (λ b. t ((born_node g node).at b)) ((g.births + 1) ∷ []) ≡ ones (t (Some node)) + 0 = grind arith in
       omega arith
 
   pub count_borns : (g : Graph) (ns : List Node) → count_where (born_nodes g ns) ≡ count_where g + count_by (λ n. t (Some n)) ns
@@ -112,8 +87,7 @@ module _ (t : Option Node → Bool) (none : t None ≡ false) where
 pub tally_gap : (p p' : ℕ → Bool) (c k a n : ℕ) → ((b : ℕ) → a ≤ b → (c ≤ b → b < c + k → ⊥) → p' b ≡ p b)
     → ((b : ℕ) → c ≤ b → b < c + k → (p b ≡ true) × (p' b ≡ false)) → a ≤ c → c + k ≤ a + n
     → count_by p (range_with_len a n) ≡ count_by p' (range_with_len a n) + k
-tally_gap p p' c zero a n same gap low high =
-    let all = tally_same p p' a n (λ b l h. same b l (λ low' high'. absurd (omega arith))) in omega arith
+tally_gap p p' c zero a n same gap low high = grind (arith, tally_same)
 tally_gap p p' c (suc k) a zero same gap low high = absurd (omega arith)
 tally_gap p p' c (suc k) a (suc n) same gap low high =
     let head : count_by p (range_with_len a (suc n)) ≡ ones (p a) + count_by p (range_with_len (a + 1) n) = count_cons p a (range_with_len (a + 1) n) in
@@ -154,25 +128,16 @@ module _ (p : NodeId → Option Node → Bool) where
   nodes_where g = filter (λ n. p n (node_at g n)) (nodes g)
 
   pub listed_births : (g : Graph) → nodes_where g ≡ filter_map (λ b. picked b (g.at b)) (range_with_len 1 g.births)
-  listed_births g =
-      filter_of_map (λ n. p n (node_at g n)) (λ b. id_of b (g.at b)) (range_with_len 1 g.births)
-      ∙ ap (λ (h : ℕ → Option NodeId). filter_map h (range_with_len 1 g.births)) (fun_ext (λ b. by b (g.at b) refl))
-    where
-      by : (b : ℕ) (o : Option Node) → g.at b ≡ o → kept (λ n. p n (node_at g n)) (id_of b o) ≡ picked b o
-      by b None e = refl
-      by b (Some x) e =
-          ap (λ o. if p (record { key = x.key; birth = b }) o then Some (record { key = x.key; birth = b }) else None) (finds x.key (g.at b) x e refl)
+  listed_births g = grind (arith, filter_of_map, kept, finds)
 
   -- one more is born
   pub list_born : (g : Graph) (node : Node) → nodes_where (born_node g node) ≡ nodes_where g ++ cons_option (picked (g.births + 1) (Some node)) []
   list_born g node =
-      let h : ℕ → Option NodeId = λ b. picked b ((born_node g node).at b) in
       listed_births (born_node g node)
       ∙ ap (filter_map (λ b. picked b ((born_node g node).at b))) (range_append 1 g.births 1 (g.births + 1) (g.births + 1) refl (omega arith))
       ∙ filter_map-append (λ b. picked b ((born_node g node).at b)) (range_with_len 1 g.births) ((g.births + 1) ∷ [])
-      ∙ ap₂ (λ xs ys. xs ++ ys) (map_same (λ b. picked b (g.at b)) (λ b. picked b ((born_node g node).at b)) 1 g.births
-      (λ b low high. ap (λ z. picked b (if z then Some node else g.at b)) (let ne : b ≢ g.births + 1 = omega arith in number_other b (g.births + 1) ne))
-      ∙ sym (listed_births g)) (ap (λ z. cons_option (picked (g.births + 1) (if z then Some node else g.at (g.births + 1))) [])
+      ∙ ap₂ (λ xs ys. xs ++ ys)
+      (grind (arith, map_same, listed_births)) (ap (λ z. cons_option (picked (g.births + 1) (if z then Some node else g.at (g.births + 1))) [])
       (number_same (g.births + 1) (g.births + 1) refl))
 
   -- more are born, and none passes
@@ -188,15 +153,9 @@ module _ (p : NodeId → Option Node → Bool) where
 -- the lists of two graphs, if each birth is in both or in none
 pub list_same : (p p' : NodeId → Option Node → Bool) (g g' : Graph) → g'.births ≡ g.births → ((b : ℕ) → picked p' b (g'.at b) ≡ picked p b (g.at b))
     → nodes_where p' g' ≡ nodes_where p g
-list_same p p' g g' births same =
-    listed_births p' g' ∙ ap₂ (λ (h : ℕ → Option NodeId) k. filter_map h (range_with_len 1 k)) (fun_ext same) births ∙ sym (listed_births p g)
+list_same p p' g g' births same = grind (arith, listed_births)
 
 -- a list of those that pass, once more sifted
 pub sifted : (p q : NodeId → Bool) (xs : List NodeId) → filter q (filter p xs) ≡ filter (λ x. p x && q x) xs
 sifted p q [] = refl
-sifted p q (x ∷ xs) =
-    split (p x) (λ t. ap (λ b. filter q (if b then x ∷ filter p xs else filter p xs)) t
-    ∙ ap (λ ys. if q x then x ∷ ys else ys) (sifted p q xs)
-    ∙ sym (ap (λ b. if b && q x then x ∷ filter (λ y. p y && q y) xs else filter (λ y. p y && q y) xs) t))
-    (λ t. ap (λ b. filter q (if b then x ∷ filter p xs else filter p xs)) t ∙ sifted p q xs
-    ∙ sym (ap (λ b. if b && q x then x ∷ filter (λ y. p y && q y) xs else filter (λ y. p y && q y) xs) t))
+sifted p q (x ∷ xs) = grind (arith, sifted p q xs)

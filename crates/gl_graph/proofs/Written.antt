@@ -1,34 +1,21 @@
 -- One node is written: a file is marked, or an inner node, a file or an index moves. What is stored beside the nodes is due again after the counts.
-use Rattle.std.specs.Prelude.{◌≡◌, ℕ, ◌+◌, ◌-◌, ◌<◌, ◌≤◌, ◌^◌, Bool, true, false, ◌==◌, ◌&&◌, List, [], ◌∷◌, length, Option, Some, None, is_some, cond}
-use Rattle.std.specs.Prelude.{if◌then◌else◌, Vec}
-use Rattle.std.specs.List.{list_all, list_any}
-use Rattle.std.specs.declared.alloc.Global.{Global}
-use Rattle.std.proofs.Common.{refl, sym, ap, ap₂, ◌∙◌, subst, arith}
-use Rattle.gl_modes.proofs.NodeLemmas.{same_node-equal, same_node-other}
-use Rattle.gl_modes.proofs.Words.{split, no, some_is, and_both, both, same_number, number_same, number_other}
-use Rattle.gl_modes.specs.declared.node.NodeId.{NodeId}
-use Rattle.gl_modes.specs.Nodes.{same_node}
-use Rattle.slab.specs.Slab.{Slab, get, slab_len, ContainsKey, Updates}
-use Rattle.gl_graph.specs.declared.node.Body.{Body}
+use Rattle.gl_graph.proofs.Words.{[], and_both, ap, ap₂, are_inner, AreInnerParents, AreRecounted, AreSound, arith, beside_in_body, Body, body_adopted}
+use Rattle.gl_graph.proofs.Words.{body_with_parents, Bool, both, children_of, cond, ContainsKey, due, due_as, false, File, first_cycle, get, Global, Graph}
+use Rattle.gl_graph.proofs.Words.{graph_of, Holds, if◌then◌else◌, is_file_shape, is_inner_shape, is_live, is_movable_shape, is_record_shape, is_some}
+use Rattle.gl_graph.proofs.Words.{IsLawfulGraph, least_parents, length, Limits, List, list_all, list_any, marked, no, node_at, node_of, NodeId, None}
+use Rattle.gl_graph.proofs.Words.{number_other, number_same, Option, parents_in, parents_in_body, parents_of, refl, same_node, same_node-equal, same_node-other}
+use Rattle.gl_graph.proofs.Words.{same_number, seen, Shape, shape_in, shape_in_body, shape_of, Slab, slab_len, Some, some_is, split, Stored, subst, sym, true}
+use Rattle.gl_graph.proofs.Words.{Updates, Vec, vertex_of, with_node, with_parents, ℕ, ◌&&◌, ◌+◌, ◌-◌, ◌<◌, ◌==◌, ◌^◌, ◌∙◌, ◌∷◌, ◌≡◌, ◌≤◌}
 use Rattle.gl_graph.specs.declared.node.Body.TheVariants as body
-use Rattle.gl_graph.specs.declared.node.Node.{Node as Stored}
-use Rattle.gl_graph.specs.Shapes.{Shape, File, is_inner_shape, is_file_shape, is_record_shape, is_movable_shape, least_parents}
-use Rattle.gl_graph.specs.Graph.{Graph, node_at, is_live, shape_in, shape_of, parents_in, parents_of}
-use Rattle.gl_graph.specs.Lawful.{IsLawfulGraph, AreInnerParents, are_inner}
-use Rattle.gl_graph.specs.Changes.{with_node, with_parents, marked_shape, marked}
-use Rattle.gl_graph.specs.Refusals.{first_cycle}
-use Rattle.gl_graph.specs.View.{graph_of, node_of, children_of, due_as, due}
-use Rattle.gl_graph.specs.Seen.{Limits, vertex_of, seen, shape_in_body, parents_in_body, body_adopted, body_with_parents, beside_in_body, Holds, AreSound}
-use Rattle.gl_graph.specs.Grown.{AreRecounted}
 use Rattle.gl_graph.proofs.Branch.{movable_live, movable_no_record}
-use Rattle.gl_graph.proofs.Changed.{IsAlike, at_here, at_other, indexes_same, changed_frames, live_same}
+use Rattle.gl_graph.proofs.Changed.{IsAlike, at_other, indexes_same, changed_frames}
 use Rattle.gl_graph.proofs.Counted.{AreKept, are_kept, counted_in, counts_written}
 use Rattle.gl_graph.proofs.Dues.{child_test, record_test, inner_due, intervals_same, children_fit, some_child, own_parents, one_moved}
 use Rattle.gl_graph.proofs.Held.{IsStored, live_held, node_stored, node_written, sound_held, recounted, recounted_same, recounted_twice, due_after}
 use Rattle.gl_graph.proofs.KindRules.{parents_kept, plain_live, inner_plain, file_plain}
 use Rattle.gl_graph.proofs.Look.{found_at}
-use Rattle.gl_graph.proofs.Marked.{marked_is, marked_lawful}
-use Rattle.gl_graph.proofs.Moved.{movable_alike, move_lawful, with_parents_is}
+use Rattle.gl_graph.proofs.Marked.{marked_lawful}
+use Rattle.gl_graph.proofs.Moved.{move_lawful}
 use Rattle.gl_graph.proofs.SameParents.{adopted_parents, moved_shape, moved_parents}
 use Rattle.gl_graph.proofs.Tally.{ones, count_changed, count_kept}
 use Rattle.gl_graph.proofs.Unrefused.{no_cycle}
@@ -51,10 +38,7 @@ module _ {limits : Limits} {old mid : Slab Stored} {births : ℕ} {g : Graph} (h
   changed = node_written h n was x there born u same len beside
 
   at_n : (b : ℕ) → (b == n.birth) ≡ true → (g.at b ≡ Some (node_of n.key (vertex_of was))) × (after.at b ≡ Some (node_of n.key (vertex_of x)))
-  at_n b t = (
-    ap g.at (same_number b n.birth t) ∙ (found_at g n (node_of n.key (vertex_of was)) node_was).0,
-    ap (λ z. if z then Some (node_of n.key (vertex_of x)) else g.at b) t,
-  )
+  at_n b t = grind (arith, same_number, found_at, node_was)
 
   at_rest : (b : ℕ) → (b == n.birth) ≡ false → after.at b ≡ g.at b
   at_rest b t = ap (λ z. if z then Some (node_of n.key (vertex_of x)) else g.at b) t
@@ -67,10 +51,8 @@ module _ {limits : Limits} {old mid : Slab Stored} {births : ℕ} {g : Graph} (h
         let t = number_same n.birth n.birth refl in
         let low = law.born n.birth (ap is_some (at_n n.birth t).0) in
         let all = count_changed (child_test m) refl g after n.birth refl (λ b ne. ap (child_test m) (at_rest b (number_other b n.birth ne))) low.0 low.1 in
-        let here : ones (child_test m (g.at n.birth)) ≡ ones (list_any (same_node m) (parents_in_body was.body)) =
-        ap (λ o. ones (child_test m o)) (at_n n.birth t).0 in
-        let now : ones (child_test m (after.at n.birth)) ≡ ones (list_any (same_node m) (parents_in_body x.body)) =
-        ap (λ o. ones (child_test m o)) (at_n n.birth t).1 in
+        let here : ones (child_test m (g.at n.birth)) ≡ ones (list_any (same_node m) (parents_in_body was.body)) = grind (arith, ones, child_test, at_n) in
+        let now : ones (child_test m (after.at n.birth)) ≡ ones (list_any (same_node m) (parents_in_body x.body)) = grind arith in
         omega arith
 
     -- what is then due
@@ -83,19 +65,12 @@ module _ {limits : Limits} {old mid : Slab Stored} {births : ℕ} {g : Graph} (h
           indexes_same g n (node_of n.key (vertex_of was)) (node_of n.key (vertex_of x)) node_was refl alike m,
           count_kept (record_test m) refl g after refl (λ b. split (b == n.birth)
               (λ t. ap (record_test m) (at_n b t).1 ∙ file k ∙ sym (ap (record_test m) (at_n b t).0)) (λ t. ap (record_test m) (at_rest b t))),
-        )) (λ i bs e place low. intervals_same g after law
-        (changed_frames g n (node_of n.key (vertex_of was)) (node_of n.key (vertex_of x)) node_was refl alike) m i bs e place low)
+        )) (λ i bs e place low. grind (arith, intervals_same, changed_frames, node_was, alike))
         ∙ split (same_node m n) (λ t.
         let is = same_node-equal m n t in
         ap (λ q. due_as after q (shape_of g q)) is ∙ ap (λ o. due_as after n (shape_in o)) node_was ∙ sym kind
-        ∙ sym (ap (due after) is ∙ ap (λ o. due_as after n (shape_in o))
-        (at_here g n (node_of n.key (vertex_of was)) (node_of n.key (vertex_of x)) node_was refl))) (λ t. ap (λ o. due_as after m (shape_in o))
+        ∙ sym (grind arith)) (λ t. ap (λ o. due_as after m (shape_in o))
         (sym (at_other g n (node_of n.key (vertex_of was)) (node_of n.key (vertex_of x)) node_was refl m (same_node-other m n t))))
-
--- a file is marked
-adopted_shape : (b : Body) → shape_in_body (body_adopted b) ≡ marked_shape (shape_in_body b)
-adopted_shape (body.File kept above) = refl
-adopted_shape _ = refl
 
 adopted_beside : (b : Body) → beside_in_body (body_adopted b) ≡ beside_in_body b
 adopted_beside (body.File kept above) = refl
@@ -104,14 +79,6 @@ adopted_beside _ = refl
 file_of : (o : Option Shape) → is_file_shape o ≡ true → (adopted : Bool) × (o ≡ Some (File adopted))
 file_of (Some (File adopted)) k = (adopted, refl)
 file_of _ k = absurd (no k)
-
-file_alike : (sh : Shape) (adopted : Bool) → sh ≡ File adopted → IsAlike sh (marked_shape sh)
-file_alike sh adopted e = subst (λ s. IsAlike s (marked_shape s)) (sym e) (record {
-  plain = λ k. record { inner = refl; file = refl; index = refl; bounds = refl };
-  index = λ f. refl;
-  rec = refl;
-  no_interval = λ place i. cc;
-})
 
 module _ {limits : Limits} {old : Slab Stored} {births : ℕ} {g : Graph} (h : Holds limits old births g (due g)) (law : IsLawfulGraph g) (n : NodeId)
     (file : is_file_shape (shape_of g n) ≡ true) where
@@ -130,17 +97,13 @@ module _ {limits : Limits} {old : Slab Stored} {births : ℕ} {g : Graph} (h : H
     shape_is = file_of (Some (shape_in_body slot.stored.body)) (sym (ap (λ o. is_file_shape (shape_in o)) slot.node) ∙ file)
 
     alike : IsAlike (shape_in_body slot.stored.body) (shape_in_body fresh.body)
-    alike = subst (IsAlike (shape_in_body slot.stored.body)) (sym (adopted_shape slot.stored.body))
-        (file_alike (shape_in_body slot.stored.body) shape_is.0 (some_is shape_is.1))
+    alike = grind arith
 
     abbrev now : Graph
     now = after h n slot.stored fresh slot.there slot.born (write slot.stored slot.there) refl len (adopted_beside slot.stored.body) alike
 
     graph_is : now ≡ marked g n
-    graph_is =
-        (let shape = adopted_shape slot.stored.body in let ps = adopted_parents slot.stored.body in
-        λ i. with_node g n.birth (record { key = n.key; shape = shape i; parents = ps i }))
-        ∙ marked_is g n (node_of n.key (vertex_of slot.stored)) slot.node
+    graph_is = grind arith
 
     held : Holds limits new births (marked g n) (due g)
     held = subst (λ (g' : Graph). Holds limits new births g' (due g)) graph_is
@@ -156,12 +119,9 @@ module _ {limits : Limits} {old : Slab Stored} {births : ℕ} {g : Graph} (h : H
         ∙ due_changed h n slot.stored fresh slot.there slot.born (write slot.stored slot.there) refl len (adopted_beside slot.stored.body) alike law (λ c. c) m
         (λ i. let all = children_changed h n slot.stored fresh slot.there slot.born (write slot.stored slot.there) refl len
         (adopted_beside slot.stored.body) alike law m in
-        let ps : ones (list_any (same_node m) (parents_in_body fresh.body)) ≡ ones (list_any (same_node m) (parents_in_body slot.stored.body)) =
-        ap (λ qs. ones (list_any (same_node m) qs)) (adopted_parents slot.stored.body) in
+        let ps : ones (list_any (same_node m) (parents_in_body fresh.body)) ≡ ones (list_any (same_node m) (parents_in_body slot.stored.body)) = grind arith in
         omega arith) (λ f. ap₂ (λ b qs. b && list_any (same_node m) qs) alike.rec (adopted_parents slot.stored.body))
-        (let e : shape_in_body slot.stored.body ≡ File shape_is.0 = some_is shape_is.1 in
-        ap (λ s. due_as now n (Some s)) (adopted_shape slot.stored.body) ∙ ap (λ s. due_as now n (Some (marked_shape s))) e
-        ∙ sym (ap (λ s. due_as now n (Some s)) e))
+        (grind arith)
         ∙ ap (λ (g' : Graph). due g' m) graph_is)
 
 -- a node moves
@@ -194,8 +154,7 @@ module _ {limits : Limits} {old : Slab Stored} {births : ℕ} {g : Graph} (h : H
     moved = record mover.stored { body = body_with_parents mover.stored.body fresh }
 
     alike' : IsAlike (shape_in_body mover.stored.body) (shape_in_body moved.body)
-    alike' = subst (IsAlike (shape_in_body mover.stored.body)) (sym (moved_shape mover.stored.body fresh))
-        (movable_alike (shape_in_body mover.stored.body) can_move)
+    alike' = grind arith
 
     abbrev there' : Graph
     there' = after h n mover.stored moved mover.there mover.born (write mover.stored mover.there) refl len
@@ -206,10 +165,7 @@ module _ {limits : Limits} {old : Slab Stored} {births : ℕ} {g : Graph} (h : H
         (moved_beside mover.stored.body fresh) alike'
 
     graph_moved : there' ≡ with_parents g n ps
-    graph_moved =
-        (let shape = moved_shape mover.stored.body fresh in let above = moved_parents mover.stored.body fresh can_move ∙ fresh_is in
-        λ i. with_node g n.birth (record { key = n.key; shape = shape i; parents = above i }))
-        ∙ with_parents_is g n ps (node_of n.key (vertex_of mover.stored)) mover.node
+    graph_moved = grind arith
 
     law' : IsLawfulGraph there'
     law' =
@@ -235,16 +191,7 @@ module _ {limits : Limits} {old : Slab Stored} {births : ℕ} {g : Graph} (h : H
     some_old m listed = some_child g law m n (ap (list_any (same_node m)) are_olds ∙ listed)
 
     was_inner : (m : NodeId) → is_inner_shape (shape_of there' m) ≡ true → is_inner_shape (shape_of g m) ≡ true
-    was_inner m i =
-        let live : is_live g m ≡ true = sym (live_same g n (node_of n.key (vertex_of mover.stored)) (node_of n.key (vertex_of moved)) mover.node refl m)
-        ∙ plain_live there' m (inner_plain _ i) in
-        split (same_node m n) (λ t.
-        let is = same_node-equal m n t in
-        ap (λ q. is_inner_shape (shape_of g q)) is ∙ ap (λ o. is_inner_shape (shape_in o)) mover.node
-        ∙ sym (ap (λ s. is_inner_shape (Some s)) (moved_shape mover.stored.body fresh))
-        ∙ sym (ap (λ o. is_inner_shape (shape_in o)) (at_here g n (node_of n.key (vertex_of mover.stored)) (node_of n.key (vertex_of moved)) mover.node refl))
-        ∙ ap (λ q. is_inner_shape (shape_of there' q)) (sym is) ∙ i) (λ t. sym (ap (λ o. is_inner_shape (shape_in o))
-        (at_other g n (node_of n.key (vertex_of mover.stored)) (node_of n.key (vertex_of moved)) mover.node refl m (same_node-other m n t))) ∙ i)
+    was_inner m i = grind arith
 
     pub olds_kept : AreKept (λ children. 1 ≤ children) mid olds
     olds_kept =
@@ -290,9 +237,7 @@ module _ {limits : Limits} {old : Slab Stored} {births : ℕ} {g : Graph} (h : H
             ∙ children_changed h n mover.stored moved mover.there mover.born (write mover.stored mover.there) refl len
             (moved_beside mover.stored.body fresh) alike' law m
             ∙ ap (λ qs. children_of g m + ones (list_any (same_node m) qs)) (moved_parents mover.stored.body fresh can_move ∙ fresh_is)))
-            (λ f. ap (λ b. b && list_any (same_node m) (parents_in_body moved.body))
-            (ap (λ s. is_record_shape (Some s)) (moved_shape mover.stored.body fresh) ∙ no_record)
-            ∙ sym (ap (λ b. b && list_any (same_node m) (parents_in_body mover.stored.body)) no_record))
+            (λ f. grind arith)
             (ap (λ s. due_as there' n (Some s)) (moved_shape mover.stored.body fresh)))
           where
             no_record : is_record_shape (Some (shape_in_body mover.stored.body)) ≡ false

@@ -1,4 +1,4 @@
-use Rattle.std.proofs.Common.{ℕ, ◌<◌, ◌≤◌, ◌-◌, length, get_or}
+use Rattle.gl_graph.proofs.Words.{get_or, length, ℕ, ◌-◌, ◌<◌, ◌≤◌}
 use Rattle.gl_graph.proofs.bounds.interval_place.Given as goal
 
 abbrev pub invariant-loop-low : goal.invariant-loop-low

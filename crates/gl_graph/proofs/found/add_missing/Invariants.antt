@@ -1,5 +1,4 @@
-use Rattle.std.proofs.Common.{◌≡◌, drop}
-use Rattle.gl_graph.specs.Seen.{with_all}
+use Rattle.gl_graph.proofs.Words.{drop, with_all, ◌≡◌}
 use Rattle.gl_graph.proofs.found.add_missing.Given as goal
 
 abbrev pub invariant-loop-n : goal.invariant-loop-n

@@ -1,5 +1,4 @@
-use Rattle.std.specs.Prelude.{◌+◌, slice_index_or}
-use Rattle.std.proofs.lemmas.Option.{slice_get-get_or}
+use Rattle.gl_graph.proofs.Words.{slice_get-get_or, slice_index_or, ◌+◌}
 use Rattle.gl_graph.proofs.Counted.{recounted_more}
 use Rattle.gl_graph.proofs.store.count_up.Goals as goal
 

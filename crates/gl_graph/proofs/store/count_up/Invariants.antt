@@ -1,5 +1,4 @@
-use Rattle.std.proofs.Common.{◌+◌}
-use Rattle.gl_graph.specs.Grown.{AreRecounted}
+use Rattle.gl_graph.proofs.Words.{AreRecounted, ◌+◌}
 use Rattle.gl_graph.proofs.store.count_up.Given as goal
 
 abbrev pub invariant-loop-n : goal.invariant-loop-n

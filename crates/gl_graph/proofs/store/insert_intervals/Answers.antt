@@ -1,5 +1,4 @@
-use Rattle.std.proofs.Common.{◌+◌, ap, ◌∙◌, arith, ◌∷◌, [], length, refl}
-use Rattle.std.proofs.lemmas.List.{length-append}
+use Rattle.gl_graph.proofs.Words.{[], ap, arith, length, length-append, refl, ◌+◌, ◌∙◌, ◌∷◌}
 use Rattle.gl_graph.specs.declared.node.Body.TheVariants as body
 use Rattle.gl_graph.proofs.Grow.{intervals_born}
 use Rattle.gl_graph.proofs.store.insert_intervals.Goals as goal

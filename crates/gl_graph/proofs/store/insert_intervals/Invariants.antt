@@ -1,6 +1,4 @@
-use Rattle.std.proofs.Common.{◌≡◌, ◌-◌, ◌≤◌, vec_capacity, length}
-use Rattle.slab.specs.Slab.{HasRoomFor}
-use Rattle.gl_graph.specs.Grown.{AreIntervalsBorn}
+use Rattle.gl_graph.proofs.Words.{AreIntervalsBorn, HasRoomFor, length, vec_capacity, ◌-◌, ◌≡◌, ◌≤◌}
 use Rattle.gl_graph.proofs.store.insert_intervals.Given as goal
 
 abbrev pub invariant-loop-place : goal.invariant-loop-place

@@ -1,4 +1,4 @@
-use Rattle.gl_graph.specs.Grown.{AreGone}
+use Rattle.gl_graph.proofs.Words.{AreGone}
 use Rattle.gl_graph.proofs.store.remove_all.Given as goal
 
 abbrev pub invariant-loop-n : goal.invariant-loop-n

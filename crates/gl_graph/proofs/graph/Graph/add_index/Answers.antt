@@ -1,10 +1,6 @@
-use Rattle.std.proofs.Common.{Err, sym, ap, ◌∙◌, subst}
+use Rattle.gl_graph.proofs.Words.{ap, arith, Err, graph_of, index_refusal, ◌∙◌}
 use Rattle.std.proofs.lemmas.Result.{err_from_is_err_and}
-use Rattle.std.specs.Prelude.{Option}
-use Rattle.gl_modes.specs.declared.refusal.Refusal.{Refusal}
-use Rattle.gl_graph.specs.View.{graph_of}
-use Rattle.gl_graph.specs.Refusals.{index_refusal, Refuses}
-use Rattle.gl_graph.proofs.Unrefused.{index_again, refused_by, verdict_ok}
+use Rattle.gl_graph.proofs.Unrefused.{refused_by}
 use Rattle.gl_graph.proofs.graph.Graph.add_index.Goals as goal
 
 pub returns-in_err-check_index-clause-refuses : goal.returns-in_err-check_index-clause-refuses
@@ -13,12 +9,5 @@ returns-in_err-check_index-clause-refuses c =
     refused_by (index_refusal (graph_of c.args.self.now) c.args.parents.now c.args.file c.args.bounds.now) c.in_err-check_index.field-0.0
     c.from_residual.result c.in_err-check_index.ensures (p.1 ∙ ap Err p.2)
 
-pub add_index_unrefused-requires : goal.add_index_unrefused-requires
-add_index_unrefused-requires c =
-    index_again (graph_of c.args.self.now) c.args.parents.now c.args.file c.args.bounds.now (verdict_ok _ _ c.in_ok-check_index.ensures)
-
 pub returns-clause-refuses : goal.returns-clause-refuses
-returns-clause-refuses c =
-    subst (λ (o : Option Refusal). Refuses o c.add_index_unrefused.result)
-    (sym (verdict_ok (index_refusal (graph_of c.args.self.now) c.args.parents.now c.args.file c.args.bounds.now) _ c.in_ok-check_index.ensures))
-    c.add_index_unrefused.ensures.memory
+returns-clause-refuses c = grind arith

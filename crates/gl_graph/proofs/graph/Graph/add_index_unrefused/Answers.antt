@@ -1,9 +1,4 @@
-use Rattle.std.proofs.Common.{◌+◌, ◌++◌, ◌∷◌, [], List, refl, ap, ap₂, ◌∙◌, arith}
-use Rattle.gl_modes.specs.declared.node.NodeId.{NodeId}
-use Rattle.gl_graph.specs.declared.node.Body.TheVariants as body
-use Rattle.gl_graph.specs.Shapes.{Index}
-use Rattle.gl_graph.specs.Graph.{indexes_of}
-use Rattle.gl_graph.specs.View.{View, graph_of}
+use Rattle.gl_graph.proofs.Words.{[], ap, ap₂, arith, graph_of, Index, indexes_of, List, NodeId, refl, View, ◌++◌, ◌+◌, ◌∙◌, ◌∷◌}
 use Rattle.gl_graph.proofs.Beside.{held, law_of}
 use Rattle.gl_graph.proofs.Indexed.{roomy_sound, roomy_view, roomy, births_left, index_apart, index_within, file_kept, index_parents, index_sound, index_made}
 use Rattle.gl_graph.proofs.Unrefused.{reindex_unrefused}
@@ -18,17 +13,6 @@ invariant_of-self-2 c = roomy_sound c.self.inside c.self.invariant c.reserve.new
 pub invariant_of-self-in_default-new : goal.invariant_of-self-in_default-new
 invariant_of-self-in_default-new c = roomy_sound c.self.inside c.self.invariant c.reserve.new.self c.reserve.ensures.rest_kept
 
-pub overflow_add-birth : goal.overflow_add-birth
-overflow_add-birth c =
-    let low = births_left (held c.self.inside c.self.invariant c.args.self.now c.self.view_is)
-    (law_of c.self.inside c.self.invariant c.args.self.now c.self.view_is) c.args.parents.now c.args.file c.args.bounds.now c.requires in
-    omega arith
-
-pub insert_intervals-requires-clause-births : goal.insert_intervals-requires-clause-births
-insert_intervals-requires-clause-births c =
-    births_left (held c.self.inside c.self.invariant c.args.self.now c.self.view_is)
-    (law_of c.self.inside c.self.invariant c.args.self.now c.self.view_is) c.args.parents.now c.args.file c.args.bounds.now c.requires
-
 pub overflow_add-self : goal.overflow_add-self
 overflow_add-self c =
     let low = births_left (held c.self.inside c.self.invariant c.args.self.now c.self.view_is)
@@ -38,28 +22,23 @@ overflow_add-self c =
 pub insert_intervals-requires-clause-apart : goal.insert_intervals-requires-clause-apart
 insert_intervals-requires-clause-apart c =
     index_apart (roomy c.self.inside c.self.invariant c.args.self.now c.self.view_is c.reserve.new.self c.reserve.ensures.rest_kept)
-    (law_of c.self.inside c.self.invariant c.args.self.now c.self.view_is) c.insert_reserved-key.result
-    (record { birth = c.self.inside.births + 1; body = body.Index c.in-Ok-new.parts.body c.in-Ok-new.parts.parents })
+    (law_of c.self.inside c.self.invariant c.args.self.now c.self.view_is) _ _
     c.insert_reserved-key.ensures.was_vacant c.insert_reserved-key.ensures.updates refl c.insert_reserved-key.ensures.len
 
 pub insert_intervals-requires-clause-within : goal.insert_intervals-requires-clause-within
 insert_intervals-requires-clause-within c =
     index_within (roomy c.self.inside c.self.invariant c.args.self.now c.self.view_is c.reserve.new.self c.reserve.ensures.rest_kept)
-    (law_of c.self.inside c.self.invariant c.args.self.now c.self.view_is) c.insert_reserved-key.result
-    (record { birth = c.self.inside.births + 1; body = body.Index c.in-Ok-new.parts.body c.in-Ok-new.parts.parents })
+    (law_of c.self.inside c.self.invariant c.args.self.now c.self.view_is) _ _
     c.insert_reserved-key.ensures.was_vacant c.insert_reserved-key.ensures.updates refl c.insert_reserved-key.ensures.len
 
 pub write_indexes-requires : goal.write_indexes-requires
 write_indexes-requires c =
     let made = c.in-Ok-new.ensures.made in
     file_kept (roomy c.self.inside c.self.invariant c.args.self.now c.self.view_is c.reserve.new.self c.reserve.ensures.rest_kept)
-    (law_of c.self.inside c.self.invariant c.args.self.now c.self.view_is) c.insert_reserved-key.result
-    (record { birth = c.self.inside.births + 1; body = body.Index c.in-Ok-new.parts.body c.in-Ok-new.parts.parents })
-    c.insert_reserved-key.ensures.was_vacant c.insert_reserved-key.ensures.updates refl c.insert_reserved-key.ensures.len c.args.file c.args.parents.now
-    c.args.bounds.now (ap₂ Index made.file_is made.bounds) made.parents
-    (reindex_unrefused (graph_of c.args.self.now) c.args.parents.now c.args.file c.args.bounds.now c.requires)
-    c.insert_intervals.new.nodes c.insert_intervals.new.ids.items c.insert_intervals.ensures.born
-    c.insert_intervals.new.ids refl c.write_intervals.new.nodes c.write_intervals.ensures.written c.write_intervals.ensures.len
+    (law_of c.self.inside c.self.invariant c.args.self.now c.self.view_is) _ _
+    c.insert_reserved-key.ensures.was_vacant c.insert_reserved-key.ensures.updates refl c.insert_reserved-key.ensures.len _ _ _
+    (ap₂ Index made.file_is made.bounds) made.parents (reindex_unrefused (graph_of c.args.self.now) _ _ _ c.requires)
+    _ _ c.insert_intervals.ensures.born _ refl _ c.write_intervals.ensures.written c.write_intervals.ensures.len
 
 pub count_up-requires : goal.count_up-requires
 count_up-requires c =
@@ -69,14 +48,11 @@ count_up-requires c =
     (made.indexes ∙ c.indexes-listed.ensures ∙ ap (λ (v : View). indexes_of (graph_of v) c.args.file)
     (roomy_view c.self.inside c.args.self.now c.self.view_is c.reserve.new.self c.reserve.ensures.rest_kept)) in
     let kept = index_parents (roomy c.self.inside c.self.invariant c.args.self.now c.self.view_is c.reserve.new.self c.reserve.ensures.rest_kept)
-    (law_of c.self.inside c.self.invariant c.args.self.now c.self.view_is) c.insert_reserved-key.result
-    (record { birth = c.self.inside.births + 1; body = body.Index c.in-Ok-new.parts.body c.in-Ok-new.parts.parents })
-    c.insert_reserved-key.ensures.was_vacant c.insert_reserved-key.ensures.updates refl c.insert_reserved-key.ensures.len c.args.file c.args.parents.now
-    c.args.bounds.now (ap₂ Index made.file_is made.bounds) made.parents
-    (reindex_unrefused (graph_of c.args.self.now) c.args.parents.now c.args.file c.args.bounds.now c.requires)
-    c.insert_intervals.new.nodes c.insert_intervals.new.ids.items c.insert_intervals.ensures.born
-    c.insert_intervals.new.ids refl c.write_intervals.new.nodes c.write_intervals.ensures.written c.write_intervals.ensures.len
-    c.push_reserved.new.self listed c.write_indexes.new.nodes c.write_indexes.ensures.written c.write_indexes.ensures.len in
+    (law_of c.self.inside c.self.invariant c.args.self.now c.self.view_is) _ _
+    c.insert_reserved-key.ensures.was_vacant c.insert_reserved-key.ensures.updates refl c.insert_reserved-key.ensures.len _ _ _
+    (ap₂ Index made.file_is made.bounds) made.parents (reindex_unrefused (graph_of c.args.self.now) _ _ _ c.requires)
+    _ _ c.insert_intervals.ensures.born _ refl _ c.write_intervals.ensures.written c.write_intervals.ensures.len
+    _ listed _ c.write_indexes.ensures.written c.write_indexes.ensures.len in
     record { stored = kept.stored; room = kept.each }
 
 pub invariant_of-self-3 : goal.invariant_of-self-3
@@ -87,15 +63,11 @@ invariant_of-self-3 c =
     (made.indexes ∙ c.indexes-listed.ensures ∙ ap (λ (v : View). indexes_of (graph_of v) c.args.file)
     (roomy_view c.self.inside c.args.self.now c.self.view_is c.reserve.new.self c.reserve.ensures.rest_kept)) in
     index_sound (roomy c.self.inside c.self.invariant c.args.self.now c.self.view_is c.reserve.new.self c.reserve.ensures.rest_kept)
-    (law_of c.self.inside c.self.invariant c.args.self.now c.self.view_is) c.insert_reserved-key.result
-    (record { birth = c.self.inside.births + 1; body = body.Index c.in-Ok-new.parts.body c.in-Ok-new.parts.parents })
-    c.insert_reserved-key.ensures.was_vacant c.insert_reserved-key.ensures.updates refl c.insert_reserved-key.ensures.len c.args.file c.args.parents.now
-    c.args.bounds.now (ap₂ Index made.file_is made.bounds) made.parents
-    (reindex_unrefused (graph_of c.args.self.now) c.args.parents.now c.args.file c.args.bounds.now c.requires)
-    c.insert_intervals.new.nodes c.insert_intervals.new.ids.items c.insert_intervals.ensures.born
-    c.insert_intervals.new.ids refl c.write_intervals.new.nodes c.write_intervals.ensures.written c.write_intervals.ensures.len
-    c.push_reserved.new.self listed c.write_indexes.new.nodes c.write_indexes.ensures.written c.write_indexes.ensures.len
-    c.count_up.new.nodes c.count_up.ensures.counted
+    (law_of c.self.inside c.self.invariant c.args.self.now c.self.view_is) _ _
+    c.insert_reserved-key.ensures.was_vacant c.insert_reserved-key.ensures.updates refl c.insert_reserved-key.ensures.len _ _ _
+    (ap₂ Index made.file_is made.bounds) made.parents (reindex_unrefused (graph_of c.args.self.now) _ _ _ c.requires)
+    _ _ c.insert_intervals.ensures.born _ refl _ c.write_intervals.ensures.written c.write_intervals.ensures.len
+    _ listed _ c.write_indexes.ensures.written c.write_indexes.ensures.len _ c.count_up.ensures.counted
 
 pub returns-clause-made : goal.returns-clause-made
 returns-clause-made c =
@@ -105,12 +77,8 @@ returns-clause-made c =
     (made.indexes ∙ c.indexes-listed.ensures ∙ ap (λ (v : View). indexes_of (graph_of v) c.args.file)
     (roomy_view c.self.inside c.args.self.now c.self.view_is c.reserve.new.self c.reserve.ensures.rest_kept)) in
     index_made (roomy c.self.inside c.self.invariant c.args.self.now c.self.view_is c.reserve.new.self c.reserve.ensures.rest_kept)
-    (law_of c.self.inside c.self.invariant c.args.self.now c.self.view_is) c.insert_reserved-key.result
-    (record { birth = c.self.inside.births + 1; body = body.Index c.in-Ok-new.parts.body c.in-Ok-new.parts.parents })
-    c.insert_reserved-key.ensures.was_vacant c.insert_reserved-key.ensures.updates refl c.insert_reserved-key.ensures.len c.args.file c.args.parents.now
-    c.args.bounds.now (ap₂ Index made.file_is made.bounds) made.parents
-    (reindex_unrefused (graph_of c.args.self.now) c.args.parents.now c.args.file c.args.bounds.now c.requires)
-    c.insert_intervals.new.nodes c.insert_intervals.new.ids.items c.insert_intervals.ensures.born
-    c.insert_intervals.new.ids refl c.write_intervals.new.nodes c.write_intervals.ensures.written c.write_intervals.ensures.len
-    c.push_reserved.new.self listed c.write_indexes.new.nodes c.write_indexes.ensures.written c.write_indexes.ensures.len
-    c.count_up.new.nodes c.count_up.ensures.counted
+    (law_of c.self.inside c.self.invariant c.args.self.now c.self.view_is) _ _
+    c.insert_reserved-key.ensures.was_vacant c.insert_reserved-key.ensures.updates refl c.insert_reserved-key.ensures.len _ _ _
+    (ap₂ Index made.file_is made.bounds) made.parents (reindex_unrefused (graph_of c.args.self.now) _ _ _ c.requires)
+    _ _ c.insert_intervals.ensures.born _ refl _ c.write_intervals.ensures.written c.write_intervals.ensures.len
+    _ listed _ c.write_indexes.ensures.written c.write_indexes.ensures.len _ c.count_up.ensures.counted

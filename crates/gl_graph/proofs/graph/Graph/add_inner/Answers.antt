@@ -1,7 +1,4 @@
-use Rattle.std.proofs.Common.{sym, subst, arith}
-use Rattle.gl_graph.specs.Lawful.{IsLawfulGraph}
-use Rattle.gl_graph.specs.Changes.{born_node}
-use Rattle.gl_graph.specs.View.{graph_of}
+use Rattle.gl_graph.proofs.Words.{born_node, graph_of, IsLawfulGraph, subst, sym}
 use Rattle.gl_graph.proofs.Unrefused.{verdict_ok, parents_unrefused}
 use Rattle.gl_graph.proofs.NewNodes.{inner_lawful}
 use Rattle.gl_graph.proofs.graph.Graph.add_inner.Goals as goal
@@ -11,8 +8,3 @@ insert-requires-clause-lawful c = λ key law free.
     let may = parents_unrefused (graph_of c.args.self.now) 0 c.args.parents.now (verdict_ok _ _ c.in_ok-check_parents.ensures) in
     subst (λ shape. IsLawfulGraph (born_node (graph_of c.args.self.now) (record { key = key; shape = shape; parents = c.args.parents.now })))
     (sym c.in-Ok.ensures.shape) (inner_lawful (graph_of c.args.self.now) law key c.args.parents.now may.inner free may.room)
-
-pub insert-requires-clause-parents : goal.insert-requires-clause-parents
-insert-requires-clause-parents c =
-    let may = parents_unrefused (graph_of c.args.self.now) 0 c.args.parents.now (verdict_ok _ _ c.in_ok-check_parents.ensures) in
-    record { enough = omega arith; few = may.inner.few; inner = may.inner.inner; distinct = may.inner.distinct }

@@ -1,5 +1,4 @@
-use Rattle.std.proofs.Common.{◌+◌, refl, ap, ◌∙◌}
-use Rattle.gl_graph.specs.View.{graph_of}
+use Rattle.gl_graph.proofs.Words.{ap, graph_of, refl, ◌+◌, ◌∙◌}
 use Rattle.gl_graph.proofs.Added.{file_contained, record_sound, record_born}
 use Rattle.gl_graph.proofs.Beside.{held, law_of}
 use Rattle.gl_graph.proofs.Unrefused.{record_unrefused}

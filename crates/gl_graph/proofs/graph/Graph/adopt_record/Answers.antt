@@ -1,4 +1,4 @@
-use Rattle.gl_graph.specs.View.{graph_of}
+use Rattle.gl_graph.proofs.Words.{graph_of}
 use Rattle.gl_graph.proofs.Adopted.{file_stays}
 use Rattle.gl_graph.proofs.graph.Graph.adopt_record.Goals as goal
 

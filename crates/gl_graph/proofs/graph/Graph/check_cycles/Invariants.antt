@@ -1,6 +1,4 @@
-use Rattle.std.proofs.Common.{◌≡◌, drop}
-use Rattle.gl_graph.specs.Refusals.{first_cycle}
-use Rattle.gl_graph.specs.View.{graph_of}
+use Rattle.gl_graph.proofs.Words.{drop, first_cycle, graph_of, ◌≡◌}
 use Rattle.gl_graph.proofs.graph.Graph.check_cycles.Given as goal
 
 -- the first cycle is among the parents that are left

@@ -1,9 +1,6 @@
-use Rattle.std.proofs.Common.{◌≡◌, Bool, Err, List, Option, None, Some, false, refl, ap, sym, ◌∙◌, rules, subst}
-use Rattle.std.specs.Prelude.{◌∷◌, [], ◌||◌}
-use Rattle.gl_modes.specs.declared.refusal.Refusal.{Refusal}
+use Rattle.gl_graph.proofs.Words.{[], ap, Bool, Err, false, first_refusal, graph_of, List, None, Option, refl, Refusal, rules, Some, subst, sym, verdict}
+use Rattle.gl_graph.proofs.Words.{where_true, worn_births, ◌||◌, ◌∙◌, ◌∷◌, ◌≡◌}
 use Rattle.gl_modes.specs.declared.refusal.Refusal.TheVariants as no
-use Rattle.gl_graph.specs.Refusals.{first_refusal, verdict, where_true, worn_births}
-use Rattle.gl_graph.specs.View.{graph_of}
 use Rattle.gl_graph.proofs.Unrefused.{verdict_ok}
 use Rattle.gl_graph.proofs.graph.Graph.check_index.Goals as goal
 

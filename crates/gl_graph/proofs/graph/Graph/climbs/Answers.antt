@@ -1,8 +1,4 @@
-use Rattle.std.proofs.Common.{ap, ◌∙◌, subst}
-use Rattle.std.specs.Option.{option_copied}
-use Rattle.gl_graph.specs.Lawful.{IsLawfulGraph}
-use Rattle.gl_graph.specs.View.{View, graph_of}
-use Rattle.gl_graph.specs.Seen.{with_all}
+use Rattle.gl_graph.proofs.Words.{ap, graph_of, IsLawfulGraph, option_copied, subst, View, with_all, ◌∙◌}
 use Rattle.gl_graph.proofs.Climb.{climb_more, finds_routes, lent_at, never}
 use Rattle.gl_graph.proofs.graph.Graph.climbs.Goals as goal
 

@@ -1,5 +1,4 @@
-use Rattle.std.proofs.Common.{◌-◌, ◌^◌}
-use Rattle.gl_graph.specs.View.{graph_of}
+use Rattle.gl_graph.proofs.Words.{graph_of, ◌-◌, ◌^◌}
 use Rattle.gl_graph.proofs.Climb.{IsClimb, never}
 use Rattle.gl_graph.proofs.graph.Graph.climbs.Given as goal
 

@@ -1,6 +1,4 @@
-use Rattle.std.proofs.Common.{ap, ◌∙◌, nat_lt}
-use Rattle.gl_graph.specs.Graph.{is_record_of, nodes}
-use Rattle.gl_graph.specs.View.{graph_of}
+use Rattle.gl_graph.proofs.Words.{ap, graph_of, is_record_of, nat_lt, nodes, ◌∙◌}
 use Rattle.gl_graph.proofs.Beside.{any_counted}
 use Rattle.gl_graph.proofs.graph.Graph.has_records.Goals as goal
 

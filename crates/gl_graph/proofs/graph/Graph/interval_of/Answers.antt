@@ -1,15 +1,6 @@
-use Rattle.std.proofs.Common.{length, sym, ap, ◌∙◌, subst, arith, slice_index_or}
-use Rattle.std.proofs.lemmas.Option.{get_or_from_slice_get}
-use Rattle.gl_modes.proofs.Words.{no}
-use Rattle.gl_graph.specs.Shapes.{is_index_shape}
-use Rattle.gl_graph.specs.Graph.{interval, interval_place, shape_in}
-use Rattle.gl_graph.specs.Lawful.{IsRising}
-use Rattle.gl_graph.specs.View.{graph_of}
+use Rattle.gl_graph.proofs.Words.{ap, arith, get_or_from_slice_get, graph_of, interval, interval_place, IsRising, length, slice_index_or, subst, sym, ◌∙◌}
 use Rattle.gl_graph.proofs.Beside.{index_kept, bounds_found}
 use Rattle.gl_graph.proofs.graph.Graph.interval_of.Goals as goal
-
-pub unreachable-requires : goal.unreachable-requires
-unreachable-requires c = no (ap (λ o. is_index_shape (shape_in o)) c.in_default.ensures.node ∙ c.requires)
 
 pub interval_place-requires : goal.interval_place-requires
 interval_place-requires c =

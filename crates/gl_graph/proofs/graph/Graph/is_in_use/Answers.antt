@@ -1,18 +1,7 @@
-use Rattle.std.specs.Prelude.{◌≡◌, ℕ, zero, suc, not, ◌==◌, ◌||◌, true, false, nat_lt, length}
-use Rattle.std.proofs.Common.{refl, sym, ap, ◌∙◌, arith}
-use Rattle.std.proofs.lemmas.Bool.Decides.{nat_tests}
-use Rattle.gl_graph.specs.declared.node.FileBody.{FileBody}
-use Rattle.gl_graph.specs.declared.node.IndexBody.{IndexBody}
-use Rattle.gl_graph.specs.Shapes.{is_file_shape}
-use Rattle.gl_graph.specs.Graph.{shape_in, shape_of}
-use Rattle.gl_graph.specs.Refusals.{has_records, is_shape_in_use}
-use Rattle.gl_graph.specs.View.{graph_of}
-use Rattle.gl_graph.proofs.InUse.{inner_in_use, file_in_use, index_file, index_in_use, other_in_use}
+use Rattle.gl_graph.proofs.Words.{ap, arith, false, FileBody, graph_of, IndexBody, is_file_shape, length, nat_lt, nat_tests, not, refl, shape_of, suc, sym}
+use Rattle.gl_graph.proofs.Words.{true, zero, ℕ, ◌==◌, ◌||◌, ◌∙◌, ◌≡◌}
+use Rattle.gl_graph.proofs.InUse.{inner_in_use, file_in_use, index_file}
 use Rattle.gl_graph.proofs.graph.Graph.is_in_use.Goals as goal
-
-pub returns-in_default : goal.returns-in_default
-returns-in_default c =
-    ap (λ o. is_shape_in_use (graph_of c.args.self.now) c.args.n (shape_in o)) c.in_default.ensures.node
 
 pub returns-in-Inner : goal.returns-in-Inner
 returns-in-Inner c =
@@ -49,15 +38,3 @@ returns-else-deref-gt0 c =
     ∙ sym (file_in_use (graph_of c.args.self.now) c.node.ensures.lawful c.args.n
     c.in-Some.node.now c.in-Some.ensures.node c.in-Some.ensures.beside _ c.in-File.kept c.in-File.is
     ∙ ap (λ b. b || nat_lt 0 (length c.in-File.kept.value.indexes.items)) (sym is ∙ test))
-
-pub returns-in-Index : goal.returns-in-Index
-returns-in-Index c =
-    c.has_records.ensures
-    ∙ ap (λ (b : IndexBody). has_records (graph_of c.args.self.now) b.file) c.deref-in-Index.ensures
-    ∙ sym (index_in_use (graph_of c.args.self.now) c.node.ensures.lawful c.args.n
-    c.in-Some.node.now c.in-Some.ensures.node c.in-Some.ensures.beside _ c.in-Index.kept c.in-Index.is)
-
-pub returns-in_default-body : goal.returns-in_default-body
-returns-in_default-body c =
-    sym (other_in_use (graph_of c.args.self.now) c.node.ensures.lawful c.args.n
-    c.in-Some.node.now c.in-Some.ensures.node c.in-Some.ensures.beside c.in_default-body.not-Inner c.in_default-body.not-File c.in_default-body.not-Index)

@@ -1,5 +1,3 @@
-use Rattle.std.proofs.Common.{ap, ◌∙◌}
-use Rattle.gl_graph.specs.View.{View}
 use Rattle.gl_graph.proofs.Beside.{held, law_of}
 use Rattle.gl_graph.proofs.Written.{file_contained, marked_graph, marked_sound}
 use Rattle.gl_graph.proofs.graph.Graph.mark_adopted.Goals as goal
@@ -18,6 +16,3 @@ pub returns-clause-marked : goal.returns-clause-marked
 returns-clause-marked c =
     marked_graph (held c.self.inside c.self.invariant c.args.self.now c.self.view_is)
     (law_of c.self.inside c.self.invariant c.args.self.now c.self.view_is) c.args.file c.requires c.write_adopted.ensures.written c.write_adopted.ensures.len
-
-pub returns-clause-next_key : goal.returns-clause-next_key
-returns-clause-next_key c = c.write_adopted.ensures.next ∙ ap (λ (v : View). v.next_key) c.self.view_is

@@ -1,4 +1,4 @@
-use Rattle.gl_graph.proofs.Beside.{beside_shown, law_of, node_shown}
+use Rattle.gl_graph.proofs.Beside.{beside_shown, node_shown}
 use Rattle.gl_graph.proofs.graph.Graph.node.Goals as goal
 
 pub returns-clause-node : goal.returns-clause-node
@@ -6,6 +6,3 @@ returns-clause-node c = node_shown c.self.inside c.self.invariant c.args.self.no
 
 pub returns-clause-beside : goal.returns-clause-beside
 returns-clause-beside c = beside_shown c.self.inside c.self.invariant c.args.self.now c.self.view_is c.args.n c.find.result c.find.ensures
-
-pub returns-clause-lawful : goal.returns-clause-lawful
-returns-clause-lawful c = law_of c.self.inside c.self.invariant c.args.self.now c.self.view_is

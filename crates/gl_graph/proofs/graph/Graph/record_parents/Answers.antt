@@ -1,25 +1,7 @@
-use Rattle.std.proofs.Common.{◌≡◌, ◌+◌, ◌<◌, ◌++◌, ◌∷◌, [], ℕ, List, drop, length, slice_index_or, sym, ap, ap₂, ◌∙◌, arith}
-use Rattle.std.proofs.lemmas.List.{drop_more, append_assoc, append-nil, drop_all}
-use Rattle.gl_modes.specs.declared.node.NodeId.{NodeId}
-use Rattle.gl_graph.specs.Shapes.{is_index_shape}
-use Rattle.gl_graph.specs.Graph.{Graph, shape_of, interval_of, intervals_of}
-use Rattle.gl_graph.specs.View.{graph_of}
+use Rattle.gl_graph.proofs.Words.{[], ap, append-nil, append_assoc, ap₂, arith, drop, drop_all, drop_more, Graph, graph_of, interval_of, intervals_of}
+use Rattle.gl_graph.proofs.Words.{is_index_shape, length, List, NodeId, shape_of, slice_index_or, sym, ℕ, ◌++◌, ◌+◌, ◌<◌, ◌∙◌, ◌∷◌, ◌≡◌}
 use Rattle.gl_graph.proofs.RecordParents.{listed_index, index_of_index}
 use Rattle.gl_graph.proofs.graph.Graph.record_parents.Goals as goal
-
-pub loop-place-init : goal.loop-place-init
-loop-place-init c = record {
-  so_far = ap₂ (λ ps is. ps ++ intervals_of (graph_of c.args.self.now) is c.args.keys.now)
-      (c.push.ensures.items ∙ ap (λ ps. ps ++ c.args.file ∷ []) c.new-parents.ensures) c.indexes-index-items.ensures;
-  many = ap length (c.push.ensures.items ∙ ap (λ ps. ps ++ c.args.file ∷ []) c.new-parents.ensures);
-}
-
-pub push-requires-in-loop-place : goal.push-requires-in-loop-place
-push-requires-in-loop-place c =
-    let low : c.loop-place.place < length c.indexes-index-items.result.now = c.loop-place-test.true in
-    let many = ap length c.indexes-index-items.ensures in
-    let seven = c.law.ensures.lawful.seven_indexes c.args.file in
-    omega arith
 
 pub interval_of-requires : goal.interval_of-requires
 interval_of-requires c =
@@ -55,8 +37,4 @@ loop-place-preserved c =
     }
 
 pub returns : goal.returns
-returns c =
-    let none : drop c.loop-place.place c.indexes-index-items.result.now ≡ [] = drop_all c.loop-place.place c.indexes-index-items.result.now (omega arith) in
-    sym (append-nil c.loop-place.parents.items)
-    ∙ sym (ap (λ is. c.loop-place.parents.items ++ intervals_of (graph_of c.args.self.now) is (drop c.loop-place.place c.args.keys.now)) none)
-    ∙ c.loop-place.invariant.so_far
+returns c = grind (arith, drop_all, append-nil)

@@ -1,7 +1,5 @@
-use Rattle.std.proofs.Common.{◌≡◌, ◌+◌, ◌++◌, drop}
+use Rattle.gl_graph.proofs.Words.{drop, graph_of, intervals_of, record_parents, ◌++◌, ◌+◌, ◌≡◌}
 use Rattle.arrayvec.specs.ArrayVec.{array_vec_len}
-use Rattle.gl_graph.specs.Graph.{intervals_of, record_parents}
-use Rattle.gl_graph.specs.View.{graph_of}
 use Rattle.gl_graph.proofs.graph.Graph.record_parents.Given as goal
 
 -- the parents so far, and the intervals of the indexes that are left, are the parents

@@ -1,7 +1,4 @@
-use Rattle.std.proofs.Common.{sym, ap, ◌∙◌}
-use Rattle.gl_graph.specs.declared.node.IndexBody.{IndexBody}
-use Rattle.gl_graph.specs.Shapes.{Index}
-use Rattle.gl_graph.specs.Seen.{shape_in_body, parents_in_body, intervals_in_body}
+use Rattle.gl_graph.proofs.Words.{ap, Index, IndexBody, intervals_in_body, parents_in_body, shape_in_body, sym, ◌∙◌}
 use Rattle.gl_graph.proofs.Beside.{held, law_of}
 use Rattle.gl_graph.proofs.Taken.{index_contained, is_stored_index, intervals_there, file_kept, index_parents_kept, index_left_sound, index_left_graph}
 use Rattle.gl_graph.proofs.graph.Graph.remove_index.Goals as goal
@@ -20,9 +17,8 @@ unreachable-requires c =
 pub remove_all-requires : goal.remove_all-requires
 remove_all-requires c =
     intervals_there (held c.self.inside c.self.invariant c.args.self.now c.self.view_is)
-    (law_of c.self.inside c.self.invariant c.args.self.now c.self.view_is) c.args.index c.requires.index c.requires.free c.remove-body.result
-    c.remove-body.ensures.value _ _ (ap shape_in_body c.in-Index.is)
-    c.remove-body.new.self c.remove-body.ensures.updates c.remove-body.ensures.len c.as_slice.result.now
+    (law_of c.self.inside c.self.invariant c.args.self.now c.self.view_is) c.args.index c.requires.index c.requires.free _ c.remove-body.ensures.value _ _
+    (ap shape_in_body c.in-Index.is) _ c.remove-body.ensures.updates c.remove-body.ensures.len _
     (c.as_slice.ensures.value ∙ ap (λ (b : IndexBody). b.intervals.items) c.deref.ensures ∙ sym (ap intervals_in_body c.in-Index.is))
 
 pub unlist_index-requires : goal.unlist_index-requires
@@ -57,12 +53,11 @@ invariant_of-self c =
 
 pub returns : goal.returns
 returns c = record {
-  removed =
-      index_left_graph (held c.self.inside c.self.invariant c.args.self.now c.self.view_is)
-      (law_of c.self.inside c.self.invariant c.args.self.now c.self.view_is) c.args.index c.requires.index c.requires.free c.remove-body.result
-      c.remove-body.ensures.value _ _ (ap shape_in_body c.in-Index.is ∙ ap (λ (b : IndexBody). Index b.file b.bounds.items) (sym c.deref-2.ensures))
-      c.remove-body.new.self c.remove-body.ensures.updates c.remove-body.ensures.len c.as_slice.result.now
-      (c.as_slice.ensures.value ∙ ap (λ (b : IndexBody). b.intervals.items) c.deref.ensures ∙ sym (ap intervals_in_body c.in-Index.is))
-      c.remove_all.new.nodes c.remove_all.ensures.gone c.unlist_index.new.nodes c.unlist_index.ensures.written c.unlist_index.ensures.len
-      c.as_slice-2.result.now (c.as_slice-2.ensures.value ∙ sym (ap parents_in_body c.in-Index.is)) c.count_down.new.nodes c.count_down.ensures.counted;
+  removed = index_left_graph (held c.self.inside c.self.invariant c.args.self.now c.self.view_is)
+      (law_of c.self.inside c.self.invariant c.args.self.now c.self.view_is) c.args.index c.requires.index c.requires.free _ c.remove-body.ensures.value _ _
+      (ap shape_in_body c.in-Index.is ∙ ap (λ (b : IndexBody). Index b.file b.bounds.items) (sym c.deref-2.ensures)) _ c.remove-body.ensures.updates
+      c.remove-body.ensures.len _
+      (c.as_slice.ensures.value ∙ ap (λ (b : IndexBody). b.intervals.items) c.deref.ensures ∙ sym (ap intervals_in_body c.in-Index.is)) _
+      c.remove_all.ensures.gone _ c.unlist_index.ensures.written c.unlist_index.ensures.len _
+      (c.as_slice-2.ensures.value ∙ sym (ap parents_in_body c.in-Index.is)) _ c.count_down.ensures.counted;
 }

@@ -1,7 +1,4 @@
-use Rattle.std.proofs.Common.{ap, ◌∙◌, arith}
-use Rattle.gl_graph.specs.Shapes.{is_file_shape}
-use Rattle.gl_graph.specs.Graph.{shape_of}
-use Rattle.gl_graph.specs.View.{graph_of}
+use Rattle.gl_graph.proofs.Words.{ap, arith, graph_of, is_file_shape, shape_of, ◌∙◌}
 use Rattle.gl_graph.proofs.Beside.{held, law_of}
 use Rattle.gl_graph.proofs.RecordParents.{its_file}
 use Rattle.gl_graph.proofs.Taken.{contained, file_contained, some_record, removed_sound, removed_graph}
@@ -26,22 +23,18 @@ remove-requires c =
 
 pub write_records-requires : goal.write_records-requires
 write_records-requires c =
-    file_contained (held c.self.inside c.self.invariant c.args.self.now c.self.view_is)
-    (law_of c.self.inside c.self.invariant c.args.self.now c.self.view_is) c.args.rec c.requires c.remove.ensures.updates c.remove.ensures.len
-    c.file_of-file.result c.file_of-file.ensures
+    file_contained (held c.self.inside c.self.invariant c.args.self.now c.self.view_is) (law_of c.self.inside c.self.invariant c.args.self.now c.self.view_is)
+    c.args.rec c.requires c.remove.ensures.updates c.remove.ensures.len _ c.file_of-file.ensures
 
 pub invariant_of-self : goal.invariant_of-self
 invariant_of-self c =
-    removed_sound (held c.self.inside c.self.invariant c.args.self.now c.self.view_is)
-    (law_of c.self.inside c.self.invariant c.args.self.now c.self.view_is) c.args.rec c.requires c.remove.ensures.updates c.remove.ensures.len
-    c.file_of-file.result c.file_of-file.ensures c.records-records.result c.records-records.ensures c.write_records.new.nodes
-    c.write_records.ensures.written c.write_records.ensures.len
+    removed_sound (held c.self.inside c.self.invariant c.args.self.now c.self.view_is) (law_of c.self.inside c.self.invariant c.args.self.now c.self.view_is)
+    c.args.rec c.requires c.remove.ensures.updates c.remove.ensures.len _ c.file_of-file.ensures _ c.records-records.ensures _ c.write_records.ensures.written
+    c.write_records.ensures.len
 
 pub returns : goal.returns
 returns c = record {
-  removed =
-      removed_graph (held c.self.inside c.self.invariant c.args.self.now c.self.view_is)
-      (law_of c.self.inside c.self.invariant c.args.self.now c.self.view_is) c.args.rec c.requires c.remove.ensures.updates c.remove.ensures.len
-      c.file_of-file.result c.file_of-file.ensures c.records-records.result c.records-records.ensures c.write_records.new.nodes
-      c.write_records.ensures.written c.write_records.ensures.len;
+  removed = removed_graph (held c.self.inside c.self.invariant c.args.self.now c.self.view_is)
+      (law_of c.self.inside c.self.invariant c.args.self.now c.self.view_is) c.args.rec c.requires c.remove.ensures.updates c.remove.ensures.len _
+      c.file_of-file.ensures _ c.records-records.ensures _ c.write_records.ensures.written c.write_records.ensures.len;
 }

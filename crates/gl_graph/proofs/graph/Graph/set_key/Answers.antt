@@ -1,9 +1,4 @@
-use Rattle.std.proofs.Common.{ap, ◌∙◌}
-use Rattle.std.specs.List.{list_any}
-use Rattle.gl_modes.specs.Nodes.{same_node}
-use Rattle.gl_graph.specs.Shapes.{is_file_shape}
-use Rattle.gl_graph.specs.Graph.{shape_of, first_parent, indexes_of}
-use Rattle.gl_graph.specs.View.{graph_of}
+use Rattle.gl_graph.proofs.Words.{ap, first_parent, graph_of, indexes_of, is_file_shape, list_any, same_node, shape_of, ◌∙◌}
 use Rattle.gl_graph.proofs.Beside.{held, law_of}
 use Rattle.gl_graph.proofs.RecordParents.{its_file}
 use Rattle.gl_graph.proofs.Rekey.{index_among, rekeyed_graph, rekeyed_sound, rekeys}
@@ -29,16 +24,13 @@ write_key-requires c =
 
 pub invariant_of-self : goal.invariant_of-self
 invariant_of-self c =
-    rekeyed_sound (held c.self.inside c.self.invariant c.args.self.now c.self.view_is)
-    (law_of c.self.inside c.self.invariant c.args.self.now c.self.view_is) c.args.rec c.args.index c.args.key c.index_place-place.result
-    c.requires.«record» c.file_of.result c.file_of.ensures c.index_place-place.ensures
-    c.interval_of-interval.result c.interval_of-interval.ensures c.write_key.ensures.written c.write_key.ensures.len
+    rekeyed_sound (held c.self.inside c.self.invariant c.args.self.now c.self.view_is) (law_of c.self.inside c.self.invariant c.args.self.now c.self.view_is)
+    c.args.rec c.args.index c.args.key _ c.requires.«record» _ c.file_of.ensures c.index_place-place.ensures _ c.interval_of-interval.ensures
+    c.write_key.ensures.written c.write_key.ensures.len
 
 pub returns : goal.returns
 returns c = record {
-  rekeyed =
-      rekeyed_graph (held c.self.inside c.self.invariant c.args.self.now c.self.view_is)
-      (law_of c.self.inside c.self.invariant c.args.self.now c.self.view_is) c.args.rec c.args.index c.args.key c.index_place-place.result
-      c.requires.«record» c.file_of.result c.file_of.ensures c.index_place-place.ensures
-      c.interval_of-interval.result c.interval_of-interval.ensures c.write_key.ensures.written c.write_key.ensures.len;
+  rekeyed = rekeyed_graph (held c.self.inside c.self.invariant c.args.self.now c.self.view_is)
+      (law_of c.self.inside c.self.invariant c.args.self.now c.self.view_is) c.args.rec c.args.index c.args.key _ c.requires.«record» _ c.file_of.ensures
+      c.index_place-place.ensures _ c.interval_of-interval.ensures c.write_key.ensures.written c.write_key.ensures.len;
 }

@@ -1,5 +1,4 @@
-use Rattle.std.proofs.Common.{◌∙◌}
-use Rattle.gl_graph.specs.View.{graph_of}
+use Rattle.gl_graph.proofs.Words.{graph_of, ◌∙◌}
 use Rattle.gl_graph.proofs.Beside.{held, law_of}
 use Rattle.gl_graph.proofs.Written.{inner_live, contained, movable_there, olds_kept, news_kept, moved_sound, moved_graph}
 use Rattle.gl_graph.proofs.graph.Graph.set_parents.Goals as goal
@@ -25,23 +24,20 @@ pub count_up-requires : goal.count_up-requires
 count_up-requires c =
     let kept = news_kept (held c.self.inside c.self.invariant c.args.self.now c.self.view_is)
     (law_of c.self.inside c.self.invariant c.args.self.now c.self.view_is) c.args.n c.requires.node c.args.parents.now c.requires.parents
-    c.in_ok-check_cycles.ensures.clear c.in-Ok.fresh c.in-Ok.ensures.items c.write_parents-old.ensures.written c.write_parents-old.ensures.len
-    c.as_slice.result.now (λ y e. c.as_slice.ensures.value ∙ c.write_parents-old.ensures.old y e)
-    c.count_down.new.nodes c.count_down.ensures.counted in
+    c.in_ok-check_cycles.ensures.clear _ c.in-Ok.ensures.items c.write_parents-old.ensures.written c.write_parents-old.ensures.len _
+    (λ y e. c.as_slice.ensures.value ∙ c.write_parents-old.ensures.old y e) _ c.count_down.ensures.counted in
     record { stored = kept.stored; room = kept.each }
 
 pub invariant_of-self : goal.invariant_of-self
 invariant_of-self c =
-    moved_sound (held c.self.inside c.self.invariant c.args.self.now c.self.view_is)
-    (law_of c.self.inside c.self.invariant c.args.self.now c.self.view_is) c.args.n c.requires.node c.args.parents.now c.requires.parents
-    c.in_ok-check_cycles.ensures.clear c.in-Ok.fresh c.in-Ok.ensures.items c.write_parents-old.ensures.written c.write_parents-old.ensures.len
-    c.as_slice.result.now (λ y e. c.as_slice.ensures.value ∙ c.write_parents-old.ensures.old y e)
-    c.count_down.new.nodes c.count_down.ensures.counted c.count_up.new.nodes c.count_up.ensures.counted
+    moved_sound (held c.self.inside c.self.invariant c.args.self.now c.self.view_is) (law_of c.self.inside c.self.invariant c.args.self.now c.self.view_is)
+    c.args.n c.requires.node c.args.parents.now c.requires.parents c.in_ok-check_cycles.ensures.clear _ c.in-Ok.ensures.items
+    c.write_parents-old.ensures.written c.write_parents-old.ensures.len _ (λ y e. c.as_slice.ensures.value ∙ c.write_parents-old.ensures.old y e) _
+    c.count_down.ensures.counted _ c.count_up.ensures.counted
 
 pub returns-clause-moved : goal.returns-clause-moved
 returns-clause-moved c =
-    moved_graph (held c.self.inside c.self.invariant c.args.self.now c.self.view_is)
-    (law_of c.self.inside c.self.invariant c.args.self.now c.self.view_is) c.args.n c.requires.node c.args.parents.now c.requires.parents
-    c.in_ok-check_cycles.ensures.clear c.in-Ok.fresh c.in-Ok.ensures.items c.write_parents-old.ensures.written c.write_parents-old.ensures.len
-    c.as_slice.result.now (λ y e. c.as_slice.ensures.value ∙ c.write_parents-old.ensures.old y e)
-    c.count_down.new.nodes c.count_down.ensures.counted c.count_up.new.nodes c.count_up.ensures.counted
+    moved_graph (held c.self.inside c.self.invariant c.args.self.now c.self.view_is) (law_of c.self.inside c.self.invariant c.args.self.now c.self.view_is)
+    c.args.n c.requires.node c.args.parents.now c.requires.parents c.in_ok-check_cycles.ensures.clear _ c.in-Ok.ensures.items
+    c.write_parents-old.ensures.written c.write_parents-old.ensures.len _ (λ y e. c.as_slice.ensures.value ∙ c.write_parents-old.ensures.old y e) _
+    c.count_down.ensures.counted _ c.count_up.ensures.counted

@@ -1,5 +1,4 @@
-use Rattle.std.proofs.Common.{◌≡◌, ◌∷◌, drop}
-use Rattle.gl_graph.specs.Refusals.{is_rising}
+use Rattle.gl_graph.proofs.Words.{drop, is_rising, ◌∷◌, ◌≡◌}
 use Rattle.gl_graph.proofs.graph.checks.are_rising.Given as goal
 
 abbrev pub invariant-loop-bound : goal.invariant-loop-bound

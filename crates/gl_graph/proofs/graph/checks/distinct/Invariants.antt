@@ -1,5 +1,4 @@
-use Rattle.std.proofs.Common.{◌≡◌, drop}
-use Rattle.gl_graph.specs.Lawful.{are_distinct}
+use Rattle.gl_graph.proofs.Words.{are_distinct, drop, ◌≡◌}
 use Rattle.gl_graph.proofs.graph.checks.distinct.Given as goal
 
 abbrev pub invariant-loop-place : goal.invariant-loop-place
