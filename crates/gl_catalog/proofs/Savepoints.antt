@@ -35,7 +35,7 @@ use Rattle.gl_model.specs.declared.txn.TxnId.{TxnId}
 use Rattle.gl_catalog.specs.Counters.{refuses}
 use Rattle.gl_catalog.specs.Paths.{Ask, IsPath, reaching}
 use Rattle.gl_catalog.specs.Replies.{Says, said}
-use Rattle.gl_catalog.specs.Savepoints.{InOrder, PathsInOrder, RollbackReleases}
+use Rattle.gl_catalog.specs.Savepoints.{InOrder, PathsInOrder, RollbackReleases, count_since}
 use Rattle.gl_modes.proofs.ModeLemmas.{at_least-refl, at_least-transitive}
 use Rattle.gl_modes.specs.Modes.{is_at_least}
 use Rattle.gl_catalog.specs.Savepoints.{ModesOnlyRise, RollbackKeepsModes}
@@ -90,7 +90,7 @@ rollback_keeps m ms t n k told m' kept here along law law' back =
     (ap (list_any (same_node n)) (take_all mark (nodes_of m.table t.slot) (omega arith)) ∙ here) along in
     let there : has_lock m' t.slot n ≡ true = among_first mark (nodes_of m'.table t.slot) n (ap (list_any (same_node n)) back.back.before ∙ before) in
     let orderly : IsOrderly s = lawful_orderly s (lawful_counting 0 (state_of last) law.lawful) in
-    let active = (may_go_back last t mark back.tests).acting.active in
+    let active = (may_go_back last t (count_since last t.slot mark) back.tests).acting.active in
     let awake = unlocks_stay back.nodes s (table_state m'.table) t.slot orderly active back.back.unlocks in
     (there, unlocks_leave_mode back.nodes s (table_state m'.table) t.slot orderly active back.back.unlocks n (listed_held m' t.slot n law' awake there))
 

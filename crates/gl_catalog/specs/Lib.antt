@@ -7,3 +7,4 @@ pub mod Sound
 pub mod Paths
 pub mod Adopting
 pub mod Savepoints
+pub mod Keeping

@@ -1,10 +1,12 @@
--- After a transaction rolls back to a savepoint: the nodes of rows, and the effective modes of others on rows. For Registry.release_since.
-use Rattle.std.specs.Prelude.{◌≡◌, ℕ, true, false, List, [], ◌∷◌, Result, Ok, Err, get_or, map}
+-- After a transaction rolls back to a savepoint, or commits and keeps locks: the nodes of rows, and the effective modes of others on rows. For
+-- Registry.release_since and Registry.commit_keeping.
+use Rattle.std.specs.Prelude.{◌≡◌, ℕ, true, false, List, [], ◌∷◌, Option, Some, None, Result, Ok, Err, get_or, map}
 use Rattle.std.proofs.Common.{refl, sym, ap, ◌∙◌}
 use Rattle.std.proofs.Math.Bool.{or-false}
 use Rattle.gl_modes.specs.declared.node.NodeId.{NodeId}
 use Rattle.gl_modes.specs.declared.refusal.Refusal.{Refusal}
 use Rattle.gl_model.specs.declared.txn.TxnId.{TxnId}
+use Rattle.gl_model.specs.Calls.{Unlocks, unlocked}
 use Rattle.gl_model.specs.Lawful.{IsLawful}
 use Rattle.gl_model.specs.State.{State, lives}
 use Rattle.gl_model.specs.Tellings.{Told}
@@ -13,13 +15,17 @@ use Rattle.gl_steps.specs.declared.command.Command.TheVariants as command
 use Rattle.gl_steps.specs.Promises.{same_txn}
 use Rattle.gl_steps.specs.Step.{Run}
 use Rattle.gl_steps.proofs.StepsKeepLaw.{runs_keep_law}
+use Rattle.gl_catalog.specs.Keeping.{CompletesKeeping}
 use Rattle.gl_catalog.specs.Manager.{ManagerView, state_of}
 use Rattle.gl_catalog.specs.Replies.{Says}
 use Rattle.gl_catalog.specs.Savepoints.{TakesBack}
-use Rattle.gl_catalog.proofs.GoingBack.{back_keeps_over}
+use Rattle.gl_catalog.proofs.GoingBack.{back_keeps_over, keeping_keeps_over}
+use Rattle.gl_table.specs.Keeping.{RenewsOrEnds}
+use Rattle.gl_rows.specs.Locking.{Names}
 use Rattle.gl_rows.specs.Names.{NamesHold}
-use Rattle.gl_rows.specs.Promises.{BacksKeepOnRows, is_granted}
-use Rattle.gl_rows.specs.Releasing.{GoesBackTo}
+use Rattle.gl_rows.specs.declared.row.Row.{Row}
+use Rattle.gl_rows.specs.Promises.{BacksKeepOnRows, KeepingsKeepOnRows, is_granted}
+use Rattle.gl_rows.specs.Releasing.{CommitsAndKeeps, GoesBackTo, LetsEachGo}
 use Rattle.gl_rows.specs.Rows.{RowsView}
 use Rattle.gl_rows.proofs.CarriedOut.{each_goes, unchanged}
 use Rattle.gl_rows.proofs.GraphChanges.{step_graph}
@@ -61,6 +67,19 @@ back_changes m m' v v' t mark (Ok k) told law holds h =
     h.2.files (get_or v.asked t.slot []) h.2.goes
 back_changes m m' v v' t mark (Err r) told law holds h = unchanged m m' v v' law holds told h.1.same_manager h.1.same_rows
 
+-- what another keeps, it keeps while rows are let go
+over_let_go : (s mid s' : State) (ns ns' : Names) (rows : List Row) (t : TxnId) (told : Told) → IsLawful s → Over s mid t (is_granted t told)
+    → LetsEachGo mid ns rows s' ns' → Over s s' t (is_granted t told)
+over_let_go s mid s' ns ns' rows t told law back goes =
+    let after = over_upkeep mid s' t back.law (each_goes mid s' ns ns' rows goes) back.keeps.alive in
+    over_as s s' t (or-false (is_granted t told)) (over_then s mid s' t (is_granted t told) false law back after)
+
+-- and if nothing changes, and nobody is told
+over_none : (m m' : ManagerView) (t : TxnId) (told : Told) → IsLawful (state_of m) → told ≡ [] → m' ≡ m → lives (state_of m) t ≡ true
+    → Over (state_of m) (state_of m') t (is_granted t told)
+over_none m m' t told law none same alive =
+    over_as (state_of m) (state_of m') t (sym (ap (is_granted t) none)) (over_same (state_of m) (state_of m') t law (ap state_of same) alive)
+
 pub backs_keep_on_rows : BacksKeepOnRows
 backs_keep_on_rows v v' u mark result told t is h alive apart =
     keeps_rows v v' t (is_granted t told) is (over result h) (back_changes v.manager v'.manager v.rows v'.rows u mark result told is.law is.names h)
@@ -68,11 +87,52 @@ backs_keep_on_rows v v' u mark result told t is h alive apart =
     over : (result : Result ℕ Refusal) → GoesBackTo u mark v.manager v.rows result told v'.manager v'.rows
         → Over (state_of v.manager) (state_of v'.manager) t (is_granted t told)
     over (Ok k) h =
-        let s = state_of v.manager in
-        let s' = state_of v'.manager in
-        let back = over_back v.manager h.0 u mark k told is.law h.1 t alive apart in
-        let after = over_upkeep (state_of h.0) s' t back.law (each_goes (state_of h.0) s' v.rows.names v'.rows.names _ h.2.goes) back.keeps.alive in
-        over_as s s' t (or-false (is_granted t told)) (over_then s (state_of h.0) s' t (is_granted t told) false is.law back after)
-    over (Err r) h =
-        over_as (state_of v.manager) (state_of v'.manager) t (sym (ap (is_granted t) h.1.nobody_told))
-        (over_same (state_of v.manager) (state_of v'.manager) t is.law (ap state_of h.1.same_manager) alive)
+        over_let_go (state_of v.manager) (state_of h.0) (state_of v'.manager) v.rows.names v'.rows.names _ t told is.law
+        (over_back v.manager h.0 u mark k told is.law h.1 t alive apart) h.2.goes
+    over (Err r) h = over_none v.manager v'.manager t told is.law h.1.nobody_told h.1.same_manager alive
+
+-- The same of a commit that keeps locks.
+
+unlocks_graph : (ns : List NodeId) (s s' : State) (t : ℕ) → Unlocks s t ns s' → s'.graph ≡ s.graph
+unlocks_graph [] s s' t h = ap (λ (x : State). x.graph) h
+unlocks_graph (n ∷ ns) s s' t h = unlocks_graph ns (unlocked s t n) s' t h.2
+
+renews_graph : (t : TxnId) (since : ℕ) (s : State) (next : Option TxnId) (s' : State) → RenewsOrEnds t since s next s' → s'.graph ≡ s.graph
+renews_graph t since s (Some u) s' h = ap (λ (x : State). x.graph) h.2
+renews_graph t since s None s' h = ap (λ (x : State). x.graph) h.1
+
+module _ (m mid : ManagerView) (t : TxnId) (keep since : ℕ) (next : Option TxnId) (told : Told) (law : IsLawful (state_of m))
+    (h : CompletesKeeping t keep since m next told mid) where
+  pub keeping_graph : (state_of mid).graph ≡ (state_of m).graph
+  keeping_graph =
+      renews_graph t since h.keeps.mid next _ h.keeps.renews ∙ unlocks_graph h.keeps.nodes _ h.keeps.mid t.slot h.keeps.back.unlocks
+
+  pub keeping_lawful : IsLawful (state_of mid)
+  keeping_lawful = runs_keep_law (state_of m) (state_of mid) _ _ law h.run
+
+  over_keeping : (u : TxnId) → lives (state_of m) u ≡ true → same_txn u t ≡ false → Over (state_of m) (state_of mid) u (is_granted u told)
+  over_keeping u alive apart = record {
+    law = keeping_lawful;
+    keeps = keeping_keeps_over m mid law t keep since next told h u alive apart;
+    indexes = same_keeps (state_of m).graph (state_of mid).graph keeping_graph;
+  }
+
+pub keeping_changes : (m m' : ManagerView) (v v' : RowsView) (t : TxnId) (keep since : ℕ) (result : Result (Option TxnId) Refusal) (told : Told)
+    → IsLawful (state_of m) → NamesHold v (state_of m).graph → CommitsAndKeeps t keep since m v result told m' v'
+    → ChangesNames v v' (state_of m).graph (state_of m').graph
+keeping_changes m m' v v' t keep since (Ok next) told law holds h =
+    let_go_changes v v' (state_of m).graph (state_of h.0) (state_of m') (keeping_graph m h.0 t keep since next told law h.1)
+    (keeping_lawful m h.0 t keep since next told law h.1) holds h.2.files (get_or v.asked t.slot []) h.2.goes
+keeping_changes m m' v v' t keep since (Err r) told law holds h = unchanged m m' v v' law holds told h.1.same_manager h.1.same_rows
+
+pub keepings_keep_on_rows : KeepingsKeepOnRows
+keepings_keep_on_rows v v' u keep since result told t is h alive apart =
+    keeps_rows v v' t (is_granted t told) is (over result h)
+    (keeping_changes v.manager v'.manager v.rows v'.rows u keep since result told is.law is.names h)
+  where
+    over : (result : Result (Option TxnId) Refusal) → CommitsAndKeeps u keep since v.manager v.rows result told v'.manager v'.rows
+        → Over (state_of v.manager) (state_of v'.manager) t (is_granted t told)
+    over (Ok next) h =
+        over_let_go (state_of v.manager) (state_of h.0) (state_of v'.manager) v.rows.names v'.rows.names _ t told is.law
+        (over_keeping v.manager h.0 u keep since next told is.law h.1 t alive apart) h.2.goes
+    over (Err r) h = over_none v.manager v'.manager t told is.law h.1.nobody_told h.1.same_manager alive

@@ -25,7 +25,7 @@ use Rattle.gl_rows.specs.declared.call.RowCall.{RowCall}
 use Rattle.gl_rows.specs.declared.row.Row.{Row}
 use Rattle.gl_rows.specs.Applying.{AppliesCall, own_command, unnamed}
 use Rattle.gl_rows.specs.Names.{NamesHold}
-use Rattle.gl_rows.specs.Releasing.{GoesBackTo}
+use Rattle.gl_rows.specs.Releasing.{CommitsAndKeeps, GoesBackTo}
 use Rattle.gl_rows.specs.Rows.{RegistryView, name_of}
 use Rattle.gl_rows.specs.Serving.{PathLeavesRows, ServesBy, touches_rows}
 
@@ -182,6 +182,13 @@ abbrev pub BacksKeepOnRows : Type 0
 BacksKeepOnRows =
     (v v' : RegistryView) (u : TxnId) (mark : ℕ) (result : Result ℕ Refusal) (told : Told) (t : TxnId) → IsRegistry v
     → GoesBackTo u mark v.manager v.rows result told v'.manager v'.rows → lives (state_of v.manager) t ≡ true → same_txn t u ≡ false
+    → KeepsOnRows v v' t (is_granted t told)
+
+-- a commit that keeps locks keeps that for each other living transaction
+abbrev pub KeepingsKeepOnRows : Type 0
+KeepingsKeepOnRows =
+    (v v' : RegistryView) (u : TxnId) (keep since : ℕ) (result : Result (Option TxnId) Refusal) (told : Told) (t : TxnId) → IsRegistry v
+    → CommitsAndKeeps u keep since v.manager v.rows result told v'.manager v'.rows → lives (state_of v.manager) t ≡ true → same_txn t u ≡ false
     → KeepsOnRows v v' t (is_granted t told)
 
 -- the call names t as its transaction, and so does its command, whatever its row's node

@@ -12,6 +12,7 @@ use Rattle.gl_model.specs.State.{State}
 use Rattle.gl_model.specs.Tellings.{Told}
 use Rattle.gl_steps.specs.declared.command.Command.{Command}
 use Rattle.gl_steps.specs.declared.command.Command.TheVariants as command
+use Rattle.gl_catalog.specs.Keeping.{CompletesKeeping, keeping_tests}
 use Rattle.gl_catalog.specs.Manager.{ManagerView, state_of}
 use Rattle.gl_catalog.specs.Replies.{Says, doing}
 use Rattle.gl_catalog.specs.Savepoints.{TakesBack, back_tests}
@@ -119,3 +120,11 @@ GivesBack says c m v slot (Err r) told m' v' = IsRefused m v c r told m' v'
 abbrev pub GoesBackTo : TxnId → ℕ → ManagerView → RowsView → Result ℕ Refusal → Told → ManagerView → RowsView → Type 0
 GoesBackTo t mark m v (Ok k) told m' v' = (mid : ManagerView) × TakesBack t mark k m told mid × LetsGoAsked mid v t.slot m' v' × (v'.asked ≡ v.asked)
 GoesBackTo t mark m v (Err r) told m' v' = (first_refusal (back_tests m t mark) ≡ Some r) × Refused {A = ℕ} m v r (Err r) told m' v'
+
+-- a transaction commits, and another begins in its slot that keeps its first locks; the rows that it asked for are let go, and it asks for none any more
+abbrev pub CommitsAndKeeps : TxnId → ℕ → ℕ → ManagerView → RowsView → Result (Option TxnId) Refusal → Told → ManagerView → RowsView → Type 0
+CommitsAndKeeps t keep since m v (Ok next) told m' v' =
+    (mid : ManagerView) × CompletesKeeping t keep since m next told mid × LetsGoAsked mid v t.slot m' v'
+    × ((w : ℕ) (q : Row) → has_asked v' w q ≡ (has_asked v w q && not (w == t.slot)))
+CommitsAndKeeps t keep since m v (Err r) told m' v' =
+    (first_refusal (keeping_tests m t keep) ≡ Some r) × Refused {A = Option TxnId} m v r (Err r) told m' v'

@@ -1,7 +1,7 @@
 //! The laws of rows, each the contract of a call that does nothing.
 
 ghost use Rattle.gl_rows.specs.Promises.{BacksKeepOnRows, CallsKeepOnRows, CommandsKeepOnRows, PathsKeepOnRows};
-ghost use Rattle.gl_rows.specs.Promises.{NoRowConflict, NoRowOfTwo, OthersKeepByIndexes, OthersKeepRowEffects, RecordsHaveRowEffects};
+ghost use Rattle.gl_rows.specs.Promises.{KeepingsKeepOnRows, NoRowConflict, NoRowOfTwo, OthersKeepByIndexes, OthersKeepRowEffects, RecordsHaveRowEffects};
 
 /// No row can be written by one transaction and read by another: by locks further up in any lawful
 /// state, with or without a record for the row; and in a registry by any locks, those on the row's own
@@ -24,8 +24,8 @@ pub fn records_have_row_effects()
 ///   record for the row;
 /// - over any run, those by locks on the file and on the intervals of its indexes that exist before
 ///   and after;
-/// - over a command by its node, a path, a rollback to a savepoint or a call about rows, as a registry
-///   serves it, those by any locks, those on the row's own node included, if the keys are the row's
+/// - over a command by its node, a path, a rollback to a savepoint, a commit that keeps locks or a call
+///   about rows, as a registry serves it, those by any locks, those on the row's own node included, if the keys are the row's
 ///   own before and after, even if the row gets a node by it, loses it or gets another.
 pub fn others_keep_row_effects()
     ensures above { OthersKeepRowEffects }
@@ -33,5 +33,6 @@ pub fn others_keep_row_effects()
     ensures by_command { CommandsKeepOnRows }
     ensures by_path { PathsKeepOnRows }
     ensures by_back { BacksKeepOnRows }
+    ensures by_keeping { KeepingsKeepOnRows }
     ensures by_call { CallsKeepOnRows }
 {}

@@ -9,7 +9,7 @@ ghost use Rattle.gl_graph.specs.Graph.{first_parent};
 ghost use Rattle.gl_graph.specs.View.{graph_of};
 ghost use Rattle.gl_rows.specs.Applying.{AppliesCall, AppliesRow, CarriesOut, answer_in, naming, own_command};
 ghost use Rattle.gl_rows.specs.Names.{NameWell, NamesHold};
-ghost use Rattle.gl_rows.specs.Releasing.{GoesBackTo};
+ghost use Rattle.gl_rows.specs.Releasing.{CommitsAndKeeps, GoesBackTo};
 ghost use Rattle.gl_rows.specs.Rows.{has_asked, has_rows, name_of};
 ghost use Rattle.gl_rows.specs.Serving.{PathLeavesRows, ServesBy, touches_rows};
 
@@ -146,6 +146,24 @@ impl Registry {
     {
         self.manager.law();
         self.rows.release_since(&mut self.manager, t, mark, told)
+    }
+
+    /// Commits a transaction and begins another in its slot that keeps its first `keep` locks, as
+    /// `Manager::commit_keeping_telling`. Rows that the transaction asked for and that nobody holds or
+    /// waits for any more lose their nodes.
+    pub fn commit_keeping(
+        &mut self,
+        t: TxnId,
+        keep: usize,
+        since: u64,
+        told: &mut Told,
+    ) -> Result<Option<TxnId>, Refusal>
+        requires empty { told.old.items ≡ [] }
+        ensures { CommitsAndKeeps t keep since self.old.manager self.old.rows result told.new.items self.new.manager self.new.rows }
+    {
+        self.manager.law();
+        self.rows
+            .commit_keeping(&mut self.manager, t, keep, since, told)
     }
 
     /// Carries out one call about rows. `told` must be empty, and receives the notices.

@@ -7,6 +7,7 @@ pub mod Calls
 pub mod Locking
 pub mod Ends
 pub mod Back
+pub mod Keeping
 pub mod Moves
 pub mod Departing
 pub mod Records

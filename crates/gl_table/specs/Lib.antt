@@ -1,3 +1,4 @@
+pub mod Keeping
 pub mod Orders
 pub mod Table
 pub mod inside

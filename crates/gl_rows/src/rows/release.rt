@@ -7,7 +7,7 @@
 ghost use Rattle.std.specs.Prelude.{◌≡◌, []};
 ghost use Rattle.gl_steps.specs.declared.command.Command.TheVariants as command;
 ghost use Rattle.gl_catalog.specs.Replies.{doing, rising};
-ghost use Rattle.gl_rows.specs.Releasing.{EndsTxn, GivesBack, GoesBackTo, RekeysRow, UnlocksRow};
+ghost use Rattle.gl_rows.specs.Releasing.{CommitsAndKeeps, EndsTxn, GivesBack, GoesBackTo, RekeysRow, UnlocksRow};
 
 use super::Rows;
 use crate::answer::RowRefusal;
@@ -136,5 +136,24 @@ impl Rows {
         let released = manager.release_since_telling(t, mark, told)?;
         let_each_go(&mut self.names, manager, rows_in(&self.asked, t.slot));
         Ok(released)
+    }
+
+    /// Commits a transaction and begins another in its slot that keeps its first `keep` locks; it asks
+    /// for no row, since it holds intentions alone. Refused as `Manager::commit_keeping_telling`.
+    pub(crate) fn commit_keeping(
+        &mut self,
+        manager: &mut Manager,
+        t: TxnId,
+        keep: usize,
+        since: u64,
+        told: &mut Told,
+    ) -> Result<Option<TxnId>, Refusal>
+        requires empty { told.old.items ≡ [] }
+        ensures { CommitsAndKeeps t keep since manager.old self.old result told.new.items manager.new self.new }
+    {
+        let next = manager.commit_keeping_telling(t, keep, since, told)?;
+        let_each_go(&mut self.names, manager, rows_in(&self.asked, t.slot));
+        clear(&mut self.asked, t.slot);
+        Ok(next)
     }
 }

@@ -1,12 +1,11 @@
 -- What going back to a mark makes of a table. For that call.
-use Rattle.gl_table.proofs.Words.{[], ◌==◌, ◌∙◌, ◌≡◌, Active, ap, GoesBack, IsSound, List, NodeId, nodes_by, nodes_of, notices_in, same_number, Some, split}
-use Rattle.gl_table.proofs.Words.{State, state_at, state_of, status_of, subst, sym, TellsOthers, Told, told, Unlocks, view_of, ℕ}
-use Rattle.gl_model.proofs.telling.Lists.{told_is}
+use Rattle.gl_table.proofs.Words.{[], ◌≡◌, Active, GoesBack, IsSound, List, NodeId, nodes_by, nodes_of, refl, Some}
+use Rattle.gl_table.proofs.Words.{State, state_at, state_of, status_of, subst, TellsOthers, Told, told, Unlocks, view_of, ℕ}
 use Rattle.gl_model.proofs.telling.Unlocks.{unlocks_saying, unlocks_stand}
-use Rattle.gl_model.proofs.telling.Between.{active_untold, nobody_told}
+use Rattle.gl_model.proofs.telling.Between.{active_untold}
 use Rattle.gl_table.specs.declared.locks.Locks.{Locks}
 use Rattle.gl_table.specs.declared.table.Table.TheInside.{Inside}
-use Rattle.gl_table.proofs.calls.Calls.{table_between}
+use Rattle.gl_table.proofs.calls.Ends.{told_apart}
 use Rattle.gl_table.proofs.inside.Orders.{order_seen}
 
 module _ (i : Inside) (sound : IsSound i) (t : ℕ) (active : status_of (state_of (view_of i)) t ≡ Some Active) (locks : Locks) where
@@ -45,7 +44,5 @@ module _ (i : Inside) (sound : IsSound i) (t : ℕ) (active : status_of (state_o
   -- all others are told, and it is told nothing itself
   pub told_back : (first list : Told) → first ≡ [] → TellsOthers t l (state_at locks) first list → list ≡ told s (state_of (view_of after))
   told_back first list none tells =
-      told_is s (state_of (view_of after)) list sound.lawful i.locks.sound.few tells.by_slot (λ u. split (u == t)
-      (λ e. let is = same_number u t e in ap (notices_in list) is ∙ tells.own ∙ ap (λ xs. notices_in xs t) none
-      ∙ sym (active_untold s (state_of (view_of after)) u (ap (status_of s) is ∙ active)))
-      (λ e. tells.others s (table_between i sound) (λ v k. ap (λ xs. notices_in xs v) none ∙ sym (nobody_told s v)) u e))
+      told_apart i sound t (state_at locks) (state_of (view_of after)) first list none tells (active_untold s (state_of (view_of after)) t active)
+      (λ u e. refl)

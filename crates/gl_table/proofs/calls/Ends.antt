@@ -1,5 +1,5 @@
 -- What the ends of waits and of transactions make of a table. For cancels, commits, aborts and settles.
-use Rattle.gl_table.proofs.Words.{[], ◌==◌, ◌||◌, ◌∙◌, ◌≡◌, Active, ap, arith, cancelled, Deadlock, front_at, granted_at, HasNoCycle, holds, state_at}
+use Rattle.gl_table.proofs.Words.{[], ◌==◌, ◌||◌, ◌∙◌, ◌≡◌, Active, ap, arith, cancelled, Deadlock, false, front_at, granted_at, HasNoCycle, holds, state_at}
 use Rattle.gl_table.proofs.Words.{is_waiting_at, IsLawful, IsSound, members, nat_tests, NodeId, None, notices_in, number_same, refl}
 use Rattle.gl_table.proofs.Words.{released, same_number, Settled, SettlesKeeping, split, State, state_of, status_of, stripped, subst, sym}
 use Rattle.gl_table.proofs.Words.{TellsAll, TellsOthers, Told, told, told_but, told_to, true, view_of, WakesTold, without_wait, ℕ}
@@ -13,7 +13,7 @@ use Rattle.gl_model.proofs.telling.Lists.{told_but_is, told_is}
 use Rattle.gl_model.proofs.telling.Between.{gone_untold, is_by_test, nobody_told}
 
 -- a released transaction has no slot
-released_gone : (s : State) (t : ℕ) → status_of (released s t) t ≡ None
+pub released_gone : (s : State) (t : ℕ) → status_of (released s t) t ≡ None
 released_gone s t = grind (arith, nat_tests, granted_at (stripped s t) (λ n. holds (members s n) t || is_waiting_at s t n), number_same t t refl)
 
 module _ (i : Inside) (sound : IsSound i) where
@@ -24,20 +24,26 @@ module _ (i : Inside) (sound : IsSound i) where
   abbrev l : State
   l = state_at i.locks
 
+  -- t alone acted up to x: all others are told, if at a later state they are told the same, and t is told nothing
+  pub told_apart : (t : ℕ) (x now : State) (first list : Told) → first ≡ [] → TellsOthers t l x first list → told_to s now t ≡ None
+      → ((u : ℕ) → (u == t) ≡ false → told_to s x u ≡ told_to s now u) → list ≡ told s now
+  told_apart t x now first list none tells own same =
+      told_is s now list sound.lawful i.locks.sound.few tells.by_slot (λ u. split (u == t)
+      (λ e. ap (notices_in list) (same_number u t e) ∙ tells.own ∙ ap (λ xs. notices_in xs t) none
+      ∙ sym (ap (told_to s now) (same_number u t e) ∙ own))
+      (λ e. tells.others s (table_between i sound) (λ v k. ap (λ xs. notices_in xs v) none ∙ sym (nobody_told s v)) u e ∙ same u e))
+
+  -- the same if t is gone
+  pub told_gone : (t : ℕ) (locks : Locks) → status_of (state_of (view_of (record i { locks = locks }))) t ≡ None → (first list : Told) → first ≡ []
+      → TellsOthers t l (state_at locks) first list → list ≡ told s (state_of (view_of (record i { locks = locks })))
+  told_gone t locks gone first list none tells =
+      let now = state_of (view_of (record i { locks = locks })) in
+      told_apart t (state_at locks) now first list none tells (gone_untold s now t gone) (λ u e. refl)
+
   -- a transaction ended in any status: all others are told, and it is told nothing itself
   pub told_ended : (t : ℕ) (locks : Locks) → state_at locks ≡ released l t → (first list : Told) → first ≡ []
       → TellsOthers t l (state_at locks) first list → list ≡ told s (state_of (view_of (record i { locks = locks })))
-  told_ended t locks is first list none tells =
-      told_is s after list sound.lawful i.locks.sound.few tells.by_slot (λ u. split (u == t)
-      (λ e. ap (notices_in list) (same_number u t e) ∙ tells.own ∙ ap (λ xs. notices_in xs t) none
-      ∙ sym (ap (told_to s after) (same_number u t e) ∙ gone_untold s after t gone))
-      (λ e. tells.others s (table_between i sound) (λ v k. ap (λ xs. notices_in xs v) none ∙ sym (nobody_told s v)) u e))
-    where
-      after : State
-      after = state_of (view_of (record i { locks = locks }))
-
-      gone : status_of after t ≡ None
-      gone = ap (λ x. status_of x t) (state_released i sound t locks is) ∙ released_gone s t
+  told_ended t locks is = told_gone t locks (ap (λ x. status_of x t) (state_released i sound t locks is) ∙ released_gone s t)
 
   -- a wait was cancelled
   module _ (t : ℕ) (n : NodeId) (waits : is_waiting_at s t n ≡ true) (locks : Locks) (is : state_at locks ≡ cancelled l t) where

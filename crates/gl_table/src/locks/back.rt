@@ -25,6 +25,8 @@ impl Locks {
         requires tell { CanTell told.old.items (λ u. is_wait (status_of (state_at self.old) u)) }
         ensures back { (ns : List Node) × GoesBack (state_at self.old) slot mark (nodes_by self.old.ledger.lists.items slot) ns
             (nodes_by self.new.ledger.lists.items slot) (state_at self.new) × (result ≡ length ns) }
+        ensures active { status_of (state_at self.new) slot ≡ Some Active }
+        ensures tell { CanTell told.new.items (λ u. is_wait (status_of (state_at self.new) u)) }
         ensures tells { TellsOthers slot (state_at self.old) (state_at self.new) told.old.items told.new.items }
         ensures orders { ListsLose self.old.ledger.lists.items self.new.ledger.lists.items }
     {

@@ -77,7 +77,7 @@ impl Table {
 
     /// A transaction begins in a slot in which nobody waits: a free one, or its own.
     #[inline]
-    fn start(&mut self, slot: Slot, since: u64) -> TxnId
+    pub(super) fn start(&mut self, slot: Slot, since: u64) -> TxnId
         requires slot { slot < (state_of self.old).most }
         requires quiet { is_wait (status_of (state_of self.old) slot) ≡ false }
         requires left { (state_of self.old).begins ≢ max_count }
@@ -86,6 +86,7 @@ impl Table {
         ensures state { state_of self.new ≡ begun_again (state_of self.old) slot since }
         ensures deadlock { self.new.deadlock ≡ self.old.deadlock }
         ensures orders { KeepsOrders self.old self.new }
+        ensures lists { self.new.lists ≡ self.old.lists }
     {
         self.begins += 1;
         let age = self.begins;

@@ -1,4 +1,4 @@
-use Rattle.gl_rows.proofs.GoingBack.{backs_keep_on_rows}
+use Rattle.gl_rows.proofs.GoingBack.{backs_keep_on_rows, keepings_keep_on_rows}
 use Rattle.gl_rows.proofs.KeptRows.{others_keep_row_effects}
 use Rattle.gl_rows.proofs.Served.{calls_keep_on_rows, commands_keep_on_rows, paths_keep_on_rows}
 use Rattle.gl_rows.proofs.StandingIndexes.{others_keep_by_indexes}
@@ -18,6 +18,9 @@ returns-clause-by_path c = paths_keep_on_rows
 
 pub returns-clause-by_back : goal.returns-clause-by_back
 returns-clause-by_back c = backs_keep_on_rows
+
+pub returns-clause-by_keeping : goal.returns-clause-by_keeping
+returns-clause-by_keeping c = keepings_keep_on_rows
 
 pub returns-clause-by_call : goal.returns-clause-by_call
 returns-clause-by_call c = calls_keep_on_rows

@@ -10,7 +10,7 @@ use Rattle.gl_table.proofs.calls.Locking.{test_refused}
 use Rattle.gl_steps.proofs.NotRefused.{txn_lives}
 use Rattle.gl_catalog.specs.Counters.{with_notices}
 use Rattle.gl_catalog.specs.Manager.{ManagerView, state_of}
-use Rattle.gl_catalog.specs.Savepoints.{TakesBack, back_tests}
+use Rattle.gl_catalog.specs.Savepoints.{TakesBack, back_tests, count_since}
 use Rattle.gl_catalog.specs.Sound.{view_of}
 use Rattle.gl_catalog.proofs.GoingBack.{count_decides, not_active, takes_back}
 use Rattle.gl_catalog.proofs.Insertions.{refused_so}
@@ -22,13 +22,14 @@ use Rattle.gl_catalog.proofs.manager.Manager.release_since_telling.Goals as goal
 passed : (c : After-release_since_telling) → first_refusal (back_tests (view_of c.self.inside) c.args.t c.args.mark) ≡ None
 passed c =
     subst (λ (v : ManagerView). first_refusal (back_tests v c.args.t c.args.mark) ≡ None) (sym c.self.view_is)
-    (count_decides c.args.self.now c.args.t c.args.mark (test_passed _ c.in_ok-check_active.field-0 c.in_ok-check_active.ensures)
+    (count_decides c.args.self.now c.args.t (count_since c.args.self.now c.args.t.slot c.args.mark)
+    (test_passed _ c.in_ok-check_active.field-0 c.in_ok-check_active.ensures)
     ∙ test_passed _ c.in_ok-check_count_since.field-0 c.in_ok-check_count_since.ensures)
 
 pub returns-in_err-check_active-clause-refuses : goal.returns-in_err-check_active-clause-refuses
 returns-in_err-check_active-clause-refuses c =
     subst (λ (o : Option Refusal). RefusesOnly o c.from_residual.result)
-    (sym (not_active c.args.self.now c.args.t c.args.mark c.in_err-check_active.field-0.0
+    (sym (not_active c.args.self.now c.args.t (count_since c.args.self.now c.args.t.slot c.args.mark) c.in_err-check_active.field-0.0
     (test_refused _ c.in_err-check_active.field-0.0 c.in_err-check_active.ensures))) (search rules)
 
 pub check_count_since-requires : goal.check_count_since-requires
@@ -39,7 +40,8 @@ check_count_since-requires c =
 pub returns-in_err-check_count_since-clause-refuses : goal.returns-in_err-check_count_since-clause-refuses
 returns-in_err-check_count_since-clause-refuses c =
     subst (λ (o : Option Refusal). RefusesOnly o c.from_residual-in_err-check_count_since.result)
-    (sym (count_decides c.args.self.now c.args.t c.args.mark (test_passed _ c.in_ok-check_active.field-0 c.in_ok-check_active.ensures)
+    (sym (count_decides c.args.self.now c.args.t (count_since c.args.self.now c.args.t.slot c.args.mark)
+    (test_passed _ c.in_ok-check_active.field-0 c.in_ok-check_active.ensures)
     ∙ test_refused _ c.in_err-check_count_since.field-0.0 c.in_err-check_count_since.ensures)) (search rules)
 
 pub returns-in_err-released-clause-refuses : goal.returns-in_err-released-clause-refuses

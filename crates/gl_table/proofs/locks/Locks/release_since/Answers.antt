@@ -68,3 +68,9 @@ returns-clause-orders c = elim c.pass-test.branch [
 
 pub returns-clause-tells : goal.returns-clause-tells
 returns-clause-tells c = back_tells (gone_back c).0
+
+pub returns-clause-active : goal.returns-clause-active
+returns-clause-active c = (gone_back c).0.active
+
+pub returns-clause-tell : goal.returns-clause-tell
+returns-clause-tell c = (gone_back c).0.tell
