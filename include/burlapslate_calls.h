@@ -20,6 +20,7 @@ bs_reply bs_call_add_index(bs_manager *manager, const bs_node *parents, size_t c
 bs_reply bs_call_begin(bs_manager *manager);
 bs_reply bs_call_begin_again(bs_manager *manager, uint64_t since);
 bs_reply bs_call_renew(bs_manager *manager, bs_txn txn, uint64_t since);
+bs_reply bs_call_commit_keeping(bs_manager *manager, bs_txn txn, size_t keep, uint64_t since, bs_notices *told);
 bs_reply bs_call_begin_in_turn(bs_manager *manager, uint64_t since, uint64_t word, uint64_t until);
 bs_reply bs_call_take_begun(bs_manager *manager);
 bs_reply bs_call_withdraw_begin(bs_manager *manager, uint64_t word);

@@ -22,7 +22,7 @@ use Rattle.gl_catalog.specs.Paths.{Ask, lock_of, path_tests}
 use Rattle.gl_catalog.specs.declared.manager.paths.Reached.{Reached}
 use Rattle.gl_rows.specs.Applying.{AppliesCall, CarriesOut, answer_in, naming, own_command}
 use Rattle.gl_rows.specs.Locking.{Wish}
-use Rattle.gl_rows.specs.Releasing.{GoesBackTo}
+use Rattle.gl_rows.specs.Releasing.{CommitsAndKeeps, GoesBackTo}
 use Rattle.gl_rows.specs.Serving.{PathLeavesRows, ServesBy, touches_rows}
 use Rattle.gl_rows.specs.declared.answer.RowAnswer.{RowAnswer}
 use Rattle.gl_rows.specs.declared.answer.RowAnswer.TheVariants as row_answer
@@ -97,6 +97,15 @@ pub record RollsBackTo (v : WaitingView) (t : TxnId) (mark : ℕ) (result : Resu
   pub run : IsRun (state_of v.manager) (state_of v'.manager)
   pub beside : KeepsBeside v v'
   pub nothing : OnErr result (v' ≡ v)
+
+-- a transaction commits, and another begins in its slot that keeps its first locks, as a registry does it
+pub record KeepsLocks (v : WaitingView) (t : TxnId) (keep since : ℕ) (result : Result (Option TxnId) Refusal) (told : Told) (ended : Slots)
+    (v' : WaitingView) : Type 0 where
+  pub keeps : CommitsAndKeeps t keep since v.manager v.rows result told v'.manager v'.rows
+  pub delivers : Carries (delivery_in v) (command.Commit t) told ended (delivery_in v')
+  pub run : IsRun (state_of v.manager) (state_of v'.manager)
+  pub beside : KeepsBeside v v'
+  pub nothing : v'.manager.accepted ≡ v.manager.accepted → v' ≡ v
 
 -- a path is tried
 pub record TriesThere (v : WaitingView) (t : TxnId) (ask : Ask) (keep : Keep) (result : Tried) (told : Told) (ended : Slots) (v' : WaitingView)

@@ -1,5 +1,5 @@
 -- How a waiter goes on whose wait is over.
-use Rattle.std.specs.Prelude.{◌≡◌, ◌<◌, ℕ, [], Option, None, Some, Result}
+use Rattle.std.specs.Prelude.{◌≡◌, ◌<◌, ℕ, [], Bool, Option, None, Some, Result, is_some}
 use Rattle.gl_modes.specs.declared.refusal.Refusal.{Refusal}
 use Rattle.gl_slots.specs.declared.slots.Slots.{Slots}
 use Rattle.gl_catalog.specs.Manager.{state_of}
@@ -52,3 +52,7 @@ next_at v u = next_in (state_of v.manager) v.boxes (place_at v.places u)
 abbrev pub IsNext : WaitingView → Option (Waiter × Next) → Type 0
 IsNext v (Some x) = (u : ℕ) × (next_at v u ≡ Some x) × ((k : ℕ) → k < u → next_at v k ≡ None)
 IsNext v None = (u : ℕ) → next_at v u ≡ None
+
+-- whether the wait of a waiter is over
+abbrev pub HasNext : WaitingView → Bool → Type 0
+HasNext v over = (next : Option (Waiter × Next)) × IsNext v next × (over ≡ is_some next)

@@ -1,7 +1,7 @@
 //! What belongs to each slot: nothing, or a waiter.
 
 ghost use Rattle.gl_slots.specs.Limit.{most_slots};
-ghost use Rattle.std.specs.Prelude.{◌≡◌, ◌<◌, IfNone, IfSome, length, replicate, slice_set};
+ghost use Rattle.std.specs.Prelude.{◌≡◌, ◌<◌, IfNone, IfSome, is_some, length, replicate, slice_set};
 ghost use Rattle.std.specs.List.{position};
 ghost use Rattle.gl_waiting.specs.Begins.{is_over};
 ghost use Rattle.gl_waiting.specs.Waiters.{HasWaiter, earliest_until, first_late, place_at, until_in, waiter_in};
@@ -41,14 +41,22 @@ impl Places {
         }
     }
 
-    /// What belongs to a slot.
-    pub(crate) fn at(&self, slot: Slot) -> Place
-        ensures { result ≡ place_at self.now slot }
+    /// What belongs to a slot; `None` is nothing too.
+    pub(crate) fn at(&self, slot: Slot) -> Option<&Place>
+        ensures some { IfSome result (λ place. place.now ≡ place_at self.now slot) }
+        ensures none { IfNone result (place_at self.now slot ≡ empty) }
     {
-        self.place(slot as usize)
+        self.places.get(slot as usize)
     }
 
-    /// The same of its place in the list.
+    /// Whether a slot has a waiter.
+    pub(crate) fn has_waiter(&self, slot: Slot) -> bool
+        ensures { result ≡ is_some (waiter_in (place_at self.now slot)) }
+    {
+        matches!(self.at(slot), Some(Place::Waits(_) | Place::Holds(_, _)))
+    }
+
+    /// What belongs to a place in the list.
     fn place(&self, index: usize) -> Place
         ensures { result ≡ place_at self.now index }
     {
@@ -62,7 +70,7 @@ impl Places {
     pub(crate) fn waiter(&self, slot: Slot) -> Option<Waiter>
         ensures { result ≡ waiter_in (place_at self.now slot) }
     {
-        self.at(slot).waiter()
+        self.place(slot as usize).waiter()
     }
 
     /// The waiter of a transaction.

@@ -171,14 +171,15 @@ impl Waiter {
     pub(crate) fn next(&self, verdict: Result<Grant, Stop>) -> Next
         ensures { result ≡ next_of self.now verdict }
     {
-        match (self.request, verdict) {
-            (Request::Path { node, mode }, _) if has_more(node, self.at, verdict) => {
-                Next::GoOn { node, mode }
-            }
+        match (&self.request, verdict) {
+            (Request::Path { node, mode }, _) if has_more(*node, self.at, verdict) => Next::GoOn {
+                node: *node,
+                mode: *mode,
+            },
             (Request::Row { row, keys, mode }, Ok(grant)) => Next::LockAgain {
-                row,
-                keys,
-                mode,
+                row: *row,
+                keys: *keys,
+                mode: *mode,
                 granted: grant.mode,
             },
             (Request::Row { .. }, Err(_)) => Next::End(outcome_of(self.at, verdict)),

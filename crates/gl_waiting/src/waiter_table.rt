@@ -6,7 +6,7 @@ ghost use Rattle.gl_slots.specs.Slots.{has_slot};
 ghost use Rattle.gl_waiting.specs.Waiters.{is_held};
 ghost use Rattle.gl_catalog.specs.Manager.{IsLawfulManager, state_of};
 ghost use Rattle.gl_rows.specs.Rows.{name_of};
-ghost use Rattle.gl_waiting.specs.Asking.{Awaits, Begins, BeginsInTurn, BeginsNext, GoesOn, HandsOnAfter, HandsOnIf, IsInTurn, LocksPath};
+ghost use Rattle.gl_waiting.specs.Asking.{Awaits, Begins, BeginsInTurn, BeginsNext, GoesOn, HandsOnAfter, HandsOnIf, IsInTurn, KeepsLocks, LocksPath};
 ghost use Rattle.gl_waiting.specs.Asking.{RollsBackTo, Serves, ServesRow, TimesOut, TriesRowThere, TriesThere, WithdrawsWaiter, is_done};
 ghost use Rattle.gl_waiting.specs.Begins.{earliest_of, has_word, is_late, without_first};
 ghost use Rattle.std.specs.List.{find, list_any};
@@ -134,8 +134,7 @@ impl WaiterTable {
         (reached, ended)
     }
 
-    /// Carries out a call about rows, as `Registry::apply`, with its notices put into an empty list. Waiters whose wait it
-    /// ends go on or end.
+    /// Carries out a call about rows, as `Registry::apply`, with its notices put into an empty list.
     #[inline(always)]
     pub(crate) fn serve_row(&mut self, call: RowCall<'_>, told: &mut Told) -> (RowAnswer, Slots)
         requires empty { told.old.items ≡ [] }
@@ -162,6 +161,25 @@ impl WaiterTable {
         let (released, ended) = self.delivery.release_since(txn, mark, told);
         self.due = self.due.union(ended);
         (released, ended)
+    }
+
+    /// Commits a transaction and begins another in its slot that keeps its first `keep` locks, as
+    /// `Registry::commit_keeping`, with the notices put into an empty list.
+    #[inline(always)]
+    pub(crate) fn commit_keeping(
+        &mut self,
+        txn: TxnId,
+        keep: usize,
+        since: u64,
+        told: &mut Told,
+    ) -> (Result<Option<TxnId>, Refusal>, Slots)
+        requires empty { told.old.items ≡ [] }
+        ensures { KeepsLocks self.old txn keep since result.0 told.new.items result.1 self.new }
+    {
+        self.delivery.law();
+        let (next, ended) = self.delivery.commit_keeping(txn, keep, since, told);
+        self.due = self.due.union(ended);
+        (next, ended)
     }
 
     /// Tries to lock a node with what must be held above it, as `Delivery::try_path`.
@@ -206,7 +224,7 @@ impl WaiterTable {
         ensures awaits { Awaits self.old waiter result self.new }
         ensures rest { self.new ≡ record self.old { places = self.new.places } }
     {
-        if self.places.waiter(waiter.txn.slot).is_some() {
+        if self.places.has_waiter(waiter.txn.slot) {
             return None;
         }
         match self.delivery.verdict(waiter.txn, waiter.at, waiter.wanted) {
@@ -244,13 +262,14 @@ impl WaiterTable {
             return (None, Slots::empty());
         };
         self.delivery.law();
-        let (came, ended) = continue_by(&mut self.delivery, waiter, next, told);
+        let (came, ended) = continue_by(&mut self.delivery, &waiter, next, told);
         self.places.put(waiter.txn.slot, waiter.place(came));
         self.due = due_after(self.due, waiter.txn.slot, came, ended);
         (Some((waiter.txn, came)), ended)
     }
 
-    /// The waiter of the lowest slot whose wait is over, and what it does next.
+    /// The waiter of the lowest slot whose wait is over, and what it does next. Inlined, so that it is not copied.
+    #[inline(always)]
     pub(crate) fn next(&self) -> Option<(Waiter, Next)>
         ensures { IsNext self.now result }
     {
@@ -269,19 +288,20 @@ impl WaiterTable {
         ensures { result ≡ next_at self.now slot }
     {
         match self.places.at(slot) {
-            Place::Waits(waiter) => {
+            Some(Place::Waits(waiter)) => {
                 let verdict = self.delivery.verdict(waiter.txn, waiter.at, waiter.wanted)?;
-                Some((waiter, waiter.next(verdict)))
+                Some((*waiter, waiter.next(verdict)))
             }
-            Place::Holds(waiter, mode) => Some((waiter, waiter.next(waiter.granted(mode)))),
-            Place::Empty => None,
+            Some(Place::Holds(waiter, mode)) => {
+                Some((*waiter, waiter.next(waiter.granted(*mode))))
+            }
+            Some(Place::Empty) | None => None,
         }
     }
 
     /// Cancels the wait of a transaction whose time is over, as `RowCall::Cancel`, with the notices put into an empty list.
-    /// A row for which it waited is let go. Answers the end;
-    /// `None` if the transaction has no waiter, or if its wait cannot be cancelled, since it is over or no command can be
-    /// counted any more.
+    /// A row for which it waited is let go. Answers the end; `None` if the transaction has no waiter, or if its wait cannot
+    /// be cancelled, since it is over or no command can be counted any more.
     pub(crate) fn time_out(&mut self, txn: TxnId, told: &mut Told) -> (Option<Outcome>, Slots)
         requires empty { told.old.items ≡ [] }
         ensures { TimesOut self.old txn result.0 told.new.items result.1 self.new }

@@ -22,14 +22,14 @@ use gl_table::{Locked, Told, TxnId};
 /// the slots whose wait that may have ended.
 pub(crate) fn continue_by(
     delivery: &mut Delivery,
-    waiter: Waiter,
+    waiter: &Waiter,
     next: Next,
     told: &mut Told,
 ) -> (Came, Slots)
     requires empty { told.old.items ≡ [] }
-    ensures continues { Continues waiter next delivery.old result.0 told.new.items delivery.new }
+    ensures continues { Continues waiter.now next delivery.old result.0 told.new.items delivery.new }
     ensures call { CallWith told.new.items result.1 delivery.old delivery.new }
-    ensures waits { (at : ANode) (wanted : AMode) → result.0 ≡ waits at wanted → waits_on (state_of delivery.new.manager) waiter.txn at ≡ true }
+    ensures waits { (at : ANode) (wanted : AMode) → result.0 ≡ waits at wanted → waits_on (state_of delivery.new.manager) waiter.now.txn at ≡ true }
 {
     match next {
         Next::End(outcome) => (Came::Ended(outcome), Slots::empty()),

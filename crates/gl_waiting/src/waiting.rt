@@ -5,10 +5,10 @@ ghost use Rattle.std.specs.Prelude.{◌≡◌, [], drop, replicate, slice_get};
 ghost use Rattle.std.specs.List.{find, list_any};
 ghost use Rattle.gl_catalog.specs.Manager.{IsLawfulManager, state_of};
 ghost use Rattle.gl_rows.specs.Rows.{name_of};
-ghost use Rattle.gl_waiting.specs.Asking.{Awaits, Begins, BeginsInTurn, GoesOn, InTurn, IsInTurn, LocksPath, RollsBackTo, Serves};
-ghost use Rattle.gl_waiting.specs.Asking.{ServesRow, TimesOut, TriesRowThere, TriesThere, WithdrawsWaiter};
+ghost use Rattle.gl_waiting.specs.Asking.{Awaits, Begins, BeginsInTurn, GoesOn, InTurn, IsInTurn, KeepsLocks, LocksPath, RollsBackTo};
+ghost use Rattle.gl_waiting.specs.Asking.{Serves, ServesRow, TimesOut, TriesRowThere, TriesThere, WithdrawsWaiter};
 ghost use Rattle.gl_waiting.specs.Begins.{earliest_of, has_word, is_late, without_first};
-ghost use Rattle.gl_waiting.specs.Ends.{IsNext};
+ghost use Rattle.gl_waiting.specs.Ends.{HasNext, IsNext};
 ghost use Rattle.gl_waiting.specs.Waiters.{earliest_until, first_late};
 ghost use Rattle.gl_wakes.specs.Boxes.{verdict_of};
 ghost use Rattle.gl_waiting.specs.Waiting.{delivery_in};
@@ -124,8 +124,7 @@ impl Waiting {
         (reached, self.table.hand_on(own))
     }
 
-    /// Carries out a call about rows, as `Registry::apply`, with its notices put into an empty list. Waiters whose wait it
-    /// ends go on or end.
+    /// Carries out a call about rows, as `Registry::apply`, with its notices put into an empty list.
     #[inline(always)]
     pub fn serve_row(&mut self, call: RowCall<'_>, told: &mut Told) -> (RowAnswer, SetOff)
         requires empty { told.old.items ≡ [] }
@@ -148,6 +147,23 @@ impl Waiting {
     {
         let (released, own) = self.table.release_since(txn, mark, told);
         (released, self.table.hand_on(own))
+    }
+
+    /// Commits a transaction and begins another in its slot that keeps its first `keep` locks, as
+    /// `Registry::commit_keeping`, with its notices put into an empty list.
+    #[inline(always)]
+    pub fn commit_keeping(
+        &mut self,
+        txn: TxnId,
+        keep: usize,
+        since: u64,
+        told: &mut Told,
+    ) -> (Result<Option<TxnId>, Refusal>, SetOff)
+        requires empty { told.old.items ≡ [] }
+        ensures { InTurn self.old (λ ended mid. KeepsLocks self.old txn keep since result.0 told.new.items ended mid) result.1 self.new }
+    {
+        let (next, own) = self.table.commit_keeping(txn, keep, since, told);
+        (next, self.table.hand_on(own))
     }
 
     /// Tries to lock a node with what must be held above it, as `Delivery::try_path`.
@@ -205,6 +221,13 @@ impl Waiting {
         ensures { IsNext self.now result }
     {
         self.table.next()
+    }
+
+    /// Whether the wait of a waiter is over.
+    pub fn has_next(&self) -> bool
+        ensures { HasNext self.now result }
+    {
+        self.table.next().is_some()
     }
 
     /// Continues the waiter of the lowest slot whose wait is over, by one command at most, with its notices put into an

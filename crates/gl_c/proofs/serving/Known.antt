@@ -19,12 +19,12 @@ use Rattle.gl_catalog.specs.Paths.{Ask}
 use Rattle.gl_catalog.specs.declared.manager.paths.Reached.{Reached}
 use Rattle.gl_rows.specs.Applying.{answer_in, own_command, unnamed}
 use Rattle.gl_rows.specs.Locking.{Wish}
-use Rattle.gl_rows.specs.Releasing.{GoesBackTo}
+use Rattle.gl_rows.specs.Releasing.{CommitsAndKeeps, GoesBackTo}
 use Rattle.gl_rows.specs.Rows.{RegistryView}
 use Rattle.gl_rows.specs.Serving.{ServesBy, touches_rows}
 use Rattle.gl_rows.specs.declared.answer.RowAnswer.{RowAnswer}
 use Rattle.gl_rows.specs.declared.call.RowCall.{RowCall}
-use Rattle.gl_waiting.specs.Asking.{LocksPath, RollsBackTo, Serves, ServesRow, TriesRowThere, TriesThere}
+use Rattle.gl_waiting.specs.Asking.{KeepsLocks, LocksPath, RollsBackTo, Serves, ServesRow, TriesRowThere, TriesThere}
 use Rattle.gl_waiting.specs.Delivering.{ComesToNothing, DeliveryView, registry_in}
 use Rattle.gl_waiting.specs.Waiting.{WaitingView, delivery_in}
 use Rattle.gl_waiting.specs.declared.tries.Keep.{Keep}
@@ -36,7 +36,7 @@ use Rattle.gl_window.specs.Tellings.{leaves_waits, still_known}
 use Rattle.gl_c.specs.locks.Paths.{leaves_on_path}
 use Rattle.gl_c.specs.managers.Carries.{spared_by}
 use Rattle.gl_c.specs.managers.Serving.{KnowsWaits}
-use Rattle.gl_c.proofs.serving.Backs.{back_quiet}
+use Rattle.gl_c.proofs.serving.Backs.{back_quiet, keeping_quiet}
 use Rattle.gl_c.proofs.serving.Paths.{path_known}
 use Rattle.gl_c.proofs.serving.RowCalls.{row_known}
 use Rattle.gl_c.proofs.serving.Showing.{knows_nobody, knows_still}
@@ -108,6 +108,16 @@ module _ (v : WaitingView) (shown : Option Strip) (parties : Option Slots) (know
           → OnErr x (ComesToNothing (delivery_in v) told ended (delivery_in v')) → NobodyWaits (state_of v.manager) → NobodyWaits (state_of v'.manager)
       by (Ok k) back none idle = back_quiet (registry_in (delivery_in v)) (registry_in (delivery_in v')) t mark k told back idle
       by (Err r) back none idle = subst (λ (d : DeliveryView). NobodyWaits (state_of d.manager)) (sym none.same) idle
+
+  -- a commit that keeps locks
+  pub keeping_knows : (t : TxnId) (keep since : ℕ) (result : Result (Option TxnId) Refusal) (told : Told) → KeepsLocks v t keep since result told ended v'
+      → Known has_none
+  keeping_knows t keep since result told h = nobody (by result h.keeps)
+    where
+      by : (x : Result (Option TxnId) Refusal) → CommitsAndKeeps t keep since v.manager v.rows x told v'.manager v'.rows
+          → NobodyWaits (state_of v.manager) → NobodyWaits (state_of v'.manager)
+      by (Ok next) keeps idle = keeping_quiet (registry_in (delivery_in v)) (registry_in (delivery_in v')) t keep since next told keeps idle
+      by (Err r) keeps idle = subst (λ (m : ManagerView). NobodyWaits (state_of m)) (sym keeps.1.same_manager) idle
 
   -- a path that is tried
   pub tried_knows : (k : Keep) (t : TxnId) (ask : Ask) (came : Tried) (told : Told) → TriesThere v t ask k came told ended v' → Known has_none

@@ -1,11 +1,11 @@
 -- Waiters of requests: how each is registered, and how its wait ends.
-use Rattle.std.specs.Prelude.{◌≡◌, ◌==◌, ℕ, Bool, true, false, not, Option, Some, None}
+use Rattle.std.specs.Prelude.{◌≡◌, ◌==◌, ℕ, Bool, true, false, not, Option, Some, None, if◌then◌else◌}
 use Rattle.gl_modes.specs.declared.mode.Mode.{Mode}
 use Rattle.gl_model.specs.declared.answers.Locked.TheVariants as locked
 use Rattle.gl_model.specs.declared.txn.TxnId.{TxnId}
 use Rattle.gl_steps.specs.declared.command.Answer.TheVariants as answer
 use Rattle.gl_waiting.specs.Asking.{Awaits, GoesOn, InTurn, TimesOut, WithdrawsWaiter}
-use Rattle.gl_waiting.specs.Ends.{IsNext}
+use Rattle.gl_waiting.specs.Ends.{HasNext, IsNext}
 use Rattle.gl_waiting.specs.Waiters.{earliest_until, first_late, node_in}
 use Rattle.gl_waiting.specs.declared.keys.RowKeys.{RowKeys}
 use Rattle.gl_waiting.specs.declared.waiter.Came.{Came}
@@ -111,17 +111,17 @@ abbrev pub WithdrawsIn : Option GuardedView → TxnId → Reply → Option Guard
 WithdrawsIn None t r s' = Declines None no_manager r s'
 WithdrawsIn (Some g) t r s' = (g' : GuardedView) × (s' ≡ Some g') × WithdrawsThere g t r g'
 
--- the reply for a waiter that went on: its transaction, and what its request came to
-abbrev pub on_reply : Option (TxnId × Came) → Reply
-on_reply (Some x) = record (came_reply x.1) { txn = txn_of x.0 }
-on_reply None = status_reply no_place
+-- the reply for a waiter that went on: its transaction, what its request came to, and 1 if the wait of a waiter is over after that
+abbrev pub on_reply : Option (TxnId × Came) → Bool → Reply
+on_reply (Some x) over = record (came_reply x.1) { txn = txn_of x.0; count = if over then 1 else 0 }
+on_reply None over = status_reply no_place
 
--- the call by which the waiter of the lowest slot goes on whose wait is over
-abbrev pub on_call : CallOf (Option (TxnId × Came))
+-- the call by which the waiter of the lowest slot goes on whose wait is over; and whether the wait of a waiter is over after it
+abbrev pub on_call : CallOf (Option (TxnId × Came) × Bool)
 on_call = record {
-  does = λ v o told off v'. InTurn v (λ ended mid. GoesOn v o told ended mid) off v';
+  does = λ v o told off v'. InTurn v (λ ended mid. GoesOn v o.0 told ended mid) off v' × HasNext v' o.1;
   spares = λ o told known. false;
-  says = on_reply;
+  says = λ o. on_reply o.0 o.1;
 }
 
 -- the reply for a wait that was cancelled since its time is over

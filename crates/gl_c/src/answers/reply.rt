@@ -5,7 +5,7 @@ ghost use Rattle.gl_steps.specs.declared.command.Answer.TheVariants as answer;
 ghost use Rattle.gl_c.specs.locks.Paths.{path_reply, reached_reply, reply_at};
 ghost use Rattle.gl_c.specs.answers.Replies.{count_reply, refused_at, refused_reply, reply_of, served_reply, status_reply};
 ghost use Rattle.gl_c.specs.locks.Rows.{call_reply, row_lock_status};
-ghost use Rattle.gl_c.specs.locks.Savepoints.{back_reply};
+ghost use Rattle.gl_c.specs.locks.Savepoints.{back_reply, keeping_reply};
 ghost use Rattle.gl_c.specs.locks.Tries.{tried_reply, tried_row_reply};
 ghost use Rattle.gl_c.specs.locks.Turns.{begun_reply, found_reply, turn_reply, word_reply};
 ghost use Rattle.gl_c.specs.locks.Verdicts.{verdict_reply};
@@ -161,6 +161,17 @@ impl Reply {
         }
     }
 
+    /// The reply for a commit that keeps locks: the transaction that began, if one did.
+    pub(crate) fn of_keeping(next: Result<Option<TxnId>, Refusal>) -> Reply
+        ensures { result ≡ keeping_reply next }
+    {
+        match next {
+            Ok(Some(txn)) => Reply::of(Answer::Begun(txn)),
+            Ok(None) => Reply::of(Answer::Done),
+            Err(refusal) => Reply::refused(refusal),
+        }
+    }
+
     /// The reply for a call about rows; if it is a lock that is not refused, with the row's node.
     /// Inlined for the same reason.
     #[inline(always)]
@@ -298,13 +309,15 @@ impl Reply {
         }
     }
 
-    /// The reply for a waiter that went on; `None` if there was none.
-    pub(crate) fn of_gone_on(came: Option<(TxnId, Came)>) -> Reply
-        ensures { result ≡ on_reply came }
+    /// The reply for a waiter that went on, and whether the wait of one is over after that; `None` if there
+    /// was none.
+    pub(crate) fn of_gone_on(came: Option<(TxnId, Came)>, over: bool) -> Reply
+        ensures { result ≡ on_reply came over }
     {
         match came {
             Some((txn, came)) => Reply {
                 txn: Txn::of(txn),
+                count: if over { 1 } else { 0 },
                 ..Reply::of_came(came)
             },
             None => Reply::with_status(NO_PLACE),

@@ -8,7 +8,7 @@ ghost use Rattle.gl_c.specs.Names.{node_id, txn_id};
 ghost use Rattle.gl_c.specs.answers.Notices.{Tells};
 ghost use Rattle.gl_c.specs.Numbers.{bad_number, mode_at};
 ghost use Rattle.gl_c.specs.locks.Paths.{path_call};
-ghost use Rattle.gl_c.specs.locks.Savepoints.{back_call};
+ghost use Rattle.gl_c.specs.locks.Savepoints.{back_call, keeping_call};
 
 use crate::answers::notices::Notices;
 use crate::answers::reply::Reply;
@@ -131,6 +131,23 @@ pub extern "C" fn bs_call_release_since(
     ensures { Carries (guarded_in manager.old) (back_call (txn_id txn) mark) result told.new (guarded_in manager.new) }
 {
     manager.release_since(txn.id(), mark, told)
+}
+
+/// Commits a transaction and begins another in its slot that keeps its first `keep` locks, if what it
+/// keeps are intentions alone, on nodes for which nobody waits; otherwise it keeps none, and no
+/// transaction begins. `since` is as for `bs_call_begin_again`. The reply has the transaction that
+/// began.
+#[unsafe(no_mangle)]
+pub extern "C" fn bs_call_commit_keeping(
+    manager: &mut Handle,
+    txn: Txn,
+    keep: usize,
+    since: u64,
+    told: &mut Notices,
+) -> Reply
+    ensures { Carries (guarded_in manager.old) (keeping_call (txn_id txn) keep since) result told.new (guarded_in manager.new) }
+{
+    manager.commit_keeping(txn.id(), keep, since, told)
 }
 
 /// Condemns victims, by the choice of victims, until the transaction is on no cycle of waits.

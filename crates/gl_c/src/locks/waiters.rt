@@ -124,7 +124,7 @@ pub extern "C" fn bs_call_withdraw_waiter(manager: &mut Handle, txn: Txn) -> Rep
 /// Continues the waiter of the lowest slot whose wait is over, by one command at most. The reply has its
 /// transaction and what its request came to: as the reply to the request would be if it has ended,
 /// `BS_WAITING` with the node and the mode if it waits, and `BS_ON_THE_WAY` if it goes on with the next
-/// call. `BS_NO_PLACE` if no wait is over.
+/// call. `count` is 1 if a wait is over after that, and 0 if none is. `BS_NO_PLACE` if no wait is over.
 #[unsafe(no_mangle)]
 pub extern "C" fn bs_call_go_on(manager: &mut Handle, told: &mut Notices) -> Reply
     ensures { Carries (guarded_in manager.old) on_call result told.new (guarded_in manager.new) }

@@ -12,7 +12,7 @@ ghost use Rattle.gl_c.specs.managers.Guarded.{waiting_in};
 ghost use Rattle.gl_c.specs.managers.Managing.{IsNew};
 ghost use Rattle.gl_c.specs.locks.Paths.{path_call};
 ghost use Rattle.gl_c.specs.locks.Rows.{row_call};
-ghost use Rattle.gl_c.specs.locks.Savepoints.{back_call};
+ghost use Rattle.gl_c.specs.locks.Savepoints.{back_call, keeping_call};
 ghost use Rattle.gl_c.specs.managers.Carries.{Performs, command_call};
 ghost use Rattle.gl_c.specs.managers.Serving.{KnowsWaits, ShowsOn};
 ghost use Rattle.gl_c.specs.watchers.Watching.{OnlyShows};
@@ -214,6 +214,29 @@ impl Guarded {
         keep_nobody(&mut self.showing, off.went_on);
         self.show_if_due();
         released
+    }
+
+    /// Commits a transaction and begins another in its slot that keeps its first `keep` locks, and puts
+    /// the notices into an empty list. Watchers are shown one snapshot after all of it.
+    pub(crate) fn serve_keeping(
+        &mut self,
+        txn: TxnId,
+        keep: usize,
+        since: u64,
+        told: &mut Told,
+    ) -> Result<Option<TxnId>, Refusal>
+        requires empty { told.old.items ≡ [] }
+        ensures { Performs self.old (keeping_call txn keep since) result told.new.items self.new }
+    {
+        let before = self.waiting.manager().accepted();
+        let (next, off) = self.waiting.commit_keeping(txn, keep, since, told);
+        if self.waiting.manager().accepted() == before {
+            return next;
+        }
+        self.ended = off.ended;
+        keep_nobody(&mut self.showing, off.went_on);
+        self.show_if_due();
+        next
     }
 
     /// Shows watchers the present snapshot if there is a watcher and the last snapshot may lack a wait.

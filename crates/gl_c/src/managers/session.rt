@@ -11,7 +11,7 @@ ghost use Rattle.gl_wakes.specs.Boxes.{verdict_of};
 ghost use Rattle.gl_c.specs.managers.Carries.{Answers, Replies, command_call};
 ghost use Rattle.gl_c.specs.questions.Looks.{looked};
 ghost use Rattle.gl_c.specs.locks.Paths.{path_call};
-ghost use Rattle.gl_c.specs.locks.Savepoints.{back_call};
+ghost use Rattle.gl_c.specs.locks.Savepoints.{back_call, keeping_call};
 ghost use Rattle.gl_c.specs.managers.Managing.{IsNew};
 ghost use Rattle.gl_c.specs.locks.Rows.{named_reply, row_call};
 ghost use Rattle.gl_c.specs.locks.Tries.{tried_path_call, tried_row_call};
@@ -123,6 +123,23 @@ impl Session {
         Reply::of_back(released)
     }
 
+    /// Commits a transaction and begins another in its slot that keeps its first `keep` locks, and
+    /// writes the notices.
+    pub(crate) fn commit_keeping(
+        &mut self,
+        txn: TxnId,
+        keep: usize,
+        since: u64,
+        notices: &mut Notices,
+    ) -> Reply
+        ensures { Replies self.old (keeping_call txn keep since) result notices.new self.new }
+    {
+        let next = self.guarded.serve_keeping(txn, keep, since, &mut self.told);
+        notices.put(self.told.as_slice());
+        self.told.clear();
+        Reply::of_keeping(next)
+    }
+
     /// Carries out a call about rows, and writes its notices.
     #[inline(always)]
     pub(crate) fn carry_out_row(&mut self, call: RowCall<'_>, notices: &mut Notices) -> Reply
@@ -212,10 +229,10 @@ impl Session {
     pub(crate) fn go_on(&mut self, notices: &mut Notices) -> Reply
         ensures { Replies self.old on_call result notices.new self.new }
     {
-        let came = self.guarded.go_on(&mut self.told);
+        let (came, over) = self.guarded.go_on(&mut self.told);
         notices.put(self.told.as_slice());
         self.told.clear();
-        Reply::of_gone_on(came)
+        Reply::of_gone_on(came, over)
     }
 
     /// Cancels the wait of a transaction whose time is over, and writes the notices.

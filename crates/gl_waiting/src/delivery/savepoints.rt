@@ -1,9 +1,10 @@
-//! Rollbacks to savepoints.
+//! Rollbacks to savepoints, and commits that keep the locks from before one.
 
 ghost use Rattle.std.specs.Prelude.{◌≡◌, ◌≤◌, [], OnErr, OnOk};
 ghost use Rattle.gl_catalog.specs.Manager.{state_of};
-ghost use Rattle.gl_rows.specs.Releasing.{GoesBackTo};
-ghost use Rattle.gl_waiting.specs.Delivering.{ComesToNothing, Delivered, unlocking};
+ghost use Rattle.gl_rows.specs.Releasing.{CommitsAndKeeps, GoesBackTo};
+ghost use Rattle.gl_steps.specs.declared.command.Command.TheVariants as command;
+ghost use Rattle.gl_waiting.specs.Delivering.{Carries, ComesToNothing, Delivered, unlocking};
 ghost use Rattle.gl_waiting.specs.Going.{IsRun};
 
 use super::{Delivery, deliver};
@@ -39,5 +40,29 @@ impl Delivery {
         };
         let ended = deliver(&mut self.boxes, &asked, told);
         (Ok(released), ended)
+    }
+
+    /// Commits a transaction and begins another in its slot that keeps its first `keep` locks, as
+    /// `Registry::commit_keeping`, with the notices put into an empty list.
+    #[inline(always)]
+    pub fn commit_keeping(
+        &mut self,
+        txn: TxnId,
+        keep: usize,
+        since: u64,
+        told: &mut Told,
+    ) -> (Result<Option<TxnId>, Refusal>, Slots)
+        requires empty { told.old.items ≡ [] }
+        ensures keeps { CommitsAndKeeps txn keep since self.old.manager self.old.rows result.0 told.new.items self.new.manager self.new.rows }
+        ensures carries { Carries self.old (command.Commit txn) told.new.items result.1 self.new }
+        ensures run { IsRun (state_of self.old.manager) (state_of self.new.manager) }
+    {
+        self.registry.law();
+        let next = match self.registry.commit_keeping(txn, keep, since, told) {
+            Ok(next) => next,
+            Err(refusal) => return (Err(refusal), Slots::empty()),
+        };
+        let ended = deliver(&mut self.boxes, &Command::Commit { txn }, told);
+        (Ok(next), ended)
     }
 }

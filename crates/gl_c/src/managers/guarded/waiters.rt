@@ -32,20 +32,21 @@ impl Guarded {
     }
 
     /// Continues the waiter of the lowest slot whose wait is over, and puts the notices into an empty
-    /// list. `None` if there is no such waiter.
-    pub(crate) fn go_on(&mut self, told: &mut Told) -> Option<(TxnId, Came)>
+    /// list. `None` if there is no such waiter. Also answers whether the wait of a waiter is over after that.
+    pub(crate) fn go_on(&mut self, told: &mut Told) -> (Option<(TxnId, Came)>, bool)
         requires empty { told.old.items ≡ [] }
         ensures { Performs self.old on_call result told.new.items self.new }
     {
         let before = self.waiting.manager().accepted();
         let (came, off) = self.waiting.go_on(told);
+        let over = self.waiting.has_next();
         if self.waiting.manager().accepted() == before {
-            return came;
+            return (came, over);
         }
         self.ended = off.ended;
         keep_nobody(&mut self.showing, true);
         self.show_if_due();
-        came
+        (came, over)
     }
 
     /// Cancels the wait of a transaction whose time is over, and puts the notices into an empty list.

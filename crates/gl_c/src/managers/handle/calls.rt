@@ -15,7 +15,7 @@ ghost use Rattle.gl_model.specs.State.{members, waits_for};
 ghost use Rattle.gl_catalog.specs.Manager.{IsLawfulManager};
 ghost use Rattle.gl_c.specs.questions.Looks.{Looks};
 ghost use Rattle.gl_c.specs.locks.Paths.{path_call};
-ghost use Rattle.gl_c.specs.locks.Savepoints.{back_call};
+ghost use Rattle.gl_c.specs.locks.Savepoints.{back_call, keeping_call};
 ghost use Rattle.gl_c.specs.answers.Notices.{Tells};
 ghost use Rattle.gl_c.specs.Numbers.{no_manager};
 ghost use Rattle.gl_c.specs.answers.Replies.{status_reply};
@@ -144,6 +144,26 @@ impl Handle {
             return declined(told);
         };
         let reply = session.release_since(txn, mark, told);
+        *self = Handle::of(alloc, session);
+        reply
+    }
+
+    /// Commits a transaction and begins another in its slot that keeps its first `keep` locks, and
+    /// writes the notices.
+    pub(crate) fn commit_keeping(
+        &mut self,
+        txn: TxnId,
+        keep: usize,
+        since: u64,
+        told: &mut Notices,
+    ) -> Reply
+        ensures { Carries (guarded_in self.old) (keeping_call txn keep since) result told.new (guarded_in self.new) }
+    {
+        let alloc = self.alloc;
+        let Some(mut session) = self.take() else {
+            return declined(told);
+        };
+        let reply = session.commit_keeping(txn, keep, since, told);
         *self = Handle::of(alloc, session);
         reply
     }

@@ -24,12 +24,12 @@ invariant_of-self c =
 
 pub returns-then-accepted-before : goal.returns-then-accepted-before
 returns-then-accepted-before c =
-    subst (λ (g : GuardedView). Performs g on_call c.go_on-came.result.0 c.go_on-came.new.told.items
+    subst (λ (g : GuardedView). Performs g on_call (c.go_on-came.result.0, c.has_next-over.result) c.go_on-came.new.told.items
     (with_waiting (view_of c.self.inside) c.go_on-came.new.self)) c.self.view_is
     (leaves_idle c.self.inside c.go_on-came.new.self
     (turn_run c.self.inside.waiting _ c.go_on-came.result.1 c.go_on-came.new.self c.go_on-came.ensures
     (λ own mid h. on_run c.self.inside.waiting c.go_on-came.result.0 c.go_on-came.new.told.items own mid h)) c.self.invariant (same c) _
-    (λ known. false) c.go_on-came.result.1 c.go_on-came.ensures)
+    (λ known. false) c.go_on-came.result.1 (c.go_on-came.ensures, c.has_next-over.ensures))
 
 -- some were
 
@@ -45,13 +45,14 @@ invariant_of-self-2 c =
 
 pub returns : goal.returns
 returns c =
-    subst (λ (g : GuardedView). Performs g on_call c.go_on-came.result.0 c.go_on-came.new.told.items c.show_if_due.new.self) c.self.view_is
+    subst (λ (g : GuardedView). Performs g on_call (c.go_on-came.result.0, c.has_next-over.result) c.go_on-came.new.told.items c.show_if_due.new.self)
+    c.self.view_is
     (leaves_counted c.self.inside c.go_on-came.new.self
     (turn_run c.self.inside.waiting _ c.go_on-came.result.1 c.go_on-came.new.self c.go_on-came.ensures
     (λ own mid h. on_run c.self.inside.waiting c.go_on-came.result.0 c.go_on-came.new.told.items own mid h)) c.self.invariant
     c.go_on-came.result.1.went_on (λ known. false) c.keep_nobody.new.showing c.keep_nobody.ensures.shown
     (forgets c.go_on-came.result.1.went_on (parties_in c.self.inside.showing) (parties_in c.keep_nobody.new.showing) c.keep_nobody.ensures.parties) _
-    c.go_on-came.result.1 c.show_if_due.new.self refl c.go_on-came.ensures
+    c.go_on-came.result.1 c.show_if_due.new.self refl (c.go_on-came.ensures, c.has_next-over.ensures)
     (λ is. c.if-accepted-before.false (counted_as _ _ _ c.accepted.ensures c.manager-2.ensures ∙ is
     ∙ sym (counted_as _ _ _ c.accepted-before.ensures c.manager.ensures))) c.show_if_due.ensures.kept c.show_if_due.ensures.shown
     c.show_if_due.ensures.known)
