@@ -7,16 +7,17 @@
 # For each piece of work and each number of threads it prints a line for ours and one for Berkeley DB: transactions a
 # second, how many times that of one thread these are, commands a second, the nanoseconds of a transaction at the median
 # and at the 99th of a hundred, and the victims of a thousand transactions. WORD names a piece of work (own, own-list,
-# hot, hot-list, nodes, nodes-list, numbers, numbers-list); all by default. CC names another compiler than cc. It ends
-# with status 1 if an answer of either side is not as it should be: each is checked. Without Berkeley DB a line says so,
-# and only ours is printed.
+# own-session, hot, hot-list, nodes, nodes-list, numbers, numbers-list); all by default. CC names another compiler than
+# cc. It ends with status 1 if an answer of either side is not as it should be: each is checked. Without Berkeley DB a
+# line says so, and only ours is printed.
 #
 # A turn takes SECONDS (0.3 by default) from the begin of the first thread, and ends when each thread has ended its
 # current transaction. Each figure is the median of five turns; the sides run by turns. A transaction's time is from the
 # end of the one before to its own end, in buckets of a sixteenth. The threads do nothing but their transactions: no
 # engine works between the calls. So the table is always in use, and what threads gain is the least that is possible.
 #
-# - Own: begin, IX on a database, an area and a file, X on a record of the thread's own, commit.
+# - Own: begin, IX on a database, an area and a file, X on a record of the thread's own, commit. In a session the
+#   intentions are kept; theirs are one lock_vec with the record.
 # - Hot: the same with one record for all threads, which wait for each other.
 # - By nodes: four rows of 10,000, drawn at random, each read (S) or written (X) at random. A row is a node below a file
 #   and below the one interval of its index; each is locked by bs_table_lock_path. Under its lock the row is read, and

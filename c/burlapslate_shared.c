@@ -10,12 +10,15 @@
  * command, which continues by table_go_on those whose wait is over; table_hand_on, after what may have ended a
  * transaction; table_sleep, when a lock waits; table_sleep_in_begin_queue, when a begin does; bs_table_end; and
  * table_watch_over, the thread that watches. So are the ends of asks, told by a callback: table_tell, after each
- * critical section that has some. All else here makes calls of the library between these. burlapslate_running.c times
- * the waits: table_register, table_note_ended, table_gone_on and table_time_out tell it of them.
+ * critical section that has some; and sessions: who rests, and that it is ended if a request waits for it, as the
+ * library says, or if a begin finds no slot. All else here makes calls of the library between these.
+ * burlapslate_running.c times the waits: table_register, table_note_ended, table_gone_on and table_time_out tell it of
+ * them.
  * burlapslate_trace.c makes the commands of a traced table: table_make_* ask it.
  */
 #include "burlapslate_dump.h"
 #include "burlapslate_inside.h"
+#include "burlapslate_session.h"
 
 #include <errno.h>
 #include <pthread.h>
@@ -68,11 +71,10 @@ typedef struct table_request {
   table_row row;   /* of a row */
 } table_request;
 
-/* Who awaits the end of a request: a thread that sleeps, in the frame of its call, or an ask. */
+/* A thread that sleeps, in the frame of its call, or an ask: it awaits the end of a request. */
 typedef struct table_waiter {
   struct table_asked *ask;      /* null: a thread sleeps */
   const struct timespec *until; /* the time of its call, read within that alone */
-  bs_node at;                   /* the node for which it waits */
   bool has_ended;
   bs_reply end;
 } table_waiter;
@@ -116,7 +118,8 @@ struct bs_table {
   bs_notices told;                /* by the last command whose caller wanted no list */
   table_asks *asks;               /* null if nobody can ask without a sleep */
   size_t sleepers;                /* how many threads sleep, for a lock or for a slot */
-  uint64_t waited;                /* how many commands had been accepted when the last lock was left waiting */
+  uint64_t waited;                /* how many commands had been accepted when the last lock was left waiting; 1 if no
+                                   * thread watched then: the first board of one that starts later has all waits */
   bs_slots to_wake;               /* the slots whose sleepers must be woken after this hold */
   bs_table *held_before;          /* if bs_table_hold holds this one: what its holder held before */
   uint32_t looks;                 /* how often a thread that finds the latch held retries before it sleeps */
@@ -124,6 +127,9 @@ struct bs_table {
   table_waiter *waiters[BS_SLOTS]; /* by slot: who awaits its end */
   table_deadline deadlines[BS_SLOTS]; /* by slot: of the transaction of this age, and of no later one */
   table_instant instants[BS_SLOTS]; /* by slot: for which lock it waited that a list requested, up to its next wait */
+  size_t rests;                   /* how many transactions of sessions rest */
+  bs_slots resting;               /* their slots */
+  uint64_t resting_ages[BS_SLOTS]; /* by slot: of the transaction of this age, and of no later one */
   size_t to_tell;                 /* how many ends of asks must be told, and asks that tell others' before they end */
   pthread_cond_t left;            /* the last sleeper has left an ending table, or the last end was told */
   bool is_watched;                /* there is a thread that watches, and it looks by `eye` */
@@ -312,6 +318,18 @@ static bool table_is_same_node(bs_node one, bs_node other) {
   return one.key == other.key && one.birth == other.birth;
 }
 
+/* A transaction rests from now on. If one that rested in its slot was aborted by name, that is still counted. */
+static void table_rests_now(bs_table *table, bs_txn txn) {
+  if (!bs_has(table->resting, txn.slot)) table->rests++;
+  table->resting.words[txn.slot / 64] |= (uint64_t)1 << txn.slot % 64;
+  table->resting_ages[txn.slot] = txn.age;
+}
+
+static void table_rests_no_more(bs_table *table, uint32_t slot) {
+  table->resting.words[slot / 64] &= ~((uint64_t)1 << slot % 64);
+  table->rests--;
+}
+
 /* The request of this waiter has ended: wakes its thread as the hold ends; an ask is answered by its call, or else its
  * end must be told. */
 static void table_end(bs_table *table, table_waiter *waiter, uint32_t slot, bs_reply end) {
@@ -320,6 +338,7 @@ static void table_end(bs_table *table, table_waiter *waiter, uint32_t slot, bs_r
   table->waiters[slot] = NULL;
   waiter->end = end;
   waiter->end.txn = bs_call_only(BS_DONE).txn;
+  waiter->end.count = 0;
   waiter->has_ended = true;
   if (ask == NULL) {
     table->to_wake.words[slot / 64] |= (uint64_t)1 << slot % 64;
@@ -346,6 +365,10 @@ static void table_end_instant(bs_table *table, bs_reply end) {
 static TABLE_APART void table_blocked(bs_table *table, bs_status status) {
   if (status == BS_VICTIM) bs_call_condemned(&table->running);
   if (status != BS_WAITING) return;
+  if (!table->is_watched) {
+    table->waited = 1;
+    return;
+  }
   table->waited = bs_call_accepted(&table->manager).count;
   pthread_cond_signal(&table->began);
 }
@@ -353,28 +376,67 @@ static TABLE_APART void table_blocked(bs_table *table, bs_status status) {
 /* A waiter has gone on, and its request came to this. */
 static void table_gone_on(bs_table *table, bs_reply came) {
   table_waiter *waiter = table->waiters[came.txn.slot];
-  if (came.status == BS_WAITING) {
-    bs_call_wait_began(&table->running, came.txn);
-    if (waiter != NULL) waiter->at = came.node;
-  }
+  if (came.status == BS_WAITING) bs_call_wait_began(&table->running, came.txn);
   table_blocked(table, came.status);
   if (came.status == BS_WAITING || came.status == BS_ON_THE_WAY) return;
   if (waiter == NULL) table_end_instant(table, came);
   else table_end(table, waiter, came.txn.slot, came);
 }
 
-/* Continues each waiter whose wait is over, by rising slots, until none is: the library says which, and how. Adds what
- * that tells. */
+/* Ends a transaction that rests: it holds intentions alone, and has done nothing. If it was aborted by name, nothing is
+ * left to end. Adds what that tells. */
+static void table_end_resting(bs_table *table, uint32_t slot, bs_notices *told) {
+  bs_txn txn;
+  bs_notices more;
+  txn.slot = slot;
+  txn.age = table->resting_ages[slot];
+  table_rests_no_more(table, slot);
+  if (table_make_commit(table, txn, &more).status != BS_DONE) return;
+  table_note_ended(table, &more);
+  table_tell_too(told, &more);
+}
+
+/* Ends those of these who rest; whether there were any. */
+static TABLE_APART bool table_end_those_who_rest(bs_table *table, const bs_slots *among, bs_notices *told) {
+  size_t before = table->rests;
+  uint32_t from;
+  for (from = 0; from < BS_SLOTS; from += 64) {
+    uint64_t word = among->words[from / 64] & table->resting.words[from / 64];
+    for (; word != 0; word &= word - 1) table_end_resting(table, from + (uint32_t)__builtin_ctzll(word), told);
+  }
+  return table->rests < before;
+}
+
+/* Ends those who rest and for whom this transaction waits: nobody ever waits for one who rests. The library says for
+ * whom it waits. */
+static TABLE_APART bool table_end_in_the_way(bs_table *table, bs_txn txn, bs_notices *told) {
+  bs_slots among = bs_waits_for(&table->manager, txn).slots;
+  return table_end_those_who_rest(table, &among, told);
+}
+
+/* Continues each waiter whose wait is over, by rising slots, until none is: the library says which, and how, and whether
+ * one is after that. Adds what that tells. */
 static TABLE_APART void table_go_on(bs_table *table, bs_notices *told) {
   bs_notices more;
-  bs_reply came = table_make_call_go_on(table, &more);
-  for (; came.status != BS_NO_PLACE; came = table_make_call_go_on(table, &more)) {
+  bs_reply came;
+  bool is_over;
+  do {
+    came = table_make_call_go_on(table, &more);
+    if (came.status == BS_NO_PLACE) return;
     if (more.count > 0) {
       table_note_ended(table, &more);
       table_tell_too(told, &more);
     }
     table_gone_on(table, came);
-  }
+    is_over = came.count != 0;
+    if (table->rests > 0 && came.status == BS_WAITING) is_over |= table_end_in_the_way(table, came.txn, told);
+  } while (is_over);
+}
+
+/* After a request that was left waiting: ends those who rest and are in its way, and continues whose wait that ends. One
+ * for a row is in nobody's way who rests: a record is held in S or X alone. */
+static TABLE_APART void table_clear_way(bs_table *table, bs_txn txn, bs_notices *told) {
+  if (table_end_in_the_way(table, txn, told)) table_go_on(table, told);
 }
 
 /* Continues those whose wait the last accepted command has ended. */
@@ -422,20 +484,20 @@ static uint64_t table_earlier(const bs_table *table, bs_txn txn, const struct ti
   return own->age == txn.age && own->time < time ? own->time : time;
 }
 
-/* Registers with the library a request that waits so. */
-static void table_await(bs_table *table, const table_request *request, table_wait wait, uint64_t until) {
+/* Registers with the library a request that waits so, unless its wait is over or has a waiter: answers BS_WAITING if it
+ * was registered. */
+static bs_reply table_await(bs_table *table, const table_request *request, table_wait wait, uint64_t until) {
   const table_row *row = &request->row;
   bs_manager *m = &table->manager;
   bs_txn txn = request->txn;
   bs_mode mode = request->mode;
   switch (request->kind) {
     case TABLE_PATH:
-      bs_call_await_path(m, txn, request->node, mode, request->is_instant, wait.node, wait.mode, until);
-      break;
+      return bs_call_await_path(m, txn, request->node, mode, request->is_instant, wait.node, wait.mode, until);
     case TABLE_ROW:
-      bs_call_await_row(m, txn, row->file, row->number, bs_call_numbers(row->keys), row->count, mode, wait.node, until);
-      break;
-    default: bs_call_await_node(m, txn, request->node, mode, request->is_instant, until); break;
+      return bs_call_await_row(m, txn, row->file, row->number, bs_call_numbers(row->keys), row->count, mode, wait.node,
+                               until);
+    default: return bs_call_await_node(m, txn, request->node, mode, request->is_instant, until);
   }
 }
 
@@ -445,36 +507,37 @@ static void table_note_wait(bs_table *table, bs_txn txn) {
   bs_call_wait_began(&table->running, txn);
 }
 
-/* The same of a request of a list, which nobody awaits yet. One for an instant is released when it is granted, whoever
+/* Leaves a request of a list waiting, which nobody awaits yet. One for an instant is released when it is granted, whoever
  * awaits it. */
 static void table_leave_waiting(bs_table *table, const table_request *request, table_wait wait) {
   table_instant *own = &table->instants[request->txn.slot];
-  table_note_wait(table, request->txn);
   if (!request->is_instant || !table_is_same_node(wait.node, request->node)) return;
   own->txn = request->txn;
   own->node = request->node;
   bs_call_await_node(&table->manager, request->txn, request->node, request->mode, true, TABLE_NO_TIME);
 }
 
-/* Who awaits the end of a wait. A thread that sleeps has its own time, and an ask the library's. */
-static void table_enlist(bs_table *table, const table_request *request, table_wait wait, table_waiter *waiter) {
-  uint64_t time = waiter->ask == NULL ? TABLE_NO_TIME : table_earlier(table, request->txn, waiter->until);
-  waiter->at = wait.node;
-  table->waiters[request->txn.slot] = waiter;
-  if (waiter->ask != NULL) waiter->ask->has_time = time != TABLE_NO_TIME;
-  table_await(table, request, wait, time);
+/* This waiter awaits the end of a wait from now on, unless that is over or has a waiter: answers BS_WAITING if it awaits
+ * it. A thread that sleeps looks at the clock itself; the library knows the time of an ask. */
+static bs_reply table_enlist(bs_table *table, const table_request *request, table_wait wait, table_waiter *waiter) {
+  uint64_t time = TABLE_NO_TIME;
+  bs_reply reply;
+  if (waiter->ask != NULL) {
+    time = table_earlier(table, request->txn, waiter->until);
+    waiter->ask->has_time = time != TABLE_NO_TIME;
+  }
+  reply = table_await(table, request, wait, time);
+  if (reply.status == BS_WAITING) table->waiters[request->txn.slot] = waiter;
+  return reply;
 }
 
 /* Registers the wait of a request that was just left waiting, before anybody goes on: what is set off then may end this
  * wait too. */
 static TABLE_APART void table_register(bs_table *table, const table_request *request, table_wait wait,
                                        table_waiter *waiter) {
-  if (waiter == NULL) {
-    table_leave_waiting(table, request, wait);
-    return;
-  }
   table_note_wait(table, request->txn);
-  table_enlist(table, request, wait, waiter);
+  if (waiter == NULL) table_leave_waiting(table, request, wait);
+  else table_enlist(table, request, wait, waiter);
 }
 
 /* Sleeps on a condition variable, with the latch held before and after, at most until a time if that is not null.
@@ -602,6 +665,36 @@ static TABLE_APART bs_reply table_sleep_in_begin_queue(bs_table *table, table_qu
   table_woken(table);
   pthread_cond_destroy(&own->came);
   return own->begun;
+}
+
+/* Ends the transaction that has rested longest: each renewal gives a greater age. */
+static void table_end_longest(bs_table *table) {
+  uint32_t slot, longest = BS_SLOTS;
+  for (slot = 0; slot < BS_SLOTS; slot++) {
+    if (!bs_has(table->resting, slot)) continue;
+    if (longest == BS_SLOTS || table->resting_ages[slot] < table->resting_ages[longest]) longest = slot;
+  }
+  table->told.count = 0;
+  if (longest < BS_SLOTS) table_end_resting(table, longest, &table->told);
+  if (table->told.count > 0) table_go_on(table, &table->told);
+}
+
+/* Whether a begin that was answered so is to be made again: no slot was free, and one who rested has given up its. */
+static inline bool table_makes_room(bs_table *table, bs_reply reply) {
+  if (__builtin_expect(reply.status != BS_TOO_MANY_TXNS, 1) || table->rests == 0) return false;
+  table_end_longest(table);
+  return true;
+}
+
+/* Makes the call bs_begin with the latch held. */
+static inline bs_reply table_begin_now(bs_table *table) {
+  bs_reply reply = table_make_begin(table);
+  return table_makes_room(table, reply) ? table_make_begin(table) : reply;
+}
+
+static bs_reply table_begin_again_now(bs_table *table, uint64_t since) {
+  bs_reply reply = table_make_begin_again(table, since);
+  return table_makes_room(table, reply) ? table_make_begin_again(table, since) : reply;
 }
 
 /* The time by CLOCK_MONOTONIC that is so far from now. */
@@ -823,20 +916,30 @@ bs_reply bs_table_add_index(bs_table *table, const bs_node *parents, size_t coun
  */
 
 bs_reply bs_table_begin(bs_table *table) {
-  TABLE_ASK(table, table_make_begin(table));
+  TABLE_ASK(table, table_begin_now(table));
 }
 
 bs_reply bs_table_begin_again(bs_table *table, uint64_t since) {
-  TABLE_ASK(table, table_make_begin_again(table, since));
+  TABLE_ASK(table, table_begin_again_now(table, since));
+}
+
+/* Begins, or sleeps for a slot, with the latch held before and after. Nobody sleeps for one while somebody rests. */
+static bs_reply table_begin_or_sleep(bs_table *table, uint64_t since, const struct timespec *until) {
+  table_queued_begin own;
+  bs_reply reply;
+  if (table->rests > 0) {
+    reply = table_begin_again_now(table, since);
+    if (reply.status != BS_TOO_MANY_TXNS) return reply;
+  }
+  own.since = since;
+  reply = table_make_call_begin_in_turn(table, since, (uint64_t)(uintptr_t)&own, UINT64_MAX);
+  return reply.status == BS_WAITING ? table_sleep_in_begin_queue(table, &own, until) : reply;
 }
 
 bs_reply bs_table_begin_again_in_turn(bs_table *table, uint64_t since, const struct timespec *until) {
-  table_queued_begin own;
   bs_reply reply;
   if (!table_enter_to_sleep(table, until)) return table_no_sleep(table);
-  own.since = since;
-  reply = table_make_call_begin_in_turn(table, since, (uint64_t)(uintptr_t)&own, UINT64_MAX);
-  if (reply.status == BS_WAITING) reply = table_sleep_in_begin_queue(table, &own, until);
+  reply = table_begin_or_sleep(table, since, until);
   table_release(table);
   return reply;
 }
@@ -905,6 +1008,7 @@ static TABLE_IN_LINE bs_reply table_lock_by(bs_table *table, bs_txn txn, bs_node
     table_register(table, &request, wait, waiter);
   }
   table_wake(table, reply.status, told, false);
+  if (reply.status == BS_WAITING && table->rests > 0) table_clear_way(table, txn, told);
   if (is_instant && reply.status == BS_DONE) table_give_back_at_once(table, txn, node, told);
   return reply;
 }
@@ -935,6 +1039,7 @@ static TABLE_IN_LINE bs_reply table_path_by(bs_table *table, bs_txn txn, bs_node
     table_register(table, &request, wait, waiter);
   }
   table_wake(table, reply.status, told, false);
+  if (reply.status == BS_WAITING && table->rests > 0) table_clear_way(table, txn, told);
   if (is_instant && reply.status == BS_DONE) table_give_back_at_once(table, txn, node, told);
   return reply;
 }
@@ -952,21 +1057,42 @@ static inline bs_reply table_path_now(bs_table *table, bs_txn txn, bs_node node,
   return table_path_by(table, txn, node, asked, false, waiter, told);
 }
 
-/* Requests the locks of a path up to its end, or to one that waits. Continues if others became victims for one
- * above. */
+/* Requests the locks of a path up to its end, or to one that waits. Continues if others became victims for one above.
+ * Adds the notices of all its locks to a list that is not the table's own. */
 static inline bs_reply table_path_through(bs_table *table, bs_txn txn, bs_node node, bs_mode asked,
-                                          table_waiter *waiter) {
+                                          table_waiter *waiter, bs_notices *told) {
   bs_reply reply;
   do {
     reply = table_path_now(table, txn, node, asked, waiter, &table->told);
+    if (told != &table->told) table_tell_too(told, &table->told);
   } while (reply.status == BS_ON_THE_WAY);
   return reply;
+}
+
+/* After a request of a node in this mode that was refused since it would block: ends those who rest there, if more than
+ * an intention is wanted; whether it has ended any. Then the request is made again. */
+static TABLE_APART bool table_clears_node(bs_table *table, bs_txn txn, bs_node node, bs_mode mode) {
+  bs_mode held = bs_held(&table->manager, txn, node).mode;
+  bs_slots among = bs_holders(&table->manager, node).slots;
+  bool is_intention = mode <= BS_IX && held <= BS_IX;
+  table->told.count = 0;
+  if (is_intention || !table_end_those_who_rest(table, &among, &table->told)) return false;
+  table_go_on(table, &table->told);
+  return true;
+}
+
+static inline bool table_may_clear(const bs_table *table, bs_reply reply) {
+  return __builtin_expect(reply.status == BS_WOULD_BLOCK, 0) && table->rests > 0;
 }
 
 /* Makes the call bs_try with the latch held. */
 static inline bs_reply table_try_now(bs_table *table, bs_txn txn, bs_node node, bs_mode asked) {
   bool is_instant = table_is_instant(table, txn, node, asked);
-  bs_reply reply = table_make_try(table, txn, node, table_mode_of(asked));
+  bs_mode mode = table_mode_of(asked);
+  bs_reply reply = table_make_try(table, txn, node, mode);
+  if (table_may_clear(table, reply) && table_clears_node(table, txn, node, mode)) {
+    reply = table_make_try(table, txn, node, mode);
+  }
   if (is_instant && reply.status == BS_DONE) table_give_back_at_once(table, txn, node, &table->told);
   return reply;
 }
@@ -982,11 +1108,17 @@ bs_reply bs_table_lock(bs_table *table, bs_txn txn, bs_node node, bs_mode mode, 
   return reply;
 }
 
-/* Awaits a wait that a list began. Answers what became of it; BS_WAITING if it still waits, and is awaited. */
+/* Awaits a wait that a list began. Answers what became of it; BS_WAITING if it still waits, and is awaited. It asks for
+ * that only if it can neither await the wait nor has its grant: the library has a waiter already if another awaits it, or
+ * if a list requested it for an instant. */
 static bs_reply table_await_left(bs_table *table, bs_txn txn, bs_node node, bs_mode mode, table_waiter *waiter) {
   table_request request = table_request_of(TABLE_NODE, txn, node, mode, false);
   table_wait wait = { node, mode };
-  bs_reply reply = table_became(table, txn, node, mode);
+  bs_reply reply = bs_call_only(BS_NO_SUCH_TXN);
+  if (txn.slot < BS_SLOTS) reply = table_enlist(table, &request, wait, waiter);
+  if (reply.status == BS_WAITING) return bs_call_only(BS_WAITING);
+  if (reply.status == BS_DONE) return reply;
+  reply = table_became(table, txn, node, mode);
   if (reply.status != BS_WAITING) return reply;
   if (table->waiters[txn.slot] != NULL) return bs_call_only(BS_IN_USE);
   request.is_instant = bs_call_withdraw_waiter(&table->manager, txn).status == BS_DONE;
@@ -1041,8 +1173,15 @@ bs_reply bs_table_settle(bs_table *table, bs_txn txn, bs_notices *told) {
   TABLE_TELL(table, told, false, table_make_settle(table, txn, list));
 }
 
+/* Makes the call bs_escalate with the latch held. */
+static bs_reply table_do_escalate(bs_table *table, bs_txn txn, bs_node node, bs_notices *told) {
+  bs_reply reply = table_make_escalate(table, txn, node, told);
+  if (!table_may_clear(table, reply) || !table_clears_node(table, txn, node, BS_X)) return reply;
+  return table_make_escalate(table, txn, node, told);
+}
+
 bs_reply bs_table_escalate(bs_table *table, bs_txn txn, bs_node node, bs_notices *told) {
-  TABLE_TELL(table, told, false, table_make_escalate(table, txn, node, list));
+  TABLE_TELL(table, told, false, table_do_escalate(table, txn, node, list));
 }
 
 bs_reply bs_table_lock_path(bs_table *table, bs_txn txn, bs_node node, bs_mode mode, const struct timespec *until) {
@@ -1050,7 +1189,7 @@ bs_reply bs_table_lock_path(bs_table *table, bs_txn txn, bs_node node, bs_mode m
   bs_reply reply;
   if (!table_enter_to_sleep(table, until)) return table_no_sleep(table);
   table_sleeper(&own, until);
-  reply = table_path_through(table, txn, node, mode, &own);
+  reply = table_path_through(table, txn, node, mode, &own, &table->told);
   if (reply.status == BS_WAITING) reply = table_sleep(table, txn, &own);
   table_release(table);
   return reply;
@@ -1064,6 +1203,8 @@ static inline bs_reply table_tried(bs_table *table, bs_reply reply) {
 
 /* Tries a path with the latch held. */
 static TABLE_APART bs_reply table_path_tried(bs_table *table, bs_txn txn, bs_node node, bs_mode mode, uint32_t keep) {
+  bs_reply reply = table_tried(table, table_make_call_try_path(table, txn, node, mode, keep, &table->told));
+  if (!table_may_clear(table, reply) || !table_clears_node(table, txn, node, mode)) return reply;
   return table_tried(table, table_make_call_try_path(table, txn, node, mode, keep, &table->told));
 }
 
@@ -1326,7 +1467,7 @@ static bs_reply table_leave_asked(bs_table *table, table_asked *own, bs_reply re
   if (waits && !own->waiter.has_ended && table->is_due) table_ask_and_tell(table);
   own->is_inside = false;
   if (waits && own->waiter.has_ended) reply = own->waiter.end;
-  else if (waits && reply.node.birth != 0) reply.node = own->waiter.at;
+  else if (waits && reply.node.birth != 0) reply.node = bs_call_doing(&table->manager, own->txn).node;
   if (!waits || own->waiter.has_ended) table_spare(table, own);
   if (!waits || table->stage == TABLE_OPEN) return table_leave(table, reply);
   pthread_mutex_unlock(&table->latch);
@@ -1354,7 +1495,8 @@ bs_reply bs_table_ask_path(bs_table *table, bs_txn txn, bs_node node, bs_mode mo
   bs_reply reply;
   table_asked *own = table_enter_to_ask(table, txn, until, word, &reply);
   if (own == NULL) return reply;
-  return table_leave_asked(table, own, table_path_through(table, txn, node, mode, &own->waiter));
+  reply = table_path_through(table, txn, node, mode, &own->waiter, &table->told);
+  return table_leave_asked(table, own, reply);
 }
 
 bs_reply bs_table_ask_row(bs_table *table, bs_txn txn, bs_node file, uint64_t number, const uint64_t *keys,
@@ -1400,17 +1542,142 @@ bs_reply bs_table_expire(bs_table *table, struct timespec *next) {
 }
 
 /* ------------------------------------------------------------------------------------------------
+ * Sessions.
+ */
+
+/* Whether the last transaction of a session rests. */
+static bool table_session_rests(const bs_table *table, const bs_session *session) {
+  bs_txn own = session->txn;
+  return own.age != 0 && bs_has(table->resting, own.slot) && table->resting_ages[own.slot] == own.age;
+}
+
+static bool table_session_lives(const bs_table *table, const bs_session *session) {
+  return session->txn.age != 0 && bs_call_doing(&table->manager, session->txn).status == BS_DONE;
+}
+
+/* A session takes a transaction up, or has none. */
+static bs_reply table_session_has(bs_session *session, bs_reply begun) {
+  session->txn = begun.status == BS_DONE ? begun.txn : bs_call_only(BS_DONE).txn;
+  session->kept = 0;
+  return begun;
+}
+
+/* Begins the next transaction of a session: the one that rests is it, unless it was aborted by name. */
+static bs_reply table_session_begin(bs_table *table, bs_session *session, const struct timespec *until) {
+  bs_reply reply = bs_call_only(BS_DONE);
+  bool rests = table_session_rests(table, session);
+  if (rests) table_rests_no_more(table, session->txn.slot);
+  if (table_session_lives(table, session)) {
+    if (!rests) return bs_call_only(BS_IN_USE);
+    reply.txn = session->txn;
+    return reply;
+  }
+  return table_session_has(session, table_begin_or_sleep(table, TABLE_NEW_WORK, until));
+}
+
+bs_reply bs_session_begin(bs_session *session, const struct timespec *until) {
+  bs_reply reply;
+  if (session == NULL) return bs_call_null();
+  if (!table_enter_to_sleep(session->table, until)) return table_no_sleep(session->table);
+  reply = table_session_begin(session->table, session, until);
+  table_release(session->table);
+  return reply;
+}
+
+/* Ends the one that rests, if there is one. */
+static void table_session_rests_no_more(bs_table *table, bs_session *session) {
+  table->told.count = 0;
+  if (table_session_rests(table, session)) table_end_resting(table, session->txn.slot, &table->told);
+  if (table->told.count > 0) table_go_on(table, &table->told);
+}
+
+bs_reply bs_session_begin_again(bs_session *session, uint64_t since, const struct timespec *until) {
+  bs_reply reply;
+  if (session == NULL) return bs_call_null();
+  if (!table_enter_to_sleep(session->table, until)) return table_no_sleep(session->table);
+  table_session_rests_no_more(session->table, session);
+  if (table_session_lives(session->table, session)) return table_leave(session->table, bs_call_only(BS_IN_USE));
+  reply = table_session_has(session, table_begin_or_sleep(session->table, since, until));
+  table_release(session->table);
+  return reply;
+}
+
+/* How many of the first locks of a session's transaction are intentions, up to as many as it keeps. Those that it kept
+ * at the last commit have their places still. */
+static uint32_t table_first_intentions(const bs_table *table, const bs_session *session) {
+  uint32_t count = session->kept < session->most ? session->kept : session->most;
+  for (; count < session->most; count++) {
+    bs_reply lock = bs_lock_at(&table->manager, session->txn, count);
+    if (lock.status != BS_DONE || (lock.mode != BS_IS && lock.mode != BS_IX)) break;
+  }
+  return count;
+}
+
+/* The same as bs_commit_keeping by commands that are lines of a trace. */
+static TABLE_APART bs_reply table_commit_in_lines(bs_table *table, bs_txn txn, uint32_t keep, bs_notices *told) {
+  bs_notices more;
+  bs_reply renewed, reply = table_make_release_since(table, txn, keep, told);
+  if (reply.status != BS_DONE) return reply;
+  table_wake(table, reply.status, told, false);
+  renewed = table_make_renew(table, txn, TABLE_NEW_WORK);
+  if (renewed.status == BS_DONE) return renewed;
+  reply = table_make_commit(table, txn, &more);
+  table_tell_too(told, &more);
+  return reply;
+}
+
+static inline bs_reply table_commit_keeping(bs_table *table, bs_txn txn, uint32_t keep, bs_notices *told) {
+  if (__builtin_expect(table->is_traced, 0)) return table_commit_in_lines(table, txn, keep, told);
+  return bs_commit_keeping(&table->manager, txn, keep, TABLE_NEW_WORK, told);
+}
+
+/* Commits a session's transaction, and lets the next one rest. While others sleep for a slot nobody rests. */
+static bs_reply table_commit_and_rest(bs_table *table, bs_session *session, bs_notices *told) {
+  uint32_t keep = table->queued > 0 ? 0 : table_first_intentions(table, session);
+  bs_reply reply;
+  if (keep == 0) return table_make_commit(table, session->txn, told);
+  reply = table_commit_keeping(table, session->txn, keep, told);
+  if (reply.status != BS_DONE || reply.txn.age == 0) return reply;
+  session->txn = reply.txn;
+  session->kept = keep;
+  table_rests_now(table, reply.txn);
+  reply = bs_call_only(BS_DONE);
+  reply.count = keep;
+  return reply;
+}
+
+bs_reply bs_session_commit(bs_session *session, bs_notices *told) {
+  bs_notices *list;
+  bs_table *table = session == NULL ? NULL : session->table;
+  bs_reply reply;
+  if (!table_enter(table)) return table_tell_none(table, told);
+  list = table_list_of(table, told);
+  list->count = 0;
+  if (table_session_rests(table, session)) return table_leave(table, bs_call_only(BS_NO_SUCH_TXN));
+  reply = table_commit_and_rest(table, session, list);
+  table_wake(table, reply.status, list, false);
+  table_hand_on(table);
+  table_release(table);
+  return reply;
+}
+
+bs_reply bs_session_end(bs_session *session) {
+  bs_table *table = session == NULL ? NULL : session->table;
+  if (!table_enter(table)) return table_no_table(table);
+  table_session_rests_no_more(table, session);
+  if (table_session_lives(table, session)) return table_leave(table, bs_call_only(BS_IN_USE));
+  table_session_has(session, bs_call_only(BS_NO_SUCH_TXN));
+  table_hand_on(table);
+  return table_leave(table, bs_call_only(BS_DONE));
+}
+
+/* ------------------------------------------------------------------------------------------------
  * Several commands in one critical section.
  */
 
 /* The rest of a path in a list, whose caller has the notices of all its locks. */
 static TABLE_APART bs_reply table_path_made_on(bs_table *table, const bs_command *c, bs_txn txn, bs_notices *told) {
-  bs_reply reply;
-  do {
-    reply = table_path_now(table, txn, c->node, c->mode, NULL, &table->told);
-    if (told != &table->told) table_tell_too(told, &table->told);
-  } while (reply.status == BS_ON_THE_WAY);
-  return reply;
+  return table_path_through(table, txn, c->node, c->mode, NULL, told);
 }
 
 /* A path in a list. If others became victims for a lock above, it continues, as a path that may sleep does. */
@@ -1419,14 +1686,9 @@ static bs_reply table_path_made(bs_table *table, const bs_command *c, bs_txn txn
   return reply.status == BS_ON_THE_WAY ? table_path_made_on(table, c, txn, told) : reply;
 }
 
-/* A lock for an instant in a list. */
-static TABLE_APART bs_reply table_instant_made(bs_table *table, const bs_command *c, bs_txn txn, bs_notices *told) {
-  return table_lock_instantly(table, txn, c->node, c->mode, NULL, told);
-}
-
 /* A lock in a list. Those whose wait it has ended go on after it, except after a lock for an instant. */
 static inline bs_reply table_lock_made(bs_table *table, const bs_command *c, bs_txn txn, bs_notices *told) {
-  if ((c->mode & BS_INSTANT) != 0) return table_instant_made(table, c, txn, told);
+  if ((c->mode & BS_INSTANT) != 0) return table_lock_instantly(table, txn, c->node, c->mode, NULL, told);
   return table_make_lock(table, txn, c->node, c->mode, told);
 }
 
@@ -1443,7 +1705,7 @@ static TABLE_APART bs_reply table_other_made(bs_table *table, const bs_command *
     case BS_DO_TRY: return table_try_now(table, txn, c->node, c->mode);
     case BS_DO_RELEASE_SINCE: return table_make_release_since(table, txn, c->number, told);
     case BS_DO_UNLOCK: return table_make_unlock(table, txn, c->node, told);
-    case BS_DO_ESCALATE: return table_make_escalate(table, txn, c->node, told);
+    case BS_DO_ESCALATE: return table_do_escalate(table, txn, c->node, told);
     case BS_DO_CANCEL: return table_make_cancel(table, txn, told);
     case BS_DO_ABORT: return table_make_abort(table, txn, told);
     case BS_DO_SETTLE: return table_make_settle(table, txn, told);
@@ -1453,7 +1715,7 @@ static TABLE_APART bs_reply table_other_made(bs_table *table, const bs_command *
     case BS_DO_UNLOCK_ROW: return table_make_unlock_row(table, txn, c->file, c->number, told);
     case BS_DO_TRY_PATH: return table_path_tried(table, txn, c->node, c->mode, c->keep);
     case BS_DO_TRY_ROW: return table_row_made(table, c, txn);
-    case BS_DO_BEGIN_AGAIN: return table_make_begin_again(table, c->number);
+    case BS_DO_BEGIN_AGAIN: return table_begin_again_now(table, c->number);
     default: return bs_call_only(BS_BAD_NUMBER);
   }
 }
@@ -1461,7 +1723,7 @@ static TABLE_APART bs_reply table_other_made(bs_table *table, const bs_command *
 /* Makes a command. */
 static inline bs_reply table_made(bs_table *table, const bs_command *c, bs_txn txn, bs_notices *told) {
   switch (c->kind) {
-    case BS_DO_BEGIN: return table_make_begin(table);
+    case BS_DO_BEGIN: return table_begin_now(table);
     case BS_DO_LOCK: return table_lock_made(table, c, txn, told);
     case BS_DO_COMMIT: return table_make_commit(table, txn, told);
     case BS_DO_INSERT: return table_make_insert(table, txn, c->file, c->keys, c->key_count);
@@ -1546,6 +1808,7 @@ static inline __attribute__((always_inline)) bs_status table_run_next(bs_table *
   next->reply = table_made(table, next, txn, told);
   if (next->reply.status == BS_WAITING) table_say_for_what(table, next, txn);
   table_wake(table, next->reply.status, told, by_name);
+  if (next->reply.status == BS_WAITING && table->rests > 0) table_clear_way(table, txn, told);
   if (next->reply.status == BS_WAITING && told->count > 0) table_settle_made(table, next, txn, told);
   return next->reply.status;
 }

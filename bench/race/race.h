@@ -61,7 +61,7 @@ play ours_crew, theirs_crew, theirs_crew_1, theirs_crew_16;
 
 /* The same through a shared table: a short transaction that writes, alone and beside a watcher that looks all the
  * time; a wait and its grant; crews. For the first two, a count has only what the thread that writes does. */
-play table_write, table_watched, table_wait, table_crew_1, table_crew_4, table_crew_16;
+play table_write, table_session, table_watched, table_wait, table_crew_1, table_crew_4, table_crew_16;
 
 /* And with all of it in one call. */
 play table_once_4, table_once_16;

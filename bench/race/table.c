@@ -4,7 +4,7 @@
 #include "race.h"
 #include "ours.h"
 
-#include "burlapslate_shared.h"
+#include "burlapslate_session.h"
 
 #include <pthread.h>
 #include <stdlib.h>
@@ -67,6 +67,28 @@ uint64_t table_write(long rounds) {
   uint64_t taken;
   open_table();
   taken = measured_rounds(rounds);
+  close_table();
+  return taken;
+}
+
+static MEASURED uint64_t measured_in_session(bs_session *session, long rounds) {
+  uint64_t start = now();
+  while (rounds-- > 0) {
+    bs_txn txn = DONE(bs_session_begin(session, NULL)).txn;
+    DONE(bs_table_lock_path(table, txn, own[0], BS_X, NULL));
+    DONE(bs_session_commit(session, NULL));
+  }
+  return now() - start;
+}
+
+/* The same transaction in a session, whose intentions are kept. */
+uint64_t table_session(long rounds) {
+  bs_session session;
+  uint64_t taken;
+  open_table();
+  session = bs_session_of(table, INNER_NODES);
+  taken = measured_in_session(&session, rounds);
+  DONE(bs_session_end(&session));
   close_table();
   return taken;
 }

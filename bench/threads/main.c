@@ -30,6 +30,7 @@ static const struct line {
 } lines[] = {
   { "own", "own record, by calls", OWN, false },
   { "own-list", "own record, in one list", OWN, true },
+  { "own-session", "own record, in a session", SESSIONS, true },
   { "hot", "one record for all, by calls", HOT, false },
   { "hot-list", "one record for all, in one list", HOT, true },
   { "nodes", "mix by nodes, by calls", NODES, false },
@@ -171,7 +172,7 @@ static void want_rows(const struct scene *scene, size_t threads) {
   size_t i;
   for (i = 0; i < threads; i++) written += workers[i].writes;
   for (i = 0; i < ROWS; i++) left += values[i];
-  WANT(scene->work == OWN || scene->work == HOT || written == left);
+  WANT(scene->work <= HOT || written == left);
 }
 
 /* The figures of a turn of this length. */

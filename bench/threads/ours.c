@@ -4,12 +4,13 @@
 #include "threads.h"
 #include "ours.h"
 
-#include "burlapslate_shared.h"
+#include "burlapslate_session.h"
 
 static bs_table *table;
 static bs_node path[INNER_NODES];
 static bs_node records[MOST_TOGETHER]; /* of each thread its own, or the same for all */
 static bs_command lists[MOST_TOGETHER][SHORT];
+static bs_session sessions[MOST_TOGETHER];
 static bs_node interval;               /* of the only index of the rows' file */
 static bs_node rows[ROWS];
 
@@ -33,6 +34,7 @@ static void make_records(bool is_hot) {
   for (i = 0; i < MOST_TOGETHER; i++) {
     records[i] = is_hot && i > 0 ? records[0] : DONE(bs_table_insert(table, txn, path[2], NULL, 0)).node;
     fill_list(lists[i], records[i]);
+    sessions[i] = bs_session_of(table, INNER_NODES);
   }
   DONE(bs_table_commit(table, txn, NULL));
 }
@@ -63,7 +65,7 @@ static void set_up(const struct scene *scene) {
   path[0] = DONE(bs_table_add_inner(table, NULL, 0)).node;
   path[1] = DONE(bs_table_add_inner(table, &path[0], 1)).node;
   path[2] = DONE((by_numbers ? bs_table_add_row_file : bs_table_add_file)(table, &path[1], 1)).node;
-  if (scene->work == OWN || scene->work == HOT) {
+  if (scene->work == OWN || scene->work == SESSIONS || scene->work == HOT) {
     make_records(scene->work == HOT);
   } else {
     make_index();
@@ -72,6 +74,10 @@ static void set_up(const struct scene *scene) {
 }
 
 static void tear_down(void) {
+  size_t i;
+  for (i = 0; i < MOST_TOGETHER; i++) {
+    if (sessions[i].table == table) DONE(bs_session_end(&sessions[i]));
+  }
   WANT(bs_group(bs_table_hold(table), path[0]).mode == BS_NL);
   DONE(bs_table_let_go(table));
   DONE(bs_table_end(table));
@@ -89,6 +95,16 @@ static bool short_by_calls(struct worker *worker, const struct touch *touches) {
   for (i = 0; i < INNER_NODES; i++) DONE(bs_table_lock(table, txn, path[i], BS_IX, NULL));
   DONE(bs_table_lock(table, txn, records[worker->number], BS_X, NULL));
   DONE(bs_table_commit(table, txn, NULL));
+  worker->commands += SHORT;
+  return true;
+}
+
+static bool short_in_session(struct worker *worker, const struct touch *touches) {
+  bs_session *session = &sessions[worker->number];
+  bs_txn txn = DONE(bs_session_begin(session, NULL)).txn;
+  (void)touches;
+  DONE(bs_table_lock_path(table, txn, records[worker->number], BS_X, NULL));
+  DONE(bs_session_commit(session, NULL));
   worker->commands += SHORT;
   return true;
 }
@@ -249,6 +265,7 @@ static try_one *play(const struct scene *scene) {
   switch (scene->work) {
     case NODES: return scene->in_lists ? nodes_in_lists : nodes_by_calls;
     case NUMBERS: return scene->in_lists ? numbers_in_lists : numbers_by_calls;
+    case SESSIONS: return short_in_session;
     default: return scene->in_lists ? short_in_list : short_by_calls;
   }
 }

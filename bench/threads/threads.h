@@ -18,10 +18,11 @@ enum {
 
 /* What the threads do. */
 enum works {
-  OWN,    /* short transactions, each thread on a record of its own */
-  HOT,    /* the same, all on one record */
-  NODES,  /* rows that are read and written, each with a permanent node */
-  NUMBERS /* the same by the rows' numbers; with Berkeley DB it is the same work as the one before */
+  OWN,      /* short transactions, each thread on a record of its own */
+  SESSIONS, /* the same, each thread in a session; with Berkeley DB it is the same work as the one before */
+  HOT,      /* the same, all on one record */
+  NODES,    /* rows that are read and written, each with a permanent node */
+  NUMBERS   /* the same by the rows' numbers; with Berkeley DB it is the same work as the one before */
 };
 
 /* The settings of a turn. */

@@ -86,7 +86,7 @@ int main(void) {
   TELL(locks_that_do_not_wait);
   TELL(jobs_in_a_table);
   TELL(savepoints);
-  TELL(renewals);
+  TELL(transactions_of_a_session);
   TELL(locks_for_an_instant);
   TELL(an_event_loop);
   TELL(which_node_for_what);

@@ -48,7 +48,7 @@ void jobs_in_a_table(void);
 
 /* savepoints.c */
 void savepoints(void);
-void renewals(void);
+void transactions_of_a_session(void);
 void locks_for_an_instant(void);
 
 /* loop.c */

@@ -1,11 +1,11 @@
 /*
- * Savepoints, renewals and locks for an instant, over a shared table: a statement that fails within a transaction, a
+ * Savepoints, sessions and locks for an instant, over a shared table: a statement that fails within a transaction, a
  * thread whose next transaction keeps intentions, and a key that is inserted before another, as engines do that lock
  * keys in place of intervals.
  */
 #include "guide.h"
 
-#include "burlapslate_shared.h"
+#include "burlapslate_session.h"
 
 #include <pthread.h>
 
@@ -70,34 +70,27 @@ void savepoints(void) {
   close_table();
 }
 
-/* Ends a transaction, and begins the thread's next one, which keeps so many of its locks: the intentions that each
- * needs. */
-static bs_txn next_transaction(bs_txn t, uint64_t intentions) {
-  bs_reply renewed;
-  DONE(bs_table_release_since(table, t, intentions, NULL));
-  renewed = bs_table_renew(table, t, UINT64_MAX);
-  if (renewed.status == BS_DONE) return renewed.txn;
-  DONE(bs_table_commit(table, t, NULL)); /* Somebody waits for them. */
-  return DONE(bs_table_begin(table)).txn;
+/* A short transaction of a thread. Its session keeps what is above the key for the next one. */
+static void write_key(bs_session *session, bs_node key) {
+  bs_txn t = DONE(bs_session_begin(session, NULL)).txn;
+  DONE(bs_table_lock_path(table, t, key, BS_X, NULL));
+  DONE(bs_session_commit(session, NULL));
 }
 
-void renewals(void) {
-  uint64_t intentions;
-  bs_txn t, first, reader;
+void transactions_of_a_session(void) {
+  bs_session session;
+  bs_txn t, reader;
   open_table();
-  t = first = DONE(bs_table_begin(table)).txn;
-  DONE(bs_table_lock_path(table, t, keys, BS_IX, NULL));
-  intentions = DONE(bs_table_mark(table, t)).count;
-  DONE(bs_table_lock(table, t, ten, BS_X, NULL));
-  t = next_transaction(t, intentions);
-  WANT(t.slot == first.slot && t.age > first.age);
+  session = bs_session_of(table, 16);
+  write_key(&session, ten);
+  t = DONE(bs_session_begin(&session, NULL)).txn;
   WANT(held(t, keys) == BS_IX && held(t, ten) == BS_NL);
+  DONE(bs_session_commit(&session, NULL));
   reader = DONE(bs_table_begin(table)).txn;
-  WANT(bs_table_try_path(table, reader, keys, BS_S, BS_KEEP_NOTHING).status == BS_WOULD_BLOCK);
-  DONE(bs_table_lock(table, t, twenty, BS_X, NULL));
-  t = next_transaction(t, intentions);
-  DONE(bs_table_commit(table, t, NULL));
+  DONE(bs_table_lock_path(table, reader, keys, BS_S, NULL)); /* It does not wait: the session rests. */
   DONE(bs_table_commit(table, reader, NULL));
+  write_key(&session, twenty);
+  DONE(bs_session_end(&session));
   close_table();
 }
 

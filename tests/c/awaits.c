@@ -58,6 +58,7 @@ static bs_reply goes(bs_txn txn, uint64_t kind, bs_status status, bs_mode mode, 
   came = answered(bs_call_go_on(m, &told), status, "the answer", __FILE__, line);
   wanted(same_txn(came.txn, txn), "the transaction that goes on", __FILE__, line);
   wanted(came.mode == mode, "the mode", __FILE__, line);
+  wanted(came.count == (bs_call_next_waiter(m).status == BS_DONE), "whether a wait is over after it", __FILE__, line);
   return came;
 }
 
@@ -70,6 +71,12 @@ static bs_reply goes(bs_txn txn, uint64_t kind, bs_status status, bs_mode mode, 
 static void wait_for_root(bs_mode mode) {
   DONE(bs_lock(m, a, db, BS_X, &told));
   ANSWERS(BS_WAITING, bs_lock(m, b, db, mode, &told));
+}
+
+/* The transaction that waits requests a path and waits for a node above its end in this mode; that is awaited. */
+static void await_path(bs_node node, bs_mode mode, uint32_t instant, bs_mode wanted) {
+  bs_node at = ANSWERS(BS_WAITING, bs_lock_path(m, b, node, mode, &told)).node;
+  ANSWERS(BS_WAITING, bs_call_await_path(m, b, node, mode, instant, at, wanted, NEVER));
 }
 
 static void a_lock_is_awaited_once(void) {
@@ -124,11 +131,9 @@ static void a_lock_for_an_instant_is_held_by_nobody(void) {
 }
 
 static void a_path_goes_on(void) {
-  bs_reply waits;
   begin(__func__);
   DONE(bs_lock(m, a, db, BS_X, &told));
-  waits = ANSWERS(BS_WAITING, bs_lock_path(m, b, record, BS_X, &told));
-  ANSWERS(BS_WAITING, bs_call_await_path(m, b, record, BS_X, 0, waits.node, BS_IX, NEVER));
+  await_path(record, BS_X, 0, BS_IX);
   DONE(bs_commit(m, a, &told));
   LOCKS_ON(b, BS_DONE, BS_X);
   WANT(bs_held(m, b, record).mode == BS_X);
@@ -136,12 +141,10 @@ static void a_path_goes_on(void) {
 }
 
 static void a_path_waits_again(void) {
-  bs_reply waits;
   begin(__func__);
   DONE(bs_lock(m, a, db, BS_S, &told));
   DONE(bs_lock_path(m, c, file, BS_S, &told));
-  waits = ANSWERS(BS_WAITING, bs_lock_path(m, b, record, BS_X, &told));
-  ANSWERS(BS_WAITING, bs_call_await_path(m, b, record, BS_X, 0, waits.node, BS_IX, NEVER));
+  await_path(record, BS_X, 0, BS_IX);
   DONE(bs_commit(m, a, &told));
   WANT(same_node(LOCKS_ON(b, BS_WAITING, BS_IX).node, file));
   DONE(bs_commit(m, c, &told));
@@ -150,11 +153,9 @@ static void a_path_waits_again(void) {
 }
 
 static void a_path_for_an_instant_gives_back_its_node(void) {
-  bs_reply waits;
   begin(__func__);
   DONE(bs_lock(m, a, db, BS_X, &told));
-  waits = ANSWERS(BS_WAITING, bs_lock_path(m, b, file, BS_S, &told));
-  ANSWERS(BS_WAITING, bs_call_await_path(m, b, file, BS_S, 1, waits.node, BS_IS, NEVER));
+  await_path(file, BS_S, 1, BS_IS);
   DONE(bs_commit(m, a, &told));
   WANT(same_node(LOCKS_ON(b, BS_ON_THE_WAY, BS_S).node, file));
   GIVES_BACK(b, BS_S);
@@ -163,11 +164,9 @@ static void a_path_for_an_instant_gives_back_its_node(void) {
 }
 
 static void a_path_ends_with_its_transaction(void) {
-  bs_reply waits;
   begin(__func__);
   DONE(bs_lock(m, a, db, BS_X, &told));
-  waits = ANSWERS(BS_WAITING, bs_lock_path(m, b, record, BS_X, &told));
-  ANSWERS(BS_WAITING, bs_call_await_path(m, b, record, BS_X, 0, waits.node, BS_IX, NEVER));
+  await_path(record, BS_X, 0, BS_IX);
   DONE(bs_abort(m, b, &told));
   ENDS(b, BS_NO_SUCH_TXN, BS_NL);
   end();

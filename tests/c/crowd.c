@@ -210,23 +210,26 @@ static void write_down_for(bs_manager *m, const struct call *call, bs_reply repl
   my_last = last;
 }
 
-/* The call by which a waiter is continued. */
+/* What bs_call_next_waiter says of a waiter that a command continues; 0 says that its request has ended. */
+enum { GIVES_BACK = 1, LOCKS_ON = 2, LOCKS_AGAIN = 3 };
+
+/* The command by which a waiter is continued. */
 static struct call call_of_next(bs_reply next) {
-  static const enum kind kinds[] = { CANCEL, UNLOCK, LOCK_PATH, LOCK_ROW };
-  struct call call = call_of(kinds[next.count], next.txn, next.node);
-  if (next.count == 3) return row_of[next.txn.slot];
-  call.mode = next.count == 2 ? next.mode : BS_NL;
+  struct call call = call_of(next.count == GIVES_BACK ? UNLOCK : LOCK_PATH, next.txn, next.node);
+  if (next.count == LOCKS_AGAIN) return row_of[next.txn.slot];
+  call.mode = next.count == LOCKS_ON ? next.mode : BS_NL;
   return call;
 }
 
 static bs_reply served_go_on(bs_manager *m, bs_notices *told) {
-  bs_reply next = bs_call_next_waiter(m), came, plain;
-  struct call call = next.status == BS_DONE ? call_of_next(next) : call_of(CANCEL, nobody, next.node);
-  plain = came = bs_call_go_on(m, told);
-  if (call.kind == CANCEL) return came;
+  bs_reply next = bs_call_next_waiter(m), came = bs_call_go_on(m, told), plain = came;
+  struct call call;
+  if (next.status != BS_DONE || next.count == 0) return came;
+  call = call_of_next(next);
   if (call.kind == UNLOCK) memset(&plain, 0, sizeof plain);
   if (call.kind == LOCK_PATH && (came.status == BS_WAITING || came.status == BS_ON_THE_WAY)) plain.mode = BS_NL;
   plain.txn = nobody;
+  plain.count = 0;
   write_down_for(m, &call, plain, told);
   return came;
 }

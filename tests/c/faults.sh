@@ -67,6 +67,7 @@ who-looks-does-not-sleep	/table_take_held(bs_table/,/^}/s/^  pthread_mutex_lock(
 release-wakes-nobody	s/^  table_wake_sleepers(table, &to_wake);//
 release-wakes-one	s/^    for (; word != 0; word \&= word - 1) pthread_cond_broadcast/    if (word != 0) pthread_cond_broadcast/
 release-wakes-the-first-word	/table_wake_sleepers(/,/^}/s/  for (i = 0; i < BS_SLOTS \/ 64; i++) {/  for (i = 0; i < 1; i++) {/
+watch-forgets-earlier-waits	/ table_blocked(bs_table/,/^}/s/^    table->waited = 1;//
 watch-is-not-woken	s/^  pthread_cond_signal(&table->began);//
 watch-forgets-to-wake	s/  table_wake(table, \(table_make_settle(.*\)\.status, &table->told, false);/  \1;/
 sleeper-is-cancelled	/table_doze(/,/^}/s/  pthread_setcancelstate(PTHREAD_CANCEL_DISABLE, &state);/  state = PTHREAD_CANCEL_ENABLE;/
@@ -87,9 +88,9 @@ section-is-nobodys	s/^  table_held = table;//
 section-is-anybodys	s/^static __thread [^ ]* bs_table/static bs_table/
 section-forgets-the-one-before	s/^  table->held_before = table_held;/  table->held_before = NULL;/
 let-go-holds-on	s/^  \*at = table->held_before;//
-listed-work-is-new	s/table_make_begin_again(table, c->number);/table_make_begin(table);/
+listed-work-is-new	s/table_begin_again_now(table, c->number);/table_begin_now(table);/
 work-in-turn-is-new	s/make_call_begin_in_turn(table, since,/make_call_begin_in_turn(table, TABLE_NEW_WORK,/
-work-again-is-new	s/  TABLE_ASK(table, table_make_begin_again(table, since));/  TABLE_ASK(table, table_make_begin(table));/
+work-again-is-new	s/  TABLE_ASK(table, table_begin_again_now(table, since));/  TABLE_ASK(table, table_begin_now(table));/
 call-keeps-the-slot	s/  table_hand_on(table);  *\\$/ \\/
 run-keeps-the-slot	/^size_t bs_table_run(/,/^}/s/^  table_hand_on(table);$//
 section-keeps-the-slot	/^bs_reply bs_table_let_go(/,/^}/s/^  table_hand_on(table);$//
@@ -230,18 +231,18 @@ trace-is-begun-twice	/^bs_reply bs_table_trace(/,/^}/s/^  if (table->is_traced) 
 trace-writes-long-lines	s/line->head.is_too_long || trace->length - start > TRACE_LONGEST/line->head.is_too_long/
 trace-keeps-its-memory	/^static void trace_free(/,/^}/s/^  free(trace->ring);//
 instant-stays-held-at-once	s/  if (is_instant \&\& reply.status == BS_DONE) table_give_back_at_once(.*//
-wait-is-not-registered	/ table_register(bs_table/,/^}/s/^  table_enlist(table, request, wait, waiter);//
+wait-is-not-registered	/ table_register(bs_table/,/^}/s/^  else table_enlist(table, request, wait, waiter);//
 lock-wakes-before-it-registers	/ table_lock_by(/,/^}/{/^    table_register(/d;s/^  table_wake(table, .*/&\n  if (reply.status == BS_WAITING) { table_request request = table_request_of(TABLE_NODE, txn, node, mode, is_instant); table_wait wait = { node, mode }; table_register(table, \&request, wait, waiter); }/}
 path-wakes-before-it-registers	/ table_path_by(/,/^}/{/^    table_register(/d;s/^  table_wake(table, .*/&\n  if (reply.status == BS_WAITING) { table_request request = table_request_of(TABLE_PATH, txn, node, mode, is_instant); table_wait wait = { reply.node, reply.mode }; table_register(table, \&request, wait, waiter); }/}
 path-asks-for-its-mode-too-late	/ table_path_by(/,/^}/s/wait.mode = bs_call_doing(&table->manager, txn).mode;/wait.mode = BS_IS;/
 wait-that-begins-is-not-noted	/^static void table_note_wait(/,/^}/s/^  bs_call_wait_began(.*//
 instant-that-came-is-the-next-wait	/^static void table_note_wait(/,/^}/s/^  table->instants.*//
 nobody-goes-on	/ table_wake_told(bs_table/,/^}/s/^  table_go_on(table, told);//
-one-goes-on	/ table_go_on(bs_table/,/^}/s/  for (; came.status != BS_NO_PLACE; came = .*/  if (came.status != BS_NO_PLACE) {/
+one-goes-on	s/^    is_over = came.count != 0;/    is_over = false;/
+an-end-says-who-goes-on	/^static void table_end(/,/^}/s/^  waiter->end.count = 0;//
 who-is-told-by-others-is-timed-on	/ table_go_on(bs_table/,/^}/s/^      table_note_ended(table, &more);//
-who-waits-again-is-not-timed	/^static void table_gone_on(/,/^}/s/^    bs_call_wait_began(.*//
+who-waits-again-is-not-timed	/^static void table_gone_on(/,/^}/s/^  if (came.status == BS_WAITING) bs_call_wait_began(.*//
 who-waits-again-is-not-watched	/^static void table_gone_on(/,/^}/s/^  table_blocked(table, came.status);//
-asked-path-forgets-its-node	/^static void table_gone_on(/,/^}/s/^    if (waiter != NULL) waiter->at = came.node;//
 notices-are-unordered	/^static void table_tell_too(/,/^}/s/^    while (place > 0 .*//
 notices-are-told-twice	/^static void table_tell_too(/,/^}/s/txn.slot >= next->txn.slot/txn.slot > next->txn.slot/
 nobody-is-to-wake	/^    table->to_wake.words/{n;s/.*//}
@@ -251,12 +252,12 @@ an-end-is-told-within-the-ask	s/^  } else if (!ask->is_inside) {/  } else {/
 an-end-is-not-to-be-told	/^    table->to_tell++;$/{n;s/.*//}
 listed-instant-stays-held	/^static void table_leave_waiting(/,/^}/s/^  bs_call_await_node(.*//
 listed-instant-is-of-nobody	/^static void table_leave_waiting(/,/^}/s/^  own->txn = request->txn;//
-path-is-awaited-as-a-node	/^static void table_await(/,/^}/s/  switch (request->kind) {/  switch (TABLE_NODE) {/
-asked-row-keeps-no-keys	/^static void table_await(/,/^}/s/bs_call_numbers(row->keys), row->count/bs_call_numbers(NULL), 0/
-awaited-instant-stays-held	/^static void table_await(/,/^}/s/bs_call_await_node(m, txn, request->node, mode, request->is_instant, until)/bs_call_await_node(m, txn, request->node, mode, false, until)/
-awaited-path-for-an-instant-stays-held	/^static void table_await(/,/^}/s/mode, request->is_instant, wait.node, wait.mode/mode, false, wait.node, wait.mode/
+path-is-awaited-as-a-node	/^static bs_reply table_await(/,/^}/s/  switch (request->kind) {/  switch (TABLE_NODE) {/
+asked-row-keeps-no-keys	/^static bs_reply table_await(/,/^}/s/bs_call_numbers(row->keys), row->count/bs_call_numbers(NULL), 0/
+awaited-instant-stays-held	/^static bs_reply table_await(/,/^}/s/bs_call_await_node(m, txn, request->node, mode, request->is_instant, until)/bs_call_await_node(m, txn, request->node, mode, false, until)/
+awaited-path-for-an-instant-stays-held	/^static bs_reply table_await(/,/^}/s/mode, request->is_instant, wait.node, wait.mode/mode, false, wait.node, wait.mode/
 ask-has-no-time	s/waiter->ask->has_time = time != TABLE_NO_TIME;/waiter->ask->has_time = false;/
-ask-is-awaited-for-ever	s/  table_await(table, request, wait, time);/  table_await(table, request, wait, TABLE_NO_TIME);/
+ask-is-awaited-for-ever	s/  reply = table_await(table, request, wait, time);/  reply = table_await(table, request, wait, TABLE_NO_TIME);/
 deadline-is-forgotten	/^static uint64_t table_earlier(/,/^}/s/^  return .*/  return time;/
 deadline-is-of-the-slot	/^static uint64_t table_earlier(/,/^}/s/own->age == txn.age \&\& /own->age != 0 \&\& /
 deadline-hides-the-call	/^static uint64_t table_earlier(/,/^}/s/ \&\& own->time < time//
@@ -271,6 +272,7 @@ early-return	/ table_sleep(bs_table/,/^}/s/  while (!own->has_ended \&\& late !=
 time-before-grant	/ table_sleep(bs_table/,/^}/s/  if (!own->has_ended) table_give_up(/  if (late == ETIMEDOUT) table_give_up(/
 a-wait-is-awaited-twice	s/  if (table->waiters\[txn.slot\] != NULL) return bs_call_only(BS_IN_USE);//
 awaited-list-forgets-its-instant	s/  request.is_instant = bs_call_withdraw_waiter(.*/  bs_call_withdraw_waiter(\&table->manager, txn);/
+what-is-over-is-awaited	/ table_await_left(bs_table/,/^}/s/  if (reply.status == BS_WAITING) return bs_call_only(BS_WAITING);/  return bs_call_only(BS_WAITING);/
 path-stops-on-the-way	/ table_path_through(bs_table/,/^}/s/  } while (reply.status == BS_ON_THE_WAY);/  } while (false);/
 times-are-not-over	/^bs_reply bs_table_expire(/,/^}/s/^  table_end_late(.*//
 times-are-looked-at-once	/^static void table_end_late(/,/^}/s/  while (late.status == BS_DONE) {/  if (late.status == BS_DONE) {/
@@ -291,6 +293,41 @@ trace-goes-on-by-one-lock	/^bs_reply bs_traced_call_go_on(/,/^}/s/next.txn, (siz
 trace-gives-back-unsaid	/^bs_reply bs_traced_call_go_on(/,/^}/s/^    trace_say(trace, &line, done, told);//
 trace-gives-back-by-a-lock	/^bs_reply bs_traced_call_go_on(/,/^}/s/next.count == TRACE_GIVES_BACK ? TRACE_UNLOCK : TRACE_LOCK/TRACE_LOCK/
 trace-hides-a-time-that-is-over	/^bs_reply bs_traced_call_time_out(/,/^}/s/^  if (reply.status == BS_TIMED_OUT) trace_say(.*//
+a-lock-waits-for-who-rests	/ table_lock_by(/,/^}/s/^  if (reply.status == BS_WAITING \&\& table->rests > 0) .*//
+a-path-waits-for-who-rests	/ table_path_by(/,/^}/s/^  if (reply.status == BS_WAITING \&\& table->rests > 0) .*//
+a-list-waits-for-who-rests	/ table_run_next(/,/^}/s/^  if (next->reply.status == BS_WAITING \&\& table->rests > 0) .*//
+a-path-goes-on-to-who-rests	s/^    if (table->rests > 0 \&\& came.status == BS_WAITING) .*//
+who-waited-for-who-rests-goes-not-on	s/^    if (table->rests > 0 \&\& came.status == BS_WAITING) is_over |= /    if (table->rests > 0 \&\& came.status == BS_WAITING) /
+nobody-goes-on-past-who-rested	s/^  if (table_end_in_the_way(table, txn, told)) table_go_on(table, told);/  table_end_in_the_way(table, txn, told);/
+all-who-rest-are-ended	s/^    uint64_t word = among->words.from . 64. & table->resting.words.from . 64.;/    uint64_t word = table->resting.words[from \/ 64];/
+all-in-the-way-are-ended	s/^    uint64_t word = among->words.from . 64. & table->resting.words.from . 64.;/    uint64_t word = among->words[from \/ 64];/
+a-try-is-refused-for-who-rests	/ table_try_now(/,/^}/s/^  if (table_may_clear(table, reply) .*/  if (false) {/
+a-try-of-a-path-is-refused-for-who-rests	/ table_path_tried(/,/^}/s/^  if (!table_may_clear(table, reply) .*/  return reply;/
+an-escalation-is-refused-for-who-rests	/ table_do_escalate(/,/^}/s/^  if (!table_may_clear(table, reply) .*/  return reply;/
+an-intention-ends-who-rests	s/^  bool is_intention = mode <= BS_IX \&\& held <= BS_IX;/  bool is_intention = false;/
+a-raise-is-an-intention	s/^  bool is_intention = mode <= BS_IX \&\& held <= BS_IX;/  bool is_intention = mode <= BS_IX;/
+who-works-is-ended	s/^  if (rests) table_rests_no_more(table, session->txn.slot);//
+who-has-its-slot-is-ended	/ table_end_resting(/,/^}/s/^  txn.age = .*/  txn.age = bs_call_living(\&table->manager, slot).txn.age;/
+who-rests-is-counted-twice	s/^  if (!bs_has(table->resting, txn.slot)) table->rests++;/  table->rests++;/
+who-rests-tells-nobody	/ table_end_resting(/,/^}/s/^  table_tell_too(told, &more);//
+the-last-to-rest-is-ended	s/ || table->resting_ages\[slot\] < table->resting_ages\[longest\]) / || table->resting_ages[slot] > table->resting_ages[longest]) /
+a-begin-finds-no-slot	s/^  if (__builtin_expect(reply.status != BS_TOO_MANY_TXNS, 1) .*/  if (true) return false;/
+a-begin-sleeps-while-one-rests	/ table_begin_or_sleep(/,/^}/s/^  if (table->rests > 0) {/  if (false) {/
+a-list-begins-without-a-slot	s/^    case BS_DO_BEGIN: return table_begin_now(table);/    case BS_DO_BEGIN: return table_make_begin(table);/
+one-rests-while-others-sleep	s/^  uint32_t keep = table->queued > 0 ? 0 : /  uint32_t keep = /
+a-session-keeps-more	/ table_first_intentions(/,/^}/s/count < session->most; count++/; count++/
+a-session-keeps-what-it-kept-alone	/ table_first_intentions(/,/^}/s/^  for (; count < session->most; count++) {/  for (; session->kept == 0 \&\& count < session->most; count++) {/
+a-session-keeps-an-x	s/^    if (lock.status != BS_DONE || (lock.mode != BS_IS .*/    if (lock.status != BS_DONE) break;/
+what-is-not-renewed-stays	/ table_commit_in_lines(/,/^}/s/^  reply = table_make_commit(table, txn, &more);/  more.count = 0;/
+what-is-not-kept-was-kept	/ table_commit_and_rest(/,/^}/s/ || reply.txn.age == 0) return reply;/) return reply;/
+a-commit-in-lines-wakes-nobody	/ table_commit_in_lines(/,/^}/s/^  table_wake(table, reply.status, told, false);//
+a-commit-that-keeps-is-not-in-the-trace	/ table_commit_keeping(/,/^}/s/^  if (__builtin_expect(table->is_traced, 0)) .*//
+who-rests-commits-again	/^bs_reply bs_session_commit(/,/^}/s/^  if (table_session_rests(table, session)) .*//
+a-session-begins-twice	s/^    if (!rests) return bs_call_only(BS_IN_USE);//
+a-session-ends-in-a-transaction	/^bs_reply bs_session_end(/,/^}/s/^  if (table_session_lives(table, session)) .*//
+what-a-session-kept-stays	s/^  if (table_session_rests(table, session)) table_end_resting(.*//
+work-begins-again-as-new	/^bs_reply bs_session_begin_again(/,/^}/s/table_begin_or_sleep(session->table, since, until)/table_begin_or_sleep(session->table, TABLE_NEW_WORK, until)/
+a-session-s-commit-wakes-nobody	/^bs_reply bs_session_commit(/,/^}/s/^  table_hand_on(table);//
 FAULTS
 }
 
@@ -311,8 +348,8 @@ found() {
   local there=$work/$1
   mkdir -p "$there" && cp "$top"/c/*.[ch] "$there/" && sed -i "$2" "$there"/*.c || return 1
   ! diff -q "$top/c" "$there" -x out >/dev/null || { echo "faults.sh: $1 changes nothing"; return 1; }
-  says "$there" shared 5 && says "$there" asks 5 100 && says "$there" waits 5 && says "$there" own_ends 5 && says "$there" running 5 &&
-    says "$there" traces 5 && says "$there" crowd 4 4
+  says "$there" shared 5 && says "$there" asks 5 100 && says "$there" waits 5 && says "$there" sessions 5 &&
+    says "$there" own_ends 5 && says "$there" running 5 && says "$there" traces 5 && says "$there" crowd 4 4
   [ $? -eq 1 ] || { echo "faults.sh: $1 was not found"; return 1; }
   echo "$1: found: $(grep -E ': (hangs|not so|[a-z_]*: not so)' "$there/said" | tail -n 1 | sed 's/^[^ ]*\.[ch]:[0-9]*: //')"
 }

@@ -2,6 +2,7 @@
 #include "burlapslate.h"
 #include "burlapslate_dump.h"
 #include "burlapslate_running.h"
+#include "burlapslate_session.h"
 
 #include <pthread.h>
 
@@ -93,7 +94,19 @@ static bool runs() {
   return bs_table_end(table).status == BS_DONE && bs_table_free(&table).status == BS_DONE;
 }
 
+static bool keeps() {
+  if (bs_table_make(&table, NULL).status != BS_DONE) return false;
+  root = bs_table_add_inner(table, NULL, 0).node;
+  bs_session session = bs_session_of(table, 1);
+  bs_txn first = bs_session_begin(&session, NULL).txn;
+  if (bs_table_lock(table, first, root, BS_IX, NULL).status != BS_DONE) return false;
+  if (bs_session_commit(&session, NULL).count != 1) return false;
+  if (bs_session_begin_again(&session, first.age, NULL).status != BS_DONE) return false;
+  if (bs_session_commit(&session, NULL).status != BS_DONE || bs_session_end(&session).status != BS_DONE) return false;
+  return bs_table_end(table).status == BS_DONE && bs_table_free(&table).status == BS_DONE;
+}
+
 int main() {
   bs_manager m = BS_NO_MANAGER_HERE;
-  return bs_end(&m).status == BS_NO_MANAGER && shares() && asks() && runs() ? 0 : 1;
+  return bs_end(&m).status == BS_NO_MANAGER && shares() && asks() && runs() && keeps() ? 0 : 1;
 }

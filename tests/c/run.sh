@@ -2,7 +2,7 @@
 # run.sh [--slots N]: compiles the stories over the C library, and runs them. Prints a line for each story, of one thread
 # and of a shared table, for each scenario against a naive lock manager, and for each setting of a crowd. A program with the
 # headers of another library is refused, and one that passes a lent manager to a command does not compile. Then it plants
-# eight faults in the shared table, which the stories must find. Ends with status 1 if anything is not as expected; without
+# nine faults in the shared table, which the stories must find. Ends with status 1 if anything is not as expected; without
 # a C compiler it says so, and ends with status 77: not tried. CC names another compiler than cc. N is the number of slots
 # of the library, 128 or 1024 (tools/c_library.sh); faults are planted only for 128.
 set -uo pipefail
@@ -30,7 +30,7 @@ mapfile -t libraries < <("$top/tools/c_library.sh" --slots "$slots" 2>"$work/log
 compile() {
   local with=("${libraries[@]}")
   case $1 in
-    shared | crowd | asks | waits | own_ends) with=(-I"$top/c" "$top"/c/burlapslate_{running,trace}.c "${libraries[@]:1}") ;;
+    shared | crowd | asks | waits | sessions | own_ends) with=(-I"$top/c" "$top"/c/burlapslate_{running,trace}.c "${libraries[@]:1}") ;;
     running) with=(-I"$top/c" "$top/c/burlapslate_trace.c" "${libraries[@]:1}") ;;
     traces) with=(-I"$top/c" "$top/c/burlapslate_running.c" "${libraries[@]:1}") ;;
     schemas | twins | scenarios) with=("$top/tests/c/naive.c" "${libraries[@]}") ;;
@@ -94,6 +94,8 @@ compile asks -Wl,--wrap=malloc,--wrap=realloc,--wrap=free || exit 1
 timeout 120 "$work/asks" || exit 1
 compile waits -Wl,--wrap=malloc,--wrap=realloc,--wrap=free || exit 1
 timeout 60 "$work/waits" || exit 1
+compile sessions -Wl,--wrap=malloc,--wrap=realloc,--wrap=free || exit 1
+timeout 60 "$work/sessions" || exit 1
 compile own_ends -Wl,--wrap=malloc,--wrap=realloc,--wrap=free || exit 1
 timeout 60 "$work/own_ends" || exit 1
 compile running -Wl,--wrap=malloc,--wrap=realloc,--wrap=free || exit 1
@@ -127,5 +129,5 @@ with PATCH 999 && compile stories -Wl,--wrap=malloc,--wrap=realloc,--wrap=free |
 timeout 60 "$work/stories" >"$work/log" || fails "a library of another last number is refused"
 [ "$slots" = 128 ] || exit 0
 "$top/tests/c/faults.sh" commit-forgets-to-wake early-return asked-row-keeps-no-keys one-slot-is-handed-on \
-  skip-passes-refusals awaited-instant-stays-held asks-are-told-under-the-latch path-is-awaited-as-a-node \
+  skip-passes-refusals awaited-instant-stays-held asks-are-told-under-the-latch path-is-awaited-as-a-node who-works-is-ended \
   "${libraries[@]:1}" || exit 1

@@ -14,7 +14,7 @@
 #include <stdio.h>
 #include <time.h>
 
-#include "burlapslate_shared.h"
+#include "burlapslate_session.h"
 
 static int noted_create(pthread_t *thread, const pthread_attr_t *attributes, void *(*run)(void *), void *arg);
 
@@ -445,6 +445,32 @@ static void a_crowd(void) {
   end_trace();
 }
 
+/* A session of a thread: its renewals are in the trace, and who is ended since it was in somebody's way. */
+static void *jostle_in_a_session(void *arg) {
+  uint64_t dice = 88172645463325252u + (uint64_t)(uintptr_t)arg;
+  bs_session own = bs_session_of(table, 4);
+  size_t i;
+  for (i = 0; i < 100; i++) {
+    struct timespec until = moment_in(200);
+    bs_txn txn = DONE(bs_session_begin(&own, NULL)).txn;
+    bool reads = roll(&dice, 10) == 0, is_low = roll(&dice, 2) == 0;
+    bs_node node = reads ? (is_low ? file : above) : (is_low ? low : high);
+    bs_status last = bs_table_lock_path(table, txn, node, reads ? BS_S : BS_X, &until).status;
+    if (last == BS_VICTIM) DONE(bs_table_abort(table, txn, NULL));
+    else DONE(bs_session_commit(&own, NULL));
+  }
+  return NULL;
+}
+
+static void a_crowd_of_sessions(void) {
+  pthread_t threads[CROWD];
+  size_t i;
+  begin_trace(BS_AT_BLOCK);
+  for (i = 0; i < CROWD; i++) start(&threads[i], jostle_in_a_session, (void *)i);
+  for (i = 0; i < CROWD; i++) join(threads[i]);
+  end_trace();
+}
+
 /* ------------------------------------------------------------------------------------------------
  * What cannot be played.
  */
@@ -742,6 +768,7 @@ int main(int count, char **words) {
   TELL(lists);
   TELL(begins_in_turn);
   TELL(a_crowd);
+  TELL(a_crowd_of_sessions);
   TELL(a_line_is_too_long);
   TELL(bounds_are_found);
   TELL(a_slow_reader_loses_lines);

@@ -28,7 +28,8 @@
 //!
 //! Threads share a [`Table`]. Each begins a [`Session`], whose lock calls sleep until the lock is
 //! granted, and which is aborted if it is dropped without a commit. If there are more threads than slots
-//! they [begin in turn](Table::begin_in_turn). A task of a runtime awaits its locks, and no thread sleeps
+//! they [begin in turn](Table::begin_in_turn). A thread keeps its intentions from one transaction to the next
+//! ([`Session::rest`]). A task of a runtime awaits its locks, and no thread sleeps
 //! ([`Session::lock_async`]). A [`Watcher`] reads who waits for whom without the mutex. A table says how long waits last and
 //! where ([`Table::waits`], [`Table::awaited`], [`Table::metrics`]), and tells of long ones ([`Table::on_long_wait`]). What it
 //! does can be written as a script ([`Table::trace`]).
@@ -108,6 +109,7 @@ mod mode;
 mod names;
 mod notices;
 mod refusal;
+mod resting;
 mod session;
 #[allow(unsafe_code)]
 mod sys;
@@ -121,6 +123,7 @@ pub use mode::{Detect, Kind, Mode, Victims};
 pub use names::{Node, Row, Txn};
 pub use notices::{Notice, Notices};
 pub use refusal::Refusal;
+pub use resting::Resting;
 pub use session::{Keep, RowLocked, Session, Stop, Taken, Tried, Try};
 pub use table::{Awaited, AwaitedNode, Blocker, Histogram, LongWait, Table, Told, WaitEnd, Waits};
 pub use watcher::Watcher;

@@ -4,7 +4,8 @@ use crate::manager::{Escalated, Mark};
 use crate::mode::Mode;
 use crate::names::{Node, Row, Txn};
 use crate::refusal::{accepted, done, Refusal};
-use crate::sys::shared::{self, Calling, Command};
+use crate::resting::Resting;
+use crate::sys::shared::{self, Calling, Command, Kept};
 use crate::sys::{self, Reply};
 use crate::table::{node_of, Locking, Sought, Table};
 use std::error::Error;
@@ -226,10 +227,13 @@ pub struct Session<'t> {
     has_ended: bool,
     /// The deadline of each of its waits.
     deadline: Option<Instant>,
+    /// What it has from the transaction before it.
+    kept: Kept,
 }
 
 /// How a session has its table: borrowed, or as one of its owners.
-enum Handle<'t> {
+#[derive(Clone)]
+pub(crate) enum Handle<'t> {
     Lent(&'t Table),
     Shared(Arc<Table>),
 }
@@ -258,11 +262,17 @@ impl<'t> Session<'t> {
     }
 
     fn over(table: Handle<'t>, txn: Txn) -> Session<'t> {
+        Session::with_kept(table, txn, Kept::NOTHING)
+    }
+
+    /// With what the transaction before it has kept.
+    pub(crate) fn with_kept(table: Handle<'t>, txn: Txn, kept: Kept) -> Session<'t> {
         Session {
             table,
             txn,
             has_ended: false,
             deadline: None,
+            kept,
         }
     }
 
@@ -780,6 +790,34 @@ impl<'t> Session<'t> {
         let end = self.table.commit(self.txn);
         self.has_ended = end.is_ok();
         end
+    }
+
+    /// Commits as [`commit`](Session::commit), and keeps for the thread's next transaction the first locks that are
+    /// intentions, as many as `most` or fewer; 16 is usual. All others are released. Nothing is kept if
+    /// somebody waits for a node of it, or for a slot.
+    ///
+    /// ```
+    /// # use burlapslate::{Detect, Mode, Stop, Table, SLOTS};
+    /// # let table = Table::new(Detect::AtBlock, SLOTS)?;
+    /// # let db = table.add_inner(&[])?;
+    /// # let files = [table.add_file(&[db])?, table.add_file(&[db])?];
+    /// let mut session = table.begin()?;
+    /// for file in files {
+    ///     session.lock_path(file, Mode::X)?;
+    ///     session = session.rest(16)?.begin()?; // It holds the data base in IX.
+    /// }
+    /// assert_eq!(table.with(|m| m.held(session.txn(), db)), Ok(Mode::IX));
+    /// # Ok::<(), Stop>(())
+    /// ```
+    pub fn rest(mut self, most: usize) -> Result<Resting<'t>, Refusal> {
+        let mut kept = Kept {
+            txn: self.txn,
+            most: u32::try_from(most).unwrap_or(u32::MAX),
+            ..self.kept
+        };
+        accepted(shared::session_commit(&self.call(), &mut kept))?;
+        self.has_ended = true;
+        Ok(Resting::of(self.table.clone(), kept))
     }
 
     /// Aborts. A session that is dropped does the same.

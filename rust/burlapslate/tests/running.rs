@@ -379,13 +379,22 @@ fn a_trace_is_a_script() {
     let script = std::fs::read_to_string(&path).unwrap();
     std::fs::remove_file(&path).unwrap();
     let lines: Vec<_> = script.lines().filter(|it| !it.starts_with('#')).collect();
-    let wanted = ["granular 2", "inner n1", "begin t0", "lock t0 X n1", "commit t0"];
+    let wanted = [
+        "granular 2",
+        "inner n1",
+        "begin t0",
+        "lock t0 X n1",
+        "commit t0",
+    ];
     assert_eq!(lines, wanted);
     assert!(script.ends_with("\n# The trace has ended: 0 lines were dropped\n"));
 
     let (table, _) = self::table();
     assert_eq!(table.trace(&read), Err(Refusal::BadNumber));
-    let full = std::fs::OpenOptions::new().write(true).open("/dev/full").unwrap();
+    let full = std::fs::OpenOptions::new()
+        .write(true)
+        .open("/dev/full")
+        .unwrap();
     table.trace(&full).unwrap();
     assert_eq!(table.end_trace(), Err(Refusal::NotWritten));
 }

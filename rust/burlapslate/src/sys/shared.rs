@@ -125,6 +125,31 @@ impl<'k> Command<'k> {
     }
 }
 
+/// `bs_session`, within a call.
+#[repr(C)]
+struct SessionPlace<'t> {
+    table: &'t Shared,
+    kept: Kept,
+}
+
+/// What a transaction has kept, and how much it keeps.
+#[repr(C)]
+#[derive(Clone, Copy)]
+pub(crate) struct Kept {
+    /// The transaction, or the one that rests.
+    pub(crate) txn: Txn,
+    pub(crate) most: u32,
+    pub(crate) count: u32,
+}
+
+impl Kept {
+    pub(crate) const NOTHING: Kept = Kept {
+        txn: Txn::NONE,
+        most: 0,
+        count: 0,
+    };
+}
+
 /// Where a call writes whom it notified; `None` if its caller does not ask.
 type Told<'a> = Option<&'a mut Notices>;
 
@@ -155,6 +180,9 @@ unsafe extern "C" {
     pub(crate) safe fn bs_table_begin_again(table: &Shared, since: u64) -> Reply;
     pub(crate) safe fn bs_table_renew(table: &Shared, txn: Txn, since: u64) -> Reply;
     pub(crate) safe fn bs_table_begin_in_turn(table: &Shared, until: Until<'_>) -> Reply;
+    safe fn bs_session_begin(session: &mut SessionPlace<'_>, until: Until<'_>) -> Reply;
+    safe fn bs_session_commit(session: &mut SessionPlace<'_>, told: Told<'_>) -> Reply;
+    safe fn bs_session_end(session: &mut SessionPlace<'_>) -> Reply;
     pub(crate) safe fn bs_table_begin_again_in_turn(
         table: &Shared,
         since: u64,
@@ -529,6 +557,33 @@ pub(crate) fn try_row(table: &Shared, txn: Txn, row: Row, keys: &[u64], mode: u3
     let (Row { file, number }, start) = (row, numbers(keys));
     // SAFETY: the count is the list's own.
     unsafe { bs_table_try_row(table, txn, file, number, start, keys.len(), mode) }
+}
+
+/// Makes a call of a session.
+fn in_session(
+    table: &Shared,
+    kept: &mut Kept,
+    call: impl FnOnce(&mut SessionPlace<'_>) -> Reply,
+) -> Reply {
+    let mut place = SessionPlace { table, kept: *kept };
+    let reply = call(&mut place);
+    *kept = place.kept;
+    reply
+}
+
+/// Begins the next transaction of a session.
+pub(crate) fn session_begin(table: &Shared, kept: &mut Kept) -> Reply {
+    in_session(table, kept, |session| bs_session_begin(session, None))
+}
+
+/// Commits the transaction of a session.
+pub(crate) fn session_commit(table: &Shared, kept: &mut Kept) -> Reply {
+    in_session(table, kept, |session| bs_session_commit(session, None))
+}
+
+/// Releases what a session keeps.
+pub(crate) fn session_end(table: &Shared, kept: &mut Kept) -> Reply {
+    in_session(table, kept, |session| bs_session_end(session))
 }
 
 /// The place of the first try that is not passed over, or how many there are.
