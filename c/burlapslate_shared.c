@@ -1069,14 +1069,12 @@ static inline bs_reply table_path_through(bs_table *table, bs_txn txn, bs_node n
   return reply;
 }
 
-/* After a request of a node in this mode that was refused since it would block: ends those who rest there, if more than
- * an intention is wanted; whether it has ended any. Then the request is made again. */
-static TABLE_APART bool table_clears_node(bs_table *table, bs_txn txn, bs_node node, bs_mode mode) {
-  bs_mode held = bs_held(&table->manager, txn, node).mode;
+/* After a request of a node in this mode that was refused since it would block: ends those who rest there, unless it
+ * wants an intention, which goes with theirs; whether it has ended any. Then the request is made again. */
+static TABLE_APART bool table_clears_node(bs_table *table, bs_node node, bs_mode mode) {
   bs_slots among = bs_holders(&table->manager, node).slots;
-  bool is_intention = mode <= BS_IX && held <= BS_IX;
   table->told.count = 0;
-  if (is_intention || !table_end_those_who_rest(table, &among, &table->told)) return false;
+  if (mode <= BS_IX || !table_end_those_who_rest(table, &among, &table->told)) return false;
   table_go_on(table, &table->told);
   return true;
 }
@@ -1090,7 +1088,7 @@ static inline bs_reply table_try_now(bs_table *table, bs_txn txn, bs_node node, 
   bool is_instant = table_is_instant(table, txn, node, asked);
   bs_mode mode = table_mode_of(asked);
   bs_reply reply = table_make_try(table, txn, node, mode);
-  if (table_may_clear(table, reply) && table_clears_node(table, txn, node, mode)) {
+  if (table_may_clear(table, reply) && table_clears_node(table, node, mode)) {
     reply = table_make_try(table, txn, node, mode);
   }
   if (is_instant && reply.status == BS_DONE) table_give_back_at_once(table, txn, node, &table->told);
@@ -1176,7 +1174,7 @@ bs_reply bs_table_settle(bs_table *table, bs_txn txn, bs_notices *told) {
 /* Makes the call bs_escalate with the latch held. */
 static bs_reply table_do_escalate(bs_table *table, bs_txn txn, bs_node node, bs_notices *told) {
   bs_reply reply = table_make_escalate(table, txn, node, told);
-  if (!table_may_clear(table, reply) || !table_clears_node(table, txn, node, BS_X)) return reply;
+  if (!table_may_clear(table, reply) || !table_clears_node(table, node, BS_X)) return reply;
   return table_make_escalate(table, txn, node, told);
 }
 
@@ -1204,7 +1202,7 @@ static inline bs_reply table_tried(bs_table *table, bs_reply reply) {
 /* Tries a path with the latch held. */
 static TABLE_APART bs_reply table_path_tried(bs_table *table, bs_txn txn, bs_node node, bs_mode mode, uint32_t keep) {
   bs_reply reply = table_tried(table, table_make_call_try_path(table, txn, node, mode, keep, &table->told));
-  if (!table_may_clear(table, reply) || !table_clears_node(table, txn, node, mode)) return reply;
+  if (!table_may_clear(table, reply) || !table_clears_node(table, node, mode)) return reply;
   return table_tried(table, table_make_call_try_path(table, txn, node, mode, keep, &table->told));
 }
 
@@ -1618,7 +1616,7 @@ static TABLE_APART bs_reply table_commit_in_lines(bs_table *table, bs_txn txn, u
   bs_notices more;
   bs_reply renewed, reply = table_make_release_since(table, txn, keep, told);
   if (reply.status != BS_DONE) return reply;
-  table_wake(table, reply.status, told, false);
+  if (told->count > 0) table_note_ended(table, told);
   renewed = table_make_renew(table, txn, TABLE_NEW_WORK);
   if (renewed.status == BS_DONE) return renewed;
   reply = table_make_commit(table, txn, &more);
@@ -1796,6 +1794,12 @@ static TABLE_APART void table_settle_made(bs_table *table, bs_command *c, bs_txn
   } while (c->reply.status == BS_WAITING);
 }
 
+/* After a command of a list that was left waiting, and after those whose wait it has ended have gone on. */
+static TABLE_APART void table_made_waiting(bs_table *table, bs_command *c, bs_txn txn, bs_notices *told) {
+  if (table->rests > 0) table_clear_way(table, txn, told);
+  if (told->count > 0) table_settle_made(table, c, txn, told);
+}
+
 /* Makes the next command of a list, and writes its reply. It is inlined in both loops: a call for each command of a
  * list costs a twentieth of it. */
 static inline __attribute__((always_inline)) bs_status table_run_next(bs_table *table, bs_command *next, bs_txn begun) {
@@ -1808,8 +1812,7 @@ static inline __attribute__((always_inline)) bs_status table_run_next(bs_table *
   next->reply = table_made(table, next, txn, told);
   if (next->reply.status == BS_WAITING) table_say_for_what(table, next, txn);
   table_wake(table, next->reply.status, told, by_name);
-  if (next->reply.status == BS_WAITING && table->rests > 0) table_clear_way(table, txn, told);
-  if (next->reply.status == BS_WAITING && told->count > 0) table_settle_made(table, next, txn, told);
+  if (next->reply.status == BS_WAITING) table_made_waiting(table, next, txn, told);
   return next->reply.status;
 }
 

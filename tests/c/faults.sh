@@ -56,7 +56,7 @@ list-goes-not-on-with-its-path	/ table_made_on(/,/^}/s/^  if (c->kind != BS_DO_L
 list-asks-not-again-for-its-row	/ table_made_on(/,/^}/s/^  if (c->kind == BS_DO_LOCK_ROW /  if (false /
 instant-tells-nobody	s/^      table_tell_too(told, &more);//
 instant-is-awaited-by-its-word	s/  c->reply.mode = table_mode_of(c->mode);/  c->reply.mode = c->mode;/
-run-says-not-for-what	s/  if (next->reply.status == BS_WAITING) .*//
+run-says-not-for-what	s/  if (next->reply.status == BS_WAITING) table_say_for_what.*//
 run-takes-a-slot-for-begun	s/  bs_txn txn = next->txn.slot == none.slot .*/  bs_txn txn = next->txn.age == none.age ? begun : next->txn;/
 list-path-tells-the-last	s/ table_tell_too(told, &table->told);/ *told = table->told;/
 list-path-tells-the-first	s/    if (told != &table->told) table_tell_too(.*//
@@ -284,7 +284,7 @@ an-ask-is-answered-waiting	s/  if (waits \&\& own->waiter.has_ended) reply = own
 asked-path-answers-where-it-was	s/^  else if (waits \&\& reply.node.birth != 0) .*//
 ask-tells-after-it-has-left	s/^  if (waits \&\& !own->waiter.has_ended \&\& table->is_due) table_ask_and_tell(table);//
 ask-stays-in-its-call	/^static bs_reply table_leave_asked(/,/^}/s/^  own->is_inside = false;//
-list-does-not-settle	s/^  if (next->reply.status == BS_WAITING \&\& told->count > 0) .*//
+list-does-not-settle	s/^  if (told->count > 0) table_settle_made(.*//
 list-path-stops-on-the-way	s/  return reply.status == BS_ON_THE_WAY ? table_path_made_on(.*/  return reply;/
 list-path-says-not-how-it-waits	/ table_path_by(/,/^}/s/^    if (waiter == NULL) reply.mode = wait.mode;//
 listed-wait-is-not-noted	s/^  if ((c->mode \& BS_INSTANT) == 0) table_note_wait(table, txn);//
@@ -295,7 +295,7 @@ trace-gives-back-by-a-lock	/^bs_reply bs_traced_call_go_on(/,/^}/s/next.count ==
 trace-hides-a-time-that-is-over	/^bs_reply bs_traced_call_time_out(/,/^}/s/^  if (reply.status == BS_TIMED_OUT) trace_say(.*//
 a-lock-waits-for-who-rests	/ table_lock_by(/,/^}/s/^  if (reply.status == BS_WAITING \&\& table->rests > 0) .*//
 a-path-waits-for-who-rests	/ table_path_by(/,/^}/s/^  if (reply.status == BS_WAITING \&\& table->rests > 0) .*//
-a-list-waits-for-who-rests	/ table_run_next(/,/^}/s/^  if (next->reply.status == BS_WAITING \&\& table->rests > 0) .*//
+a-list-waits-for-who-rests	/ table_made_waiting(/,/^}/s/^  if (table->rests > 0) .*//
 a-path-goes-on-to-who-rests	s/^    if (table->rests > 0 \&\& came.status == BS_WAITING) .*//
 who-waited-for-who-rests-goes-not-on	s/^    if (table->rests > 0 \&\& came.status == BS_WAITING) is_over |= /    if (table->rests > 0 \&\& came.status == BS_WAITING) /
 nobody-goes-on-past-who-rested	s/^  if (table_end_in_the_way(table, txn, told)) table_go_on(table, told);/  table_end_in_the_way(table, txn, told);/
@@ -304,8 +304,7 @@ all-in-the-way-are-ended	s/^    uint64_t word = among->words.from . 64. & table-
 a-try-is-refused-for-who-rests	/ table_try_now(/,/^}/s/^  if (table_may_clear(table, reply) .*/  if (false) {/
 a-try-of-a-path-is-refused-for-who-rests	/ table_path_tried(/,/^}/s/^  if (!table_may_clear(table, reply) .*/  return reply;/
 an-escalation-is-refused-for-who-rests	/ table_do_escalate(/,/^}/s/^  if (!table_may_clear(table, reply) .*/  return reply;/
-an-intention-ends-who-rests	s/^  bool is_intention = mode <= BS_IX \&\& held <= BS_IX;/  bool is_intention = false;/
-a-raise-is-an-intention	s/^  bool is_intention = mode <= BS_IX \&\& held <= BS_IX;/  bool is_intention = mode <= BS_IX;/
+an-intention-ends-who-rests	s/^  if (mode <= BS_IX || !table_end_those_who_rest(/  if (!table_end_those_who_rest(/
 who-works-is-ended	s/^  if (rests) table_rests_no_more(table, session->txn.slot);//
 who-has-its-slot-is-ended	/ table_end_resting(/,/^}/s/^  txn.age = .*/  txn.age = bs_call_living(\&table->manager, slot).txn.age;/
 who-rests-is-counted-twice	s/^  if (!bs_has(table->resting, txn.slot)) table->rests++;/  table->rests++;/
@@ -320,7 +319,7 @@ a-session-keeps-what-it-kept-alone	/ table_first_intentions(/,/^}/s/^  for (; co
 a-session-keeps-an-x	s/^    if (lock.status != BS_DONE || (lock.mode != BS_IS .*/    if (lock.status != BS_DONE) break;/
 what-is-not-renewed-stays	/ table_commit_in_lines(/,/^}/s/^  reply = table_make_commit(table, txn, &more);/  more.count = 0;/
 what-is-not-kept-was-kept	/ table_commit_and_rest(/,/^}/s/ || reply.txn.age == 0) return reply;/) return reply;/
-a-commit-in-lines-wakes-nobody	/ table_commit_in_lines(/,/^}/s/^  table_wake(table, reply.status, told, false);//
+a-commit-in-lines-ends-no-wait	/ table_commit_in_lines(/,/^}/s/^  if (told->count > 0) table_note_ended(table, told);//
 a-commit-that-keeps-is-not-in-the-trace	/ table_commit_keeping(/,/^}/s/^  if (__builtin_expect(table->is_traced, 0)) .*//
 who-rests-commits-again	/^bs_reply bs_session_commit(/,/^}/s/^  if (table_session_rests(table, session)) .*//
 a-session-begins-twice	s/^    if (!rests) return bs_call_only(BS_IN_USE);//

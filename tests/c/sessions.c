@@ -305,8 +305,7 @@ static void a_path_goes_on_past_it(void) {
   DONE(bs_table_lock_path(table, other, by_key, BS_S, NULL));
   txn = begin();
   WAITS(ask_path(&h, txn, below, BS_X));
-  WANT(waits_for(txn, by_key));
-  is_kept(&session);
+  WANT(waits_for(txn, by_key) && table->rests == 1);
   DONE(bs_table_commit(table, other, NULL));
   HEARD_BY_NOW(&h, BS_DONE);
   was_ended(&session);

@@ -464,10 +464,13 @@ static void *jostle_in_a_session(void *arg) {
 
 static void a_crowd_of_sessions(void) {
   pthread_t threads[CROWD];
+  bs_waits waits;
   size_t i;
   begin_trace(BS_AT_BLOCK);
   for (i = 0; i < CROWD; i++) start(&threads[i], jostle_in_a_session, (void *)i);
   for (i = 0; i < CROWD; i++) join(threads[i]);
+  DONE(bs_table_waits(table, &waits));
+  WANT(waits.waiting == 0);
   end_trace();
 }
 
