@@ -383,17 +383,18 @@ static void table_gone_on(bs_table *table, bs_reply came) {
   else table_end(table, waiter, came.txn.slot, came);
 }
 
-/* Ends a transaction that rests: it holds intentions alone, and has done nothing. If it was aborted by name, nothing is
- * left to end. Adds what that tells. */
-static void table_end_resting(bs_table *table, uint32_t slot, bs_notices *told) {
+/* Ends a transaction that rests: it holds intentions alone, and has done nothing. Answers false if it was aborted by
+ * name, and nothing is left to end. Adds what that tells. */
+static bool table_end_resting(bs_table *table, uint32_t slot, bs_notices *told) {
   bs_txn txn;
   bs_notices more;
   txn.slot = slot;
   txn.age = table->resting_ages[slot];
   table_rests_no_more(table, slot);
-  if (table_make_commit(table, txn, &more).status != BS_DONE) return;
+  if (table_make_commit(table, txn, &more).status != BS_DONE) return false;
   table_note_ended(table, &more);
   table_tell_too(told, &more);
+  return true;
 }
 
 /* Ends those of these who rest; whether there were any. */
@@ -667,23 +668,27 @@ static TABLE_APART bs_reply table_sleep_in_begin_queue(bs_table *table, table_qu
   return own->begun;
 }
 
-/* Ends the transaction that has rested longest: each renewal gives a greater age. */
-static void table_end_longest(bs_table *table) {
+/* The slot that has rested longest: each renewal gives a greater age. Some slot rests. */
+static uint32_t table_longest(const bs_table *table) {
   uint32_t slot, longest = BS_SLOTS;
   for (slot = 0; slot < BS_SLOTS; slot++) {
     if (!bs_has(table->resting, slot)) continue;
     if (longest == BS_SLOTS || table->resting_ages[slot] < table->resting_ages[longest]) longest = slot;
   }
-  table->told.count = 0;
-  if (longest < BS_SLOTS) table_end_resting(table, longest, &table->told);
-  if (table->told.count > 0) table_go_on(table, &table->told);
+  return longest;
+}
+
+/* Ends the transaction that has rested longest; whether there was one. It tells nobody, since nobody waits for it. */
+static TABLE_APART bool table_end_longest(bs_table *table) {
+  while (table->rests > 0) {
+    if (table_end_resting(table, table_longest(table), &table->told)) return true;
+  }
+  return false;
 }
 
 /* Whether a begin that was answered so is to be made again: no slot was free, and one who rested has given up its. */
 static inline bool table_makes_room(bs_table *table, bs_reply reply) {
-  if (__builtin_expect(reply.status != BS_TOO_MANY_TXNS, 1) || table->rests == 0) return false;
-  table_end_longest(table);
-  return true;
+  return __builtin_expect(reply.status == BS_TOO_MANY_TXNS, 0) && table_end_longest(table);
 }
 
 /* Makes the call bs_begin with the latch held. */
@@ -1582,11 +1587,9 @@ bs_reply bs_session_begin(bs_session *session, const struct timespec *until) {
   return reply;
 }
 
-/* Ends the one that rests, if there is one. */
+/* Ends the one that rests, if there is one. It tells nobody, since nobody waits for it. */
 static void table_session_rests_no_more(bs_table *table, bs_session *session) {
-  table->told.count = 0;
   if (table_session_rests(table, session)) table_end_resting(table, session->txn.slot, &table->told);
-  if (table->told.count > 0) table_go_on(table, &table->told);
 }
 
 bs_reply bs_session_begin_again(bs_session *session, uint64_t since, const struct timespec *until) {

@@ -310,7 +310,8 @@ who-has-its-slot-is-ended	/ table_end_resting(/,/^}/s/^  txn.age = .*/  txn.age 
 who-rests-is-counted-twice	s/^  if (!bs_has(table->resting, txn.slot)) table->rests++;/  table->rests++;/
 who-rests-tells-nobody	/ table_end_resting(/,/^}/s/^  table_tell_too(told, &more);//
 the-last-to-rest-is-ended	s/ || table->resting_ages\[slot\] < table->resting_ages\[longest\]) / || table->resting_ages[slot] > table->resting_ages[longest]) /
-a-begin-finds-no-slot	s/^  if (__builtin_expect(reply.status != BS_TOO_MANY_TXNS, 1) .*/  if (true) return false;/
+a-begin-finds-no-slot	s/^  return __builtin_expect(reply.status == BS_TOO_MANY_TXNS, 0) .*/  return false;/
+who-was-aborted-makes-room	s/^    if (table_end_resting(table, table_longest(table), &table->told)) return true;/    table_end_resting(table, table_longest(table), \&table->told); return true;/
 a-begin-sleeps-while-one-rests	/ table_begin_or_sleep(/,/^}/s/^  if (table->rests > 0) {/  if (false) {/
 a-list-begins-without-a-slot	s/^    case BS_DO_BEGIN: return table_begin_now(table);/    case BS_DO_BEGIN: return table_make_begin(table);/
 one-rests-while-others-sleep	s/^  uint32_t keep = table->queued > 0 ? 0 : /  uint32_t keep = /

@@ -374,6 +374,19 @@ static void a_begin_gets_a_slot(void) {
   close_table();
 }
 
+/* One that was aborted by its name, whose slot another has, makes no room: the next one that rests does. */
+static void who_was_aborted_makes_no_room(void) {
+  bs_session first, second;
+  make_of(2);
+  first = rest_at_root(), second = rest_at_root();
+  DONE(bs_table_abort(table, first.txn, NULL));
+  begin();
+  WANT(DONE(bs_table_begin_in_turn(table, NULL)).txn.slot == second.txn.slot);
+  WANT(table->rests == 0);
+  ANSWERS(BS_TOO_MANY_TXNS, bs_table_begin(table));
+  close_table();
+}
+
 /* Nobody rests while a thread sleeps for a slot. */
 static void a_slot_is_handed_on(void) {
   struct sleeper s;
@@ -740,6 +753,7 @@ int main(int count, char **words) {
   TELL(a_path_goes_on_past_it);
   TELL(one_that_works_is_not_ended);
   TELL(a_begin_gets_a_slot);
+  TELL(who_was_aborted_makes_no_room);
   TELL(a_slot_is_handed_on);
   TELL(calls_in_the_wrong_order);
   TELL(what_is_no_session);
