@@ -9,3 +9,5 @@ mod Ends
 -- victims, and what comes before them
 mod VictimOrder
 mod KeepsTurns
+-- what a run leaves of one that it does not name
+pub mod Aside

@@ -1,5 +1,6 @@
 //! The laws of waiting, each the contract of a call that does nothing.
 
+ghost use Rattle.gl_fairness.specs.Aside.{LeavesAside};
 ghost use Rattle.gl_fairness.specs.Ends.{WaitsEnd, WaitsForOneBefore, WaitsForSomebody};
 ghost use Rattle.gl_fairness.specs.Passed.{EachPassesAtMost, PassedAtMost, PassesAreSpent, RaisesEnd};
 ghost use Rattle.gl_fairness.specs.Turns.{VictimAfterALiving, VictimAfterOthers, VictimAfterSomebody};
@@ -53,4 +54,10 @@ pub fn keeps_its_turn()
     ensures living { VictimAfterALiving }
     ensures no_more { NoMoreComeBefore }
     ensures first { FirstIsNeverVictim }
+{}
+
+/// An active transaction that a run does not name stays active and keeps its locks. Of others, only
+/// those whose request the run left waiting may wait for it anew.
+pub fn stays_aside()
+    ensures { LeavesAside }
 {}
