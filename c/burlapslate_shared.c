@@ -127,9 +127,7 @@ struct bs_table {
   table_waiter *waiters[BS_SLOTS]; /* by slot: who awaits its end */
   table_deadline deadlines[BS_SLOTS]; /* by slot: of the transaction of this age, and of no later one */
   table_instant instants[BS_SLOTS]; /* by slot: for which lock it waited that a list requested, up to its next wait */
-  size_t rests;                   /* how many transactions of sessions rest */
-  bs_slots resting;               /* their slots */
-  uint64_t resting_ages[BS_SLOTS]; /* by slot: of the transaction of this age, and of no later one */
+  bool has_rested;                /* a transaction of a session has rested: one may rest still */
   size_t to_tell;                 /* how many ends of asks must be told, and asks that tell others' before they end */
   pthread_cond_t left;            /* the last sleeper has left an ending table, or the last end was told */
   bool is_watched;                /* there is a thread that watches, and it looks by `eye` */
@@ -191,6 +189,11 @@ TABLE_MAKES(lock_row, (bs_table *table, bs_txn txn, bs_node file, uint64_t numbe
             bs_mode mode, bs_notices *told), txn, file, number, keys, count, mode, told)
 TABLE_MAKES(call_try_row, (bs_table *table, bs_txn txn, bs_node file, uint64_t number, const uint64_t *keys,
             size_t count, bs_mode mode, bs_notices *told), txn, file, number, keys, count, mode, told)
+TABLE_MAKES(call_commit_and_rest, (bs_table *table, bs_txn txn, size_t keep, uint64_t since, bs_notices *told),
+            txn, keep, since, told)
+TABLE_MAKES(call_clear_way, (bs_table *table, bs_notices *told), told)
+TABLE_MAKES(call_clear_node, (bs_table *table, bs_node node, bs_mode mode, bs_notices *told), node, mode, told)
+TABLE_MAKES(call_make_room, (bs_table *table, bs_notices *told), told)
 TABLE_MAKES(call_go_on, (bs_table *table, bs_notices *told), told)
 TABLE_MAKES(call_time_out, (bs_table *table, bs_txn txn, bs_notices *told), txn, told)
 TABLE_MAKES(unlock_row, (bs_table *table, bs_txn txn, bs_node file, uint64_t number, bs_notices *told),
@@ -318,18 +321,6 @@ static bool table_is_same_node(bs_node one, bs_node other) {
   return one.key == other.key && one.birth == other.birth;
 }
 
-/* A transaction rests from now on. If one that rested in its slot was aborted by name, that is still counted. */
-static void table_rests_now(bs_table *table, bs_txn txn) {
-  if (!bs_has(table->resting, txn.slot)) table->rests++;
-  table->resting.words[txn.slot / 64] |= (uint64_t)1 << txn.slot % 64;
-  table->resting_ages[txn.slot] = txn.age;
-}
-
-static void table_rests_no_more(bs_table *table, uint32_t slot) {
-  table->resting.words[slot / 64] &= ~((uint64_t)1 << slot % 64);
-  table->rests--;
-}
-
 /* The request of this waiter has ended: wakes its thread as the hold ends; an ask is answered by its call, or else its
  * end must be told. */
 static void table_end(bs_table *table, table_waiter *waiter, uint32_t slot, bs_reply end) {
@@ -383,36 +374,20 @@ static void table_gone_on(bs_table *table, bs_reply came) {
   else table_end(table, waiter, came.txn.slot, came);
 }
 
-/* Ends a transaction that rests: it holds intentions alone, and has done nothing. Answers false if it was aborted by
- * name, and nothing is left to end. Adds what that tells. */
-static bool table_end_resting(bs_table *table, uint32_t slot, bs_notices *told) {
-  bs_txn txn;
-  bs_notices more;
-  txn.slot = slot;
-  txn.age = table->resting_ages[slot];
-  table_rests_no_more(table, slot);
-  if (table_make_commit(table, txn, &more).status != BS_DONE) return false;
-  table_note_ended(table, &more);
-  table_tell_too(told, &more);
+/* Whether a call has ended one who rested. Adds what that told. */
+static TABLE_APART bool table_ended_resting(bs_table *table, bs_reply reply, const bs_notices *more, bs_notices *told) {
+  if (reply.status != BS_DONE) return false;
+  table_note_ended(table, more);
+  table_tell_too(told, more);
   return true;
 }
 
-/* Ends those of these who rest; whether there were any. */
-static TABLE_APART bool table_end_those_who_rest(bs_table *table, const bs_slots *among, bs_notices *told) {
-  size_t before = table->rests;
-  uint32_t from;
-  for (from = 0; from < BS_SLOTS; from += 64) {
-    uint64_t word = among->words[from / 64] & table->resting.words[from / 64];
-    for (; word != 0; word &= word - 1) table_end_resting(table, from + (uint32_t)__builtin_ctzll(word), told);
-  }
-  return table->rests < before;
-}
-
-/* Ends those who rest and for whom this transaction waits: nobody ever waits for one who rests. The library says for
- * whom it waits. */
-static TABLE_APART bool table_end_in_the_way(bs_table *table, bs_txn txn, bs_notices *told) {
-  bs_slots among = bs_waits_for(&table->manager, txn).slots;
-  return table_end_those_who_rest(table, &among, told);
+/* Ends those who rest and for whom somebody waits; whether there were any. The library says who. */
+static TABLE_APART bool table_clear_all(bs_table *table, bs_notices *told) {
+  bs_notices more;
+  bool any = false;
+  while (table_ended_resting(table, table_make_call_clear_way(table, &more), &more, told)) any = true;
+  return any;
 }
 
 /* Continues each waiter whose wait is over, by rising slots, until none is: the library says which, and how, and whether
@@ -430,14 +405,14 @@ static TABLE_APART void table_go_on(bs_table *table, bs_notices *told) {
     }
     table_gone_on(table, came);
     is_over = came.count != 0;
-    if (table->rests > 0 && came.status == BS_WAITING) is_over |= table_end_in_the_way(table, came.txn, told);
+    if (table->has_rested && came.status == BS_WAITING) is_over |= table_clear_all(table, told);
   } while (is_over);
 }
 
 /* After a request that was left waiting: ends those who rest and are in its way, and continues whose wait that ends. One
  * for a row is in nobody's way who rests: a record is held in S or X alone. */
-static TABLE_APART void table_clear_way(bs_table *table, bs_txn txn, bs_notices *told) {
-  if (table_end_in_the_way(table, txn, told)) table_go_on(table, told);
+static TABLE_APART void table_clear_way(bs_table *table, bs_notices *told) {
+  if (table_clear_all(table, told)) table_go_on(table, told);
 }
 
 /* Continues those whose wait the last accepted command has ended. */
@@ -668,27 +643,15 @@ static TABLE_APART bs_reply table_sleep_in_begin_queue(bs_table *table, table_qu
   return own->begun;
 }
 
-/* The slot that has rested longest: each renewal gives a greater age. Some slot rests. */
-static uint32_t table_longest(const bs_table *table) {
-  uint32_t slot, longest = BS_SLOTS;
-  for (slot = 0; slot < BS_SLOTS; slot++) {
-    if (!bs_has(table->resting, slot)) continue;
-    if (longest == BS_SLOTS || table->resting_ages[slot] < table->resting_ages[longest]) longest = slot;
-  }
-  return longest;
-}
-
 /* Ends the transaction that has rested longest; whether there was one. It tells nobody, since nobody waits for it. */
 static TABLE_APART bool table_end_longest(bs_table *table) {
-  while (table->rests > 0) {
-    if (table_end_resting(table, table_longest(table), &table->told)) return true;
-  }
-  return false;
+  bs_notices more;
+  return table_ended_resting(table, table_make_call_make_room(table, &more), &more, &table->told);
 }
 
 /* Whether a begin that was answered so is to be made again: no slot was free, and one who rested has given up its. */
 static inline bool table_makes_room(bs_table *table, bs_reply reply) {
-  return __builtin_expect(reply.status == BS_TOO_MANY_TXNS, 0) && table_end_longest(table);
+  return __builtin_expect(reply.status == BS_TOO_MANY_TXNS, 0) && table->has_rested && table_end_longest(table);
 }
 
 /* Makes the call bs_begin with the latch held. */
@@ -932,7 +895,7 @@ bs_reply bs_table_begin_again(bs_table *table, uint64_t since) {
 static bs_reply table_begin_or_sleep(bs_table *table, uint64_t since, const struct timespec *until) {
   table_queued_begin own;
   bs_reply reply;
-  if (table->rests > 0) {
+  if (table->has_rested) {
     reply = table_begin_again_now(table, since);
     if (reply.status != BS_TOO_MANY_TXNS) return reply;
   }
@@ -1013,7 +976,7 @@ static TABLE_IN_LINE bs_reply table_lock_by(bs_table *table, bs_txn txn, bs_node
     table_register(table, &request, wait, waiter);
   }
   table_wake(table, reply.status, told, false);
-  if (reply.status == BS_WAITING && table->rests > 0) table_clear_way(table, txn, told);
+  if (reply.status == BS_WAITING && table->has_rested) table_clear_way(table, told);
   if (is_instant && reply.status == BS_DONE) table_give_back_at_once(table, txn, node, told);
   return reply;
 }
@@ -1044,7 +1007,7 @@ static TABLE_IN_LINE bs_reply table_path_by(bs_table *table, bs_txn txn, bs_node
     table_register(table, &request, wait, waiter);
   }
   table_wake(table, reply.status, told, false);
-  if (reply.status == BS_WAITING && table->rests > 0) table_clear_way(table, txn, told);
+  if (reply.status == BS_WAITING && table->has_rested) table_clear_way(table, told);
   if (is_instant && reply.status == BS_DONE) table_give_back_at_once(table, txn, node, told);
   return reply;
 }
@@ -1074,18 +1037,19 @@ static inline bs_reply table_path_through(bs_table *table, bs_txn txn, bs_node n
   return reply;
 }
 
-/* After a request of a node in this mode that was refused since it would block: ends those who rest there, unless it
- * wants an intention, which goes with theirs; whether it has ended any. Then the request is made again. */
+/* After a request of a node in this mode that was refused since it would block: ends those who rest and keep it from
+ * that; whether it has ended any. Then the request is made again. */
 static TABLE_APART bool table_clears_node(bs_table *table, bs_node node, bs_mode mode) {
-  bs_slots among = bs_holders(&table->manager, node).slots;
-  table->told.count = 0;
-  if (mode <= BS_IX || !table_end_those_who_rest(table, &among, &table->told)) return false;
-  table_go_on(table, &table->told);
-  return true;
+  bs_notices more, *told = &table->told;
+  bool any = false;
+  told->count = 0;
+  while (table_ended_resting(table, table_make_call_clear_node(table, node, mode, &more), &more, told)) any = true;
+  if (any) table_go_on(table, told);
+  return any;
 }
 
 static inline bool table_may_clear(const bs_table *table, bs_reply reply) {
-  return __builtin_expect(reply.status == BS_WOULD_BLOCK, 0) && table->rests > 0;
+  return __builtin_expect(reply.status == BS_WOULD_BLOCK, 0) && table->has_rested;
 }
 
 /* Makes the call bs_try with the latch held. */
@@ -1548,33 +1512,37 @@ bs_reply bs_table_expire(bs_table *table, struct timespec *next) {
  * Sessions.
  */
 
-/* Whether the last transaction of a session rests. */
-static bool table_session_rests(const bs_table *table, const bs_session *session) {
-  bs_txn own = session->txn;
-  return own.age != 0 && bs_has(table->resting, own.slot) && table->resting_ages[own.slot] == own.age;
+static bool table_lives(const bs_table *table, bs_txn txn) {
+  return txn.age != 0 && bs_call_doing(&table->manager, txn).status == BS_DONE;
 }
 
-static bool table_session_lives(const bs_table *table, const bs_session *session) {
-  return session->txn.age != 0 && bs_call_doing(&table->manager, session->txn).status == BS_DONE;
-}
-
-/* A session takes a transaction up, or has none. */
+/* A session takes a transaction up, or has none. None rests then. */
 static bs_reply table_session_has(bs_session *session, bs_reply begun) {
-  session->txn = begun.status == BS_DONE ? begun.txn : bs_call_only(BS_DONE).txn;
+  const bs_txn none = bs_call_only(BS_DONE).txn;
+  session->txn = begun.status == BS_DONE ? begun.txn : none;
+  session->rests = none;
   session->kept = 0;
   return begun;
 }
 
+/* Whether a transaction of a session rests: if so, it works again. */
+static bool table_session_wakes(bs_table *table, const bs_session *session) {
+  return session->rests.age != 0 && bs_call_wake(&table->manager, session->rests).status == BS_DONE;
+}
+
+/* The transaction that rested is the session's next one. */
+static bs_reply table_session_takes_up(bs_session *session) {
+  bs_reply reply = bs_call_only(BS_DONE);
+  session->txn = session->rests;
+  session->rests = reply.txn;
+  reply.txn = session->txn;
+  return reply;
+}
+
 /* Begins the next transaction of a session: the one that rests is it, unless it was aborted by name. */
 static bs_reply table_session_begin(bs_table *table, bs_session *session, const struct timespec *until) {
-  bs_reply reply = bs_call_only(BS_DONE);
-  bool rests = table_session_rests(table, session);
-  if (rests) table_rests_no_more(table, session->txn.slot);
-  if (table_session_lives(table, session)) {
-    if (!rests) return bs_call_only(BS_IN_USE);
-    reply.txn = session->txn;
-    return reply;
-  }
+  if (table_lives(table, session->txn)) return bs_call_only(BS_IN_USE);
+  if (table_session_wakes(table, session)) return table_session_takes_up(session);
   return table_session_has(session, table_begin_or_sleep(table, TABLE_NEW_WORK, until));
 }
 
@@ -1589,7 +1557,7 @@ bs_reply bs_session_begin(bs_session *session, const struct timespec *until) {
 
 /* Ends the one that rests, if there is one. It tells nobody, since nobody waits for it. */
 static void table_session_rests_no_more(bs_table *table, bs_session *session) {
-  if (table_session_rests(table, session)) table_end_resting(table, session->txn.slot, &table->told);
+  if (table_session_wakes(table, session)) table_make_commit(table, session->rests, &table->told);
 }
 
 bs_reply bs_session_begin_again(bs_session *session, uint64_t since, const struct timespec *until) {
@@ -1597,7 +1565,7 @@ bs_reply bs_session_begin_again(bs_session *session, uint64_t since, const struc
   if (session == NULL) return bs_call_null();
   if (!table_enter_to_sleep(session->table, until)) return table_no_sleep(session->table);
   table_session_rests_no_more(session->table, session);
-  if (table_session_lives(session->table, session)) return table_leave(session->table, bs_call_only(BS_IN_USE));
+  if (table_lives(session->table, session->txn)) return table_leave(session->table, bs_call_only(BS_IN_USE));
   reply = table_session_has(session, table_begin_or_sleep(session->table, since, until));
   table_release(session->table);
   return reply;
@@ -1614,22 +1582,15 @@ static uint32_t table_first_intentions(const bs_table *table, const bs_session *
   return count;
 }
 
-/* The same as bs_commit_keeping by commands that are lines of a trace. */
-static TABLE_APART bs_reply table_commit_in_lines(bs_table *table, bs_txn txn, uint32_t keep, bs_notices *told) {
+/* The same by commands that are lines of a trace each. */
+static TABLE_APART bs_reply table_rest_in_lines(bs_table *table, bs_txn txn, uint32_t keep, bs_notices *told) {
   bs_notices more;
-  bs_reply renewed, reply = table_make_release_since(table, txn, keep, told);
+  bs_reply reply = table_make_release_since(table, txn, keep, told);
   if (reply.status != BS_DONE) return reply;
   if (told->count > 0) table_note_ended(table, told);
-  renewed = table_make_renew(table, txn, TABLE_NEW_WORK);
-  if (renewed.status == BS_DONE) return renewed;
-  reply = table_make_commit(table, txn, &more);
+  reply = table_make_call_commit_and_rest(table, txn, keep, TABLE_NEW_WORK, &more);
   table_tell_too(told, &more);
   return reply;
-}
-
-static inline bs_reply table_commit_keeping(bs_table *table, bs_txn txn, uint32_t keep, bs_notices *told) {
-  if (__builtin_expect(table->is_traced, 0)) return table_commit_in_lines(table, txn, keep, told);
-  return bs_commit_keeping(&table->manager, txn, keep, TABLE_NEW_WORK, told);
 }
 
 /* Commits a session's transaction, and lets the next one rest. While others sleep for a slot nobody rests. */
@@ -1637,12 +1598,15 @@ static bs_reply table_commit_and_rest(bs_table *table, bs_session *session, bs_n
   uint32_t keep = table->queued > 0 ? 0 : table_first_intentions(table, session);
   bs_reply reply;
   if (keep == 0) return table_make_commit(table, session->txn, told);
-  reply = table_commit_keeping(table, session->txn, keep, told);
+  reply = __builtin_expect(table->is_traced, 0)
+              ? table_rest_in_lines(table, session->txn, keep, told)
+              : bs_call_commit_and_rest(&table->manager, session->txn, keep, TABLE_NEW_WORK, told);
   if (reply.status != BS_DONE || reply.txn.age == 0) return reply;
-  session->txn = reply.txn;
+  session->rests = reply.txn;
   session->kept = keep;
-  table_rests_now(table, reply.txn);
+  table->has_rested = true;
   reply = bs_call_only(BS_DONE);
+  session->txn = reply.txn;
   reply.count = keep;
   return reply;
 }
@@ -1654,7 +1618,6 @@ bs_reply bs_session_commit(bs_session *session, bs_notices *told) {
   if (!table_enter(table)) return table_tell_none(table, told);
   list = table_list_of(table, told);
   list->count = 0;
-  if (table_session_rests(table, session)) return table_leave(table, bs_call_only(BS_NO_SUCH_TXN));
   reply = table_commit_and_rest(table, session, list);
   table_wake(table, reply.status, list, false);
   table_hand_on(table);
@@ -1666,7 +1629,7 @@ bs_reply bs_session_end(bs_session *session) {
   bs_table *table = session == NULL ? NULL : session->table;
   if (!table_enter(table)) return table_no_table(table);
   table_session_rests_no_more(table, session);
-  if (table_session_lives(table, session)) return table_leave(table, bs_call_only(BS_IN_USE));
+  if (table_lives(table, session->txn)) return table_leave(table, bs_call_only(BS_IN_USE));
   table_session_has(session, bs_call_only(BS_NO_SUCH_TXN));
   table_hand_on(table);
   return table_leave(table, bs_call_only(BS_DONE));
@@ -1799,7 +1762,7 @@ static TABLE_APART void table_settle_made(bs_table *table, bs_command *c, bs_txn
 
 /* After a command of a list that was left waiting, and after those whose wait it has ended have gone on. */
 static TABLE_APART void table_made_waiting(bs_table *table, bs_command *c, bs_txn txn, bs_notices *told) {
-  if (table->rests > 0) table_clear_way(table, txn, told);
+  if (table->has_rested) table_clear_way(table, told);
   if (told->count > 0) table_settle_made(table, c, txn, told);
 }
 

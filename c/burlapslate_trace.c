@@ -737,6 +737,39 @@ bs_reply bs_traced_call_time_out(bs_trace *trace, bs_txn txn, bs_notices *told) 
 }
 
 /* ------------------------------------------------------------------------------------------------
+ * Those who rest.
+ */
+
+/* A commit that keeps locks is a renewal, or a commit, if all that it releases was released before. */
+bs_reply bs_traced_call_commit_and_rest(bs_trace *trace, bs_txn txn, size_t keep, uint64_t since, bs_notices *told) {
+  bs_reply reply = bs_call_commit_and_rest(trace->manager, txn, keep, since, told);
+  trace_line line = trace_line_of(TRACE_RENEW, txn, BS_NL);
+  if (reply.status != BS_DONE || reply.txn.age == 0) return trace_end_of(trace, TRACE_COMMIT, txn, reply, told);
+  line.head.count = reply.txn.age;
+  trace_add_numbers(&line, &since, 1);
+  return trace_end(trace, &line, reply, NULL);
+}
+
+/* The end of one who rested is its commit. */
+static bs_reply trace_end_resting(bs_trace *trace, bs_reply reply, const bs_notices *told) {
+  trace_line line = trace_line_of(TRACE_COMMIT, reply.txn, BS_NL);
+  if (reply.status == BS_DONE) trace_say(trace, &line, bs_call_only(BS_DONE), told);
+  return trace_end_call(trace, reply);
+}
+
+bs_reply bs_traced_call_clear_way(bs_trace *trace, bs_notices *told) {
+  return trace_end_resting(trace, bs_call_clear_way(trace->manager, told), told);
+}
+
+bs_reply bs_traced_call_clear_node(bs_trace *trace, bs_node node, bs_mode mode, bs_notices *told) {
+  return trace_end_resting(trace, bs_call_clear_node(trace->manager, node, mode, told), told);
+}
+
+bs_reply bs_traced_call_make_room(bs_trace *trace, bs_notices *told) {
+  return trace_end_resting(trace, bs_call_make_room(trace->manager, told), told);
+}
+
+/* ------------------------------------------------------------------------------------------------
  * The text.
  */
 

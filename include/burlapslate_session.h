@@ -23,10 +23,11 @@ static inline bs_reply bs_commit_keeping(bs_manager *manager, bs_txn txn, uint64
   return bs_call_commit_keeping(manager, txn, (size_t)keep, since, told);
 }
 
-/* A session of one thread with a table, made by bs_session_of. Its fields are the library's. */
+/* A session of one thread with a table, made by bs_session_of. Its fields are the library's. While a transaction rests,
+ * `txn` names none, so a call for it is refused with BS_NO_SUCH_TXN. */
 typedef struct bs_session {
   bs_table *table;
-  bs_txn txn;
+  bs_txn txn, rests;
   uint32_t most, kept;
 } bs_session;
 

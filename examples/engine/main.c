@@ -2,9 +2,10 @@
  * A small storage engine over the lock manager: threads that move money between accounts, open and close
  * accounts, and read many at once, all under granular locks. README.md says what is where.
  *
- *   engine [--watch] [--skip-lock]
+ *   engine [--watch] [--sessions] [--skip-lock]
  *
  * --watch      deadlocks are ended by a thread that watches, and not when a transaction begins to wait.
+ * --sessions   the transactions of each worker are those of one session, which keeps its intentions.
  * --skip-lock  a planted fault: two payments skip their lock. The program must find the lost update.
  *
  * Status 0: all was as it must be; 1: something was not, and standard error says what; 2: wrong words.
@@ -24,13 +25,14 @@ enum { TELLERS = 6, TRANSFERS = 500, CHANGES = 300, AUDITS = 150, LISTS = 300 };
 enum { PATIENCE = 2 };
 
 struct words {
-  bool watch, skip_lock;
+  bool watch, sessions, skip_lock;
 };
 
 static bool read_words(int count, char **word, struct words *words) {
   int i;
   for (i = 1; i < count; i++) {
     if (strcmp(word[i], "--watch") == 0) words->watch = true;
+    else if (strcmp(word[i], "--sessions") == 0) words->sessions = true;
     else if (strcmp(word[i], "--skip-lock") == 0) words->skip_lock = true;
     else return false;
   }
@@ -44,6 +46,7 @@ static bool read_words(int count, char **word, struct words *words) {
 struct worker {
   struct bank *bank;
   void *(*run)(void *);
+  bool in_session;
   uint64_t dice;
   pthread_t thread;
 };
@@ -124,7 +127,15 @@ static void *run_lister(void *arg) {
   return NULL;
 }
 
-static void run_crowd(struct bank *b) {
+static void *run_worker(void *arg) {
+  struct worker *w = arg;
+  if (w->in_session) txn_begin_session(w->bank);
+  w->run(w);
+  if (w->in_session) txn_end_session();
+  return NULL;
+}
+
+static void run_crowd(struct bank *b, bool in_sessions) {
   static void *(*const others[])(void *) = { run_branch, run_auditor, run_lister };
   enum { OTHERS = sizeof others / sizeof others[0], ALL = TELLERS + OTHERS };
   struct worker workers[ALL];
@@ -132,9 +143,10 @@ static void run_crowd(struct bank *b) {
   for (i = 0; i < ALL; i++) {
     struct worker *w = &workers[i];
     w->bank = b;
+    w->in_session = in_sessions;
     w->dice = 0x9e3779b97f4a7c15u * (i + 1);
     w->run = i < TELLERS ? run_teller : others[i - TELLERS];
-    if (pthread_create(&w->thread, NULL, w->run, w) != 0) fail("no thread for a worker");
+    if (pthread_create(&w->thread, NULL, run_worker, w) != 0) fail("no thread for a worker");
   }
   for (i = 0; i < ALL; i++) pthread_join(workers[i].thread, NULL);
 }
@@ -182,16 +194,16 @@ static void print_summary(struct bank *b) {
 
 int main(int count, char **word) {
   static struct bank bank;
-  struct words words = { false, false };
+  struct words words = { false, false, false };
   if (!read_words(count, word, &words)) {
-    fputs("usage: engine [--watch] [--skip-lock]\n", stderr);
+    fputs("usage: engine [--watch] [--sessions] [--skip-lock]\n", stderr);
     return 2;
   }
   bank_open(&bank, words.watch ? BS_BY_WATCHER : BS_AT_BLOCK);
   found_accounts(&bank);
   led_waits(&bank);
   led_payments(&bank, words.skip_lock);
-  run_crowd(&bank);
+  run_crowd(&bank, words.sessions);
   bank_check(&bank, FOUNDERS * FIRST_BALANCE);
   print_summary(&bank);
   bank_close(&bank);

@@ -1,6 +1,6 @@
 #!/usr/bin/env bash
 # run.sh [--slots N]: compiles the engine over the C library and runs it: with deadlocks found when a wait begins, with a
-# watcher, and with the planted fault, which it must refuse by the lost update that comes of it. Ends with
+# watcher, with sessions, and with the planted fault, which it must refuse by the lost update that comes of it. Ends with
 # status 1 where something is not as wanted; where there is no C compiler it says so, and ends with status 77: not
 # tried. CC names another compiler than cc. N is the number of slots of the library, 128 or 1024 (tools/c_library.sh).
 set -uo pipefail
@@ -40,6 +40,7 @@ run() {
 
 run
 run --watch
+run --sessions
 
 echo "engine --skip-lock"
 timeout 120 "$work/engine" --skip-lock >"$work/out" 2>&1

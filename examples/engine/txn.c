@@ -6,6 +6,18 @@
  * Locks.
  */
 
+/* The session of this thread, if it has one. */
+static __thread bs_session session;
+
+void txn_begin_session(struct bank *b) {
+  session = bs_session_of(b->locks, MOST_KEPT);
+}
+
+void txn_end_session(void) {
+  MUST(bs_session_end(&session));
+  session.table = NULL;
+}
+
 /* Locks a node, with the intentions above it. */
 static bs_status lock(struct txn *t, bs_node node, bs_mode mode) {
   struct timespec until = bs_after(t->patience);
@@ -132,6 +144,7 @@ static bs_status commit(struct txn *t) {
   if (t->opens) insert_opened(t);
   if (t->closes) delete_closed(t);
   rekey_written(t);
+  if (t->in_session) return MUST(bs_session_commit(&session, NULL)).status;
   return MUST(bs_table_commit(t->bank->locks, t->name, NULL)).status;
 }
 
@@ -144,12 +157,16 @@ static void roll_back(struct txn *t) {
   MUST(bs_table_abort(t->bank->locks, t->name, NULL));
 }
 
-/* Either way it sleeps where all slots are taken. */
+/* If all slots are taken it sleeps. */
+static bs_reply begin(struct bank *b, uint64_t since) {
+  if (session.table != NULL) return since != 0 ? bs_session_begin_again(&session, since, NULL) : bs_session_begin(&session, NULL);
+  return since != 0 ? bs_table_begin_again_in_turn(b->locks, since, NULL) : bs_table_begin_in_turn(b->locks, NULL);
+}
+
 struct txn txn_begin(struct bank *b, uint64_t *since, unsigned patience) {
-  struct txn t = { .bank = b, .patience = patience };
+  struct txn t = { .bank = b, .in_session = session.table != NULL, .patience = patience };
   bool is_again = since != NULL && *since != 0;
-  if (is_again) t.name = MUST(bs_table_begin_again_in_turn(b->locks, *since, NULL)).txn;
-  else t.name = MUST(bs_table_begin_in_turn(b->locks, NULL)).txn;
+  t.name = MUST(begin(b, is_again ? *since : 0)).txn;
   if (since != NULL && !is_again) *since = t.name.age;
   return t;
 }

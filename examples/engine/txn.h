@@ -11,7 +11,9 @@
 
 #include "bank.h"
 
-enum { MOST_WRITES = 4 };
+#include "burlapslate_session.h"
+
+enum { MOST_WRITES = 4, MOST_KEPT = 16 };
 
 /* The patience of who waits as long as it takes. */
 enum { FOR_EVER = 0 };
@@ -25,6 +27,7 @@ struct undo {
 struct txn {
   struct bank *bank;
   bs_txn name;
+  bool in_session;   /* of its thread */
   unsigned patience; /* of each wait, in milliseconds */
   size_t writes;
   struct undo undo[MOST_WRITES];
@@ -33,6 +36,10 @@ struct txn {
   bool closes;       /* this account */
   bs_node closed;
 };
+
+/* From the first on, a thread's transactions are those of one session, which keeps intentions from one to the next. */
+void txn_begin_session(struct bank *b);
+void txn_end_session(void);
 
 /* Begins a transaction. Work that is done again, since a transaction for it was rolled back, keeps its turn among those
  * whom a deadlock takes: `since` is 0 before its first begin, is written then, and is handed in each time. With null

@@ -293,39 +293,35 @@ trace-goes-on-by-one-lock	/^bs_reply bs_traced_call_go_on(/,/^}/s/next.txn, (siz
 trace-gives-back-unsaid	/^bs_reply bs_traced_call_go_on(/,/^}/s/^    trace_say(trace, &line, done, told);//
 trace-gives-back-by-a-lock	/^bs_reply bs_traced_call_go_on(/,/^}/s/next.count == TRACE_GIVES_BACK ? TRACE_UNLOCK : TRACE_LOCK/TRACE_LOCK/
 trace-hides-a-time-that-is-over	/^bs_reply bs_traced_call_time_out(/,/^}/s/^  if (reply.status == BS_TIMED_OUT) trace_say(.*//
-a-lock-waits-for-who-rests	/ table_lock_by(/,/^}/s/^  if (reply.status == BS_WAITING \&\& table->rests > 0) .*//
-a-path-waits-for-who-rests	/ table_path_by(/,/^}/s/^  if (reply.status == BS_WAITING \&\& table->rests > 0) .*//
-a-list-waits-for-who-rests	/ table_made_waiting(/,/^}/s/^  if (table->rests > 0) .*//
-a-path-goes-on-to-who-rests	s/^    if (table->rests > 0 \&\& came.status == BS_WAITING) .*//
-who-waited-for-who-rests-goes-not-on	s/^    if (table->rests > 0 \&\& came.status == BS_WAITING) is_over |= /    if (table->rests > 0 \&\& came.status == BS_WAITING) /
-nobody-goes-on-past-who-rested	s/^  if (table_end_in_the_way(table, txn, told)) table_go_on(table, told);/  table_end_in_the_way(table, txn, told);/
-all-who-rest-are-ended	s/^    uint64_t word = among->words.from . 64. & table->resting.words.from . 64.;/    uint64_t word = table->resting.words[from \/ 64];/
-all-in-the-way-are-ended	s/^    uint64_t word = among->words.from . 64. & table->resting.words.from . 64.;/    uint64_t word = among->words[from \/ 64];/
+a-lock-waits-for-who-rests	/ table_lock_by(/,/^}/s/^  if (reply.status == BS_WAITING \&\& table->has_rested) .*//
+a-path-waits-for-who-rests	/ table_path_by(/,/^}/s/^  if (reply.status == BS_WAITING \&\& table->has_rested) .*//
+a-list-waits-for-who-rests	/ table_made_waiting(/,/^}/s/^  if (table->has_rested) .*//
+a-path-goes-on-to-who-rests	s/^    if (table->has_rested \&\& came.status == BS_WAITING) .*//
+who-waited-for-who-rests-goes-not-on	s/^    if (table->has_rested \&\& came.status == BS_WAITING) is_over |= /    if (table->has_rested \&\& came.status == BS_WAITING) /
+nobody-goes-on-past-who-rested	s/^  if (table_clear_all(table, told)) table_go_on(table, told);/  table_clear_all(table, told);/
 a-try-is-refused-for-who-rests	/ table_try_now(/,/^}/s/^  if (table_may_clear(table, reply) .*/  if (false) {/
 a-try-of-a-path-is-refused-for-who-rests	/ table_path_tried(/,/^}/s/^  if (!table_may_clear(table, reply) .*/  return reply;/
 an-escalation-is-refused-for-who-rests	/ table_do_escalate(/,/^}/s/^  if (!table_may_clear(table, reply) .*/  return reply;/
-an-intention-ends-who-rests	s/^  if (mode <= BS_IX || !table_end_those_who_rest(/  if (!table_end_those_who_rest(/
-who-works-is-ended	s/^  if (rests) table_rests_no_more(table, session->txn.slot);//
-who-has-its-slot-is-ended	/ table_end_resting(/,/^}/s/^  txn.age = .*/  txn.age = bs_call_living(\&table->manager, slot).txn.age;/
-who-rests-is-counted-twice	s/^  if (!bs_has(table->resting, txn.slot)) table->rests++;/  table->rests++;/
-who-rests-tells-nobody	/ table_end_resting(/,/^}/s/^  table_tell_too(told, &more);//
-the-last-to-rest-is-ended	s/ || table->resting_ages\[slot\] < table->resting_ages\[longest\]) / || table->resting_ages[slot] > table->resting_ages[longest]) /
-a-begin-finds-no-slot	s/^  return __builtin_expect(reply.status == BS_TOO_MANY_TXNS, 0) .*/  return false;/
-who-was-aborted-makes-room	s/^    if (table_end_resting(table, table_longest(table), &table->told)) return true;/    table_end_resting(table, table_longest(table), \&table->told); return true;/
-a-begin-sleeps-while-one-rests	/ table_begin_or_sleep(/,/^}/s/^  if (table->rests > 0) {/  if (false) {/
+who-rests-tells-nobody	/ table_ended_resting(/,/^}/s/^  table_tell_too(told, more);//
+a-begin-finds-no-slot	s/^  return __builtin_expect(reply.status == BS_TOO_MANY_TXNS, 0) \&\& table->has_rested .*/  return false;/
+a-begin-sleeps-while-one-rests	/ table_begin_or_sleep(/,/^}/s/^  if (table->has_rested) {/  if (false) {/
 a-list-begins-without-a-slot	s/^    case BS_DO_BEGIN: return table_begin_now(table);/    case BS_DO_BEGIN: return table_make_begin(table);/
 one-rests-while-others-sleep	s/^  uint32_t keep = table->queued > 0 ? 0 : /  uint32_t keep = /
 a-session-keeps-more	/ table_first_intentions(/,/^}/s/count < session->most; count++/; count++/
 a-session-keeps-what-it-kept-alone	/ table_first_intentions(/,/^}/s/^  for (; count < session->most; count++) {/  for (; session->kept == 0 \&\& count < session->most; count++) {/
 a-session-keeps-an-x	s/^    if (lock.status != BS_DONE || (lock.mode != BS_IS .*/    if (lock.status != BS_DONE) break;/
-what-is-not-renewed-stays	/ table_commit_in_lines(/,/^}/s/^  reply = table_make_commit(table, txn, &more);/  more.count = 0;/
 what-is-not-kept-was-kept	/ table_commit_and_rest(/,/^}/s/ || reply.txn.age == 0) return reply;/) return reply;/
-a-commit-in-lines-ends-no-wait	/ table_commit_in_lines(/,/^}/s/^  if (told->count > 0) table_note_ended(table, told);//
-a-commit-that-keeps-is-not-in-the-trace	/ table_commit_keeping(/,/^}/s/^  if (__builtin_expect(table->is_traced, 0)) .*//
-who-rests-commits-again	/^bs_reply bs_session_commit(/,/^}/s/^  if (table_session_rests(table, session)) .*//
-a-session-begins-twice	s/^    if (!rests) return bs_call_only(BS_IN_USE);//
-a-session-ends-in-a-transaction	/^bs_reply bs_session_end(/,/^}/s/^  if (table_session_lives(table, session)) .*//
-what-a-session-kept-stays	s/^  if (table_session_rests(table, session)) table_end_resting(.*//
+one-in-the-way-alone-is-ended	/ table_clear_all(/,/^}/s/^  while (\(.*\)) any = true;/  if (\1) any = true;/
+a-try-ends-one-alone	/ table_clears_node(/,/^}/s/^  while (\(.*\)) any = true;/  if (\1) any = true;/
+nobody-goes-on-past-a-try	/ table_clears_node(/,/^}/s/^  if (any) table_go_on(table, told);//
+who-rests-ends-no-wait	/ table_ended_resting(/,/^}/s/^  table_note_ended(table, more);//
+what-rests-is-not-in-the-trace	s/^  reply = __builtin_expect(table->is_traced, 0)$/  reply = false/
+a-commit-in-lines-ends-no-wait	/ table_rest_in_lines(/,/^}/s/^  if (told->count > 0) table_note_ended(table, told);//
+who-rested-is-no-more	/ table_session_begin(/,/^}/s/^  if (table_session_wakes(table, session)) .*//
+who-rests-has-a-name	/ table_commit_and_rest(/,/^}/s/^  session->txn = reply.txn;/  session->txn = session->rests;/
+a-session-begins-twice	/ table_session_begin(/,/^}/s/^  if (table_lives(table, session->txn)) .*//
+a-session-ends-in-a-transaction	/^bs_reply bs_session_end(/,/^}/s/^  if (table_lives(table, session->txn)) .*//
+what-a-session-kept-stays	s/^  if (table_session_wakes(table, session)) table_make_commit(.*//
 work-begins-again-as-new	/^bs_reply bs_session_begin_again(/,/^}/s/table_begin_or_sleep(session->table, since, until)/table_begin_or_sleep(session->table, TABLE_NEW_WORK, until)/
 a-session-s-commit-wakes-nobody	/^bs_reply bs_session_commit(/,/^}/s/^  table_hand_on(table);//
 FAULTS

@@ -129,5 +129,5 @@ with PATCH 999 && compile stories -Wl,--wrap=malloc,--wrap=realloc,--wrap=free |
 timeout 60 "$work/stories" >"$work/log" || fails "a library of another last number is refused"
 [ "$slots" = 128 ] || exit 0
 "$top/tests/c/faults.sh" commit-forgets-to-wake early-return asked-row-keeps-no-keys one-slot-is-handed-on \
-  skip-passes-refusals awaited-instant-stays-held asks-are-told-under-the-latch path-is-awaited-as-a-node who-works-is-ended \
+  skip-passes-refusals awaited-instant-stays-held asks-are-told-under-the-latch path-is-awaited-as-a-node who-rests-has-a-name \
   "${libraries[@]:1}" || exit 1

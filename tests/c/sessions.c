@@ -22,6 +22,15 @@ static bs_session session;
 
 enum { ABOVE = 4 }; /* the root, the file, the index and its interval are above a record */
 
+/* How many transactions rest. */
+static uint32_t resting(const bs_manager *m) {
+  bs_found found = bs_call_resting(m);
+  uint32_t slot, count = 0;
+  WANT(found.status == BS_DONE);
+  for (slot = 0; slot < BS_SLOTS; slot++) count += bs_has(found.slots, slot);
+  return count;
+}
+
 /* A session that has written the low record, and rests: it keeps its intentions on all above. */
 static bs_session rest_after_write(void) {
   bs_session rests = bs_session_of(table, 16);
@@ -43,7 +52,7 @@ static bs_session rest_after_read(void) {
 
 /* Whether the session still rests with its intentions; then it is in the next transaction. */
 static bool still_rests(bs_session *rests) {
-  bs_txn was = rests->txn;
+  bs_txn was = rests->rests;
   bs_txn txn = DONE(bs_session_begin(rests, NULL)).txn;
   bool is_kept = same_txn(was, txn);
   holds(txn, root, is_kept ? ASK(table, bs_held, was, root).mode : BS_NL);
@@ -305,7 +314,7 @@ static void a_path_goes_on_past_it(void) {
   DONE(bs_table_lock_path(table, other, by_key, BS_S, NULL));
   txn = begin();
   WAITS(ask_path(&h, txn, below, BS_X));
-  WANT(waits_for(txn, by_key) && table->rests == 1);
+  WANT(waits_for(txn, by_key) && resting(&table->manager) == 1);
   DONE(bs_table_commit(table, other, NULL));
   HEARD_BY_NOW(&h, BS_DONE);
   was_ended(&session);
@@ -359,11 +368,11 @@ static void a_begin_gets_a_slot(void) {
   DONE(bs_session_begin(&sessions[0], NULL));
   DONE(bs_session_commit(&sessions[0], NULL)); /* Now it has rested least. */
   txn = begin();
-  WANT(txn.slot == sessions[1].txn.slot);
+  WANT(txn.slot == sessions[1].rests.slot);
   DONE(bs_table_begin_again(table, 1));
   WANT(bs_table_run(table, &list, 1) == 1);
-  WANT(list.reply.txn.slot == sessions[3].txn.slot);
-  WANT(DONE(bs_table_begin_in_turn(table, NULL)).txn.slot == sessions[0].txn.slot);
+  WANT(list.reply.txn.slot == sessions[3].rests.slot);
+  WANT(DONE(bs_table_begin_in_turn(table, NULL)).txn.slot == sessions[0].rests.slot);
   ANSWERS(BS_TOO_MANY_TXNS, bs_table_begin(table));
   for (i = 0; i < 4; i++) {
     struct timespec now = moment_in(0);
@@ -379,10 +388,10 @@ static void who_was_aborted_makes_no_room(void) {
   bs_session first, second;
   make_of(2);
   first = rest_at_root(), second = rest_at_root();
-  DONE(bs_table_abort(table, first.txn, NULL));
+  DONE(bs_table_abort(table, first.rests, NULL));
   begin();
-  WANT(DONE(bs_table_begin_in_turn(table, NULL)).txn.slot == second.txn.slot);
-  WANT(table->rests == 0);
+  WANT(DONE(bs_table_begin_in_turn(table, NULL)).txn.slot == second.rests.slot);
+  WANT(resting(&table->manager) == 0);
   ANSWERS(BS_TOO_MANY_TXNS, bs_table_begin(table));
   close_table();
 }
@@ -424,7 +433,7 @@ static void calls_in_the_wrong_order(void) {
   WANT(told.count == 0);
   DONE(bs_session_end(&session));
   ANSWERS(BS_NO_SUCH_TXN, bs_session_commit(&session, NULL));
-  WANT(table->rests == 0);
+  WANT(resting(&table->manager) == 0);
   txn = DONE(bs_session_begin(&session, NULL)).txn;
   holds(txn, root, BS_NL);
   DONE(bs_table_abort(table, txn, NULL)); /* It may be ended by a call of the table too. */
@@ -484,9 +493,9 @@ static void its_slot_is_another_s(void) {
   bs_txn txn, other;
   set_up(BS_AT_BLOCK);
   session = rest_after_write();
-  DONE(bs_table_abort(table, session.txn, NULL));
+  DONE(bs_table_abort(table, session.rests, NULL));
   other = begin();
-  WANT(other.slot == session.txn.slot);
+  WANT(other.slot == session.rests.slot);
   DONE(bs_table_lock_path(table, other, file, BS_IX, NULL));
   txn = begin();
   WAITS(ask_path(&h, txn, file, BS_S));
@@ -496,11 +505,42 @@ static void its_slot_is_another_s(void) {
   HEARD_BY_NOW(&h, BS_DONE);
   DONE(bs_table_commit(table, txn, NULL));
   session = rest_after_write();
-  DONE(bs_table_abort(table, session.txn, NULL));
+  DONE(bs_table_abort(table, session.rests, NULL));
   again = rest_after_write();
-  WANT(again.txn.slot == session.txn.slot && table->rests == 1);
+  WANT(again.rests.slot == session.rests.slot && resting(&table->manager) == 1);
   was_ended(&session);
   is_kept(&again);
+  close_table();
+}
+
+/* The transaction that rests has no name for its session's thread: a call after the commit locks nothing. */
+static void a_late_call_is_refused(void) {
+  bs_txn late;
+  set_up(BS_AT_BLOCK);
+  session = rest_after_write();
+  late = session.txn;
+  ANSWERS(BS_NO_SUCH_TXN, bs_table_lock(table, late, file, BS_X, NULL));
+  ANSWERS(BS_NO_SUCH_TXN, bs_table_abort(table, late, NULL));
+  is_kept(&session);
+  close_table();
+}
+
+/* One that rests locks by a name that was not given out: it is not ended, so no lock is lost. */
+static void who_has_locked_is_not_ended(void) {
+  struct heard h;
+  bs_txn txn, named;
+  make_of(2);
+  session = rest_at_root(), named = session.rests;
+  DONE(bs_table_lock(table, named, root, BS_X, NULL));
+  txn = begin();
+  WAITS(ask(&h, txn, root, BS_S));
+  holds(named, root, BS_X);
+  ANSWERS(BS_TOO_MANY_TXNS, bs_table_begin(table));
+  holds(named, root, BS_X);
+  DONE(bs_table_commit(table, named, NULL));
+  HEARD_BY_NOW(&h, BS_DONE);
+  DONE(bs_table_commit(table, txn, NULL));
+  WANT(DONE(bs_session_begin(&session, NULL)).txn.age > named.age);
   close_table();
 }
 
@@ -516,7 +556,7 @@ static void work_begins_again(void) {
   other = begin_writer();
   session = rest_after_write();
   txn = DONE(bs_session_begin_again(&session, 1, NULL)).txn;
-  WANT(table->rests == 0);
+  WANT(resting(&table->manager) == 0);
   holds(txn, root, BS_NL);
   intend(txn, file, below, above);
   DONE(bs_table_lock(table, txn, low, BS_X, NULL));
@@ -693,19 +733,22 @@ static void *crowd_one(void *arg) {
   return NULL;
 }
 
-/* While the latch is free nobody waits for one that rests, and each that rests is counted. */
+/* While the latch is free nobody waits for one that rests, and each that rests lives and holds intentions alone. */
 static void check_law(const bs_manager *lent) {
-  size_t count = 0;
+  bs_slots rest = bs_call_resting(lent).slots;
   uint32_t slot, other;
+  uint64_t place;
   for (slot = 0; slot < BS_SLOTS; slot++) {
-    bs_reply living = bs_living(lent, slot);
+    bs_reply living = bs_living(lent, slot), lock;
     bs_slots waited;
-    count += bs_has(table->resting, slot);
+    WANT(living.status == BS_DONE || !bs_has(rest, slot));
     if (living.status != BS_DONE) continue;
+    for (place = 0; (lock = bs_lock_at(lent, living.txn, place)).status == BS_DONE; place++) {
+      WANT(!bs_has(rest, slot) || lock.mode == BS_IS || lock.mode == BS_IX);
+    }
     waited = bs_waits_for(lent, living.txn).slots;
-    for (other = 0; other < BS_SLOTS; other++) WANT(!bs_has(waited, other) || !bs_has(table->resting, other));
+    for (other = 0; other < BS_SLOTS; other++) WANT(!bs_has(waited, other) || !bs_has(rest, other));
   }
-  WANT(count == table->rests);
 }
 
 static void *look_on(void *arg) {
@@ -759,6 +802,8 @@ int main(int count, char **words) {
   TELL(what_is_no_session);
   TELL(a_commit_is_refused);
   TELL(its_slot_is_another_s);
+  TELL(a_late_call_is_refused);
+  TELL(who_has_locked_is_not_ended);
   TELL(work_begins_again);
   TELL(a_deadline_ends_with_its_transaction);
   TELL(one_call_is_three_commands);

@@ -445,30 +445,46 @@ static void a_crowd(void) {
   end_trace();
 }
 
+enum { SESSIONS = 128, OF_A_SESSION = 12 };
+
+/* A node is made below the root, and dropped. */
+static bs_status change_schema(bs_txn txn, const struct timespec *until) {
+  bs_node node = DONE(bs_table_add_inner(table, &root, 1)).node;
+  bs_status last = bs_table_lock_path(table, txn, node, BS_X, until).status;
+  if (last == BS_DONE) DONE(bs_table_drop(table, txn, node, NULL));
+  return last;
+}
+
+/* Mostly a record is written; a tenth reads more, one in a hundred all, and one in fifty changes the schema. */
+static bs_status work_in_session(bs_txn txn, uint64_t *dice) {
+  struct timespec until = moment_in(200);
+  bool reads = roll(dice, 10) == 0, is_low = roll(dice, 2) == 0;
+  bs_node node = reads ? (is_low ? file : above) : (is_low ? low : high);
+  if (roll(dice, 50) == 0) return change_schema(txn, &until);
+  if (roll(dice, 100) == 0) return bs_table_lock_path(table, txn, root, BS_S, &until).status;
+  return bs_table_lock_path(table, txn, node, reads ? BS_S : BS_X, &until).status;
+}
+
 /* A session of a thread: its renewals are in the trace, and who is ended since it was in somebody's way. */
 static void *jostle_in_a_session(void *arg) {
-  uint64_t dice = 88172645463325252u + (uint64_t)(uintptr_t)arg;
+  uint64_t dice = 88172645463325252u + (uint64_t)(uintptr_t)arg * 7919u;
   bs_session own = bs_session_of(table, 4);
   size_t i;
-  for (i = 0; i < 100; i++) {
-    struct timespec until = moment_in(200);
+  for (i = 0; i < OF_A_SESSION; i++) {
     bs_txn txn = DONE(bs_session_begin(&own, NULL)).txn;
-    bool reads = roll(&dice, 10) == 0, is_low = roll(&dice, 2) == 0;
-    bs_node node = reads ? (is_low ? file : above) : (is_low ? low : high);
-    bs_status last = bs_table_lock_path(table, txn, node, reads ? BS_S : BS_X, &until).status;
-    if (last == BS_VICTIM) DONE(bs_table_abort(table, txn, NULL));
+    if (work_in_session(txn, &dice) == BS_VICTIM) DONE(bs_table_abort(table, txn, NULL));
     else DONE(bs_session_commit(&own, NULL));
   }
   return NULL;
 }
 
 static void a_crowd_of_sessions(void) {
-  pthread_t threads[CROWD];
+  pthread_t threads[SESSIONS];
   bs_waits waits;
   size_t i;
   begin_trace(BS_AT_BLOCK);
-  for (i = 0; i < CROWD; i++) start(&threads[i], jostle_in_a_session, (void *)i);
-  for (i = 0; i < CROWD; i++) join(threads[i]);
+  for (i = 0; i < SESSIONS; i++) start(&threads[i], jostle_in_a_session, (void *)i);
+  for (i = 0; i < SESSIONS; i++) join(threads[i]);
   DONE(bs_table_waits(table, &waits));
   WANT(waits.waiting == 0);
   end_trace();

@@ -1,5 +1,6 @@
 -- Calls of transactions: paths, rows, savepoints, tries, begins in turn, and what becomes of a wait.
 pub mod Paths
+pub mod Resting
 pub mod Rows
 pub mod Savepoints
 pub mod Tries

@@ -1,5 +1,6 @@
-//! Calls of transactions: locks on nodes and rows, and the outcome of a wait.
+//! Calls of transactions: locks on nodes and rows, those who rest, and the outcome of a wait.
 
+mod resting;
 mod rows;
 mod tries;
 mod turns;

@@ -24,5 +24,5 @@ pub mod StandingIndexes
 pub mod NodeRows
 -- what others keep of them, whatever a registry serves
 mod KeptOnRows
-mod Served
+pub mod Served
 mod GoingBack

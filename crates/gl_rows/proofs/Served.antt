@@ -149,13 +149,14 @@ paths_keep_on_rows v v' u ask result told t is h alive apart =
 -- Calls about rows.
 
 -- records that are adopted and forgotten name no transaction
-unnamed_one : (t : TxnId) (c : Command) → is_upkeep c ≡ true → names t c ≡ false
+pub unnamed_one : (t : TxnId) (c : Command) → is_upkeep c ≡ true → names t c ≡ false
 unnamed_one t (command.Adopt f keys) is = refl
 unnamed_one t (command.Forget r) is = refl
 unnamed_one t c is = absurd (never is)
 
 -- what fails at each of their commands
-none_all : (test : Command → Bool) → ((c : Command) → is_upkeep c ≡ true → test c ≡ false) → (lines : List Line) → list_all (λ l. is_upkeep l.0) lines ≡ true
+pub none_all : (test : Command → Bool) → ((c : Command) → is_upkeep c ≡ true → test c ≡ false) → (lines : List Line) → list_all
+    (λ l. is_upkeep l.0) lines ≡ true
     → list_any test (map (λ (l : Line). l.0) lines) ≡ false
 none_all test each [] is = refl
 none_all test each (l ∷ lines) is =

@@ -2,10 +2,10 @@
 -- Delivery.commit_keeping.
 use Rattle.gl_slots.specs.declared.slots.Slots.{Slots}
 use Rattle.gl_slots.specs.Limit.{most_slots}
-use Rattle.std.specs.Prelude.{◌≡◌, ◌≢◌, ℕ, ◌+◌, ◌<◌, ◌≤◌, ◌==◌, ◌||◌, false, List, [], ◌∷◌, Ok, map, min, None, Option, Some}
+use Rattle.std.specs.Prelude.{◌≡◌, ◌≢◌, ◌++◌, ℕ, ◌+◌, ◌<◌, ◌≤◌, ◌==◌, ◌||◌, false, List, [], ◌∷◌, Ok, map, min, None, Option, Some}
 use Rattle.std.specs.Prelude.{if◌then◌else◌}
 use Rattle.std.specs.List.{list_any}
-use Rattle.std.proofs.Common.{sym, ap, subst, ◌∙◌, arith, inl}
+use Rattle.std.proofs.Common.{refl, sym, ap, subst, ◌∙◌, arith, inl}
 use Rattle.gl_modes.proofs.Words.{and_both, clash, split}
 use Rattle.gl_modes.specs.declared.mode.Mode.TheVariants.{NL}
 use Rattle.gl_modes.specs.declared.node.NodeId.{NodeId}
@@ -19,7 +19,7 @@ use Rattle.gl_model.specs.Tellings.{Told, stripped}
 use Rattle.gl_model.proofs.law.Keeps.{waiting_is}
 use Rattle.gl_table.specs.Keeping.{RenewsOrEnds}
 use Rattle.gl_table.specs.Table.{state_of as table_state}
-use Rattle.gl_catalog.specs.Keeping.{CompletesKeeping}
+use Rattle.gl_catalog.specs.Keeping.{CompletesKeeping, last_command}
 use Rattle.gl_catalog.specs.Manager.{ManagerView, state_of}
 use Rattle.gl_catalog.specs.Replies.{Says}
 use Rattle.gl_catalog.specs.Savepoints.{TakesBack, count_since}
@@ -27,7 +27,7 @@ use Rattle.gl_catalog.proofs.GoingBack.{may_go_back}
 use Rattle.gl_steps.specs.declared.command.Answer.{Answer}
 use Rattle.gl_steps.specs.declared.command.Command.{Command}
 use Rattle.gl_steps.specs.declared.command.Command.TheVariants as command
-use Rattle.gl_steps.specs.Promises.{is_told, waits_on}
+use Rattle.gl_steps.specs.Promises.{is_told, names, same_txn, waits_on}
 use Rattle.gl_steps.specs.Served.{accepts}
 use Rattle.gl_steps.specs.Step.{Run, Step}
 use Rattle.gl_steps.proofs.LivesOn.{GoesOn, lives_on_same, lives_on_trans, pumped_goes_on}
@@ -45,10 +45,10 @@ use Rattle.gl_wakes.specs.Wakes.{HasEnded}
 use Rattle.gl_wakes.proofs.Rising.{told_rises}
 use Rattle.gl_wakes.proofs.Waking.{told_wakes}
 use Rattle.gl_waiting.specs.Delivering.{Carries, Delivered, Puts, unlocking}
-use Rattle.gl_waiting.specs.Going.{IsRun}
+use Rattle.gl_waiting.specs.Going.{IsRunOf}
 use Rattle.gl_waiting.proofs.Delivered.{with_boxes}
 use Rattle.gl_waiting.proofs.RowCalls.{low}
-use Rattle.gl_waiting.proofs.Runs.{run_of, run_then}
+use Rattle.gl_waiting.proofs.Runs.{AreOf, own_of, own_then, own_upkeep}
 
 -- Nodes are unlocked one after the other: every transaction lives on, and none begins to wait.
 
@@ -92,6 +92,11 @@ module _ (m mid : ManagerView) (t : TxnId) (mark k : ℕ) (list : Told) (h : Tak
       (ap (is_told u) h.tells
       ∙ told_over (state_of m) law u b.0 n w.0 w.1 (state_of mid) (goes_on h.nodes s now t.slot u.slot h.back.unlocks) gone)
 
+-- all of them name the transaction alone
+unlocks_of : (t : TxnId) (nodes : List NodeId) → AreOf (unlocking t) (map (λ n. command.Unlock t n) nodes)
+unlocks_of t [] u apart = refl
+unlocks_of t (n ∷ nodes) u apart = ap (λ b. b || list_any (names u) (map (λ n. command.Unlock t n) nodes)) apart ∙ unlocks_of t nodes u apart
+
 -- The same, with the rows that are let go after it.
 module _ (g v : RegistryView) (t : TxnId) (mark k : ℕ) (list : Told) (h : GoesBackTo t mark g.manager g.rows (Ok k) list v.manager v.rows) where
   lets_go : Upkeep (state_of h.0) (state_of v.manager)
@@ -110,10 +115,11 @@ module _ (g v : RegistryView) (t : TxnId) (mark k : ℕ) (list : Told) (h : Goes
   pub back_rises : (state_of g.manager).most ≤ most_slots → RisingTo 0 list most_slots
   back_rises few = subst (λ (l : Told). RisingTo 0 l most_slots) (sym h.1.tells) (told_rises (state_of g.manager) (state_of h.0) few)
 
-  pub back_runs : IsRun (state_of g.manager) (state_of v.manager)
+  pub back_runs : IsRunOf (unlocking t) (state_of g.manager) (state_of v.manager)
   back_runs =
-      run_then (state_of g.manager) (state_of h.0) (state_of v.manager)
-      (run_of (state_of g.manager) (state_of h.0) (map (λ n. command.Unlock t n) h.1.nodes) h.1.replies h.1.run) (lets_go.lines, lets_go.run)
+      own_then (unlocking t) (state_of g.manager) (state_of h.0) (state_of v.manager)
+      (own_of (unlocking t) (state_of g.manager) (state_of h.0) (map (λ n. command.Unlock t n) h.1.nodes) h.1.replies (unlocks_of t h.1.nodes) h.1.run)
+      (own_upkeep (unlocking t) (state_of h.0) (state_of v.manager) lets_go)
 
   back_ended : (slots : Slots) → ((u : ℕ) → u < most_slots → has_slot slots u ≡ (false || list_any (λ x. x.0.slot == u) list))
       → HasEnded (state_of g.manager) (state_of v.manager) slots
@@ -156,6 +162,18 @@ module _ (m mid : ManagerView) (t : TxnId) (keep since : ℕ) (next : Option Txn
       let on = keeping_goes_on u.slot (λ e. clash (ap (λ x. is_wait (status_of (state_of m) x)) e ∙ ap is_wait w.1) (ap is_wait active)) in
       told_wakes list slots u is below (ap (is_told u) h.tells ∙ told_over (state_of m) law u b.0 n w.0 w.1 (state_of mid) on gone)
 
+-- all commands name the transaction alone
+last_of : (t : TxnId) (since : ℕ) (next : Option TxnId) (u : TxnId) → same_txn u t ≡ false → names u (last_command t since next) ≡ false
+last_of t since (Some x) u apart = apart
+last_of t since None u apart = apart
+
+keeping_of : (t : TxnId) (since : ℕ) (next : Option TxnId) (nodes : List NodeId)
+    → AreOf (command.Commit t) (map (λ n. command.Unlock t n) nodes ++ last_command t since next ∷ [])
+keeping_of t since next [] u apart = ap (λ b. b || false) (last_of t since next u apart)
+keeping_of t since next (n ∷ nodes) u apart =
+    ap (λ b. b || list_any (names u) (map (λ n. command.Unlock t n) nodes ++ last_command t since next ∷ [])) apart
+    ∙ keeping_of t since next nodes u apart
+
 -- The same, with the rows that are let go after it.
 module _ (g v : RegistryView) (t : TxnId) (keep since : ℕ) (next : Option TxnId) (list : Told)
     (h : CommitsAndKeeps t keep since g.manager g.rows (Ok next) list v.manager v.rows) where
@@ -168,10 +186,11 @@ module _ (g v : RegistryView) (t : TxnId) (keep since : ℕ) (next : Option TxnI
   pub keeping_rises : (state_of g.manager).most ≤ most_slots → RisingTo 0 list most_slots
   keeping_rises few = subst (λ (l : Told). RisingTo 0 l most_slots) (sym h.1.tells) (told_rises (state_of g.manager) (state_of h.0) few)
 
-  pub keeping_runs : IsRun (state_of g.manager) (state_of v.manager)
+  pub keeping_runs : IsRunOf (command.Commit t) (state_of g.manager) (state_of v.manager)
   keeping_runs =
-      run_then (state_of g.manager) (state_of h.0) (state_of v.manager) (run_of (state_of g.manager) (state_of h.0) _ _ h.1.run)
-      (goes_after.lines, goes_after.run)
+      own_then (command.Commit t) (state_of g.manager) (state_of h.0) (state_of v.manager)
+      (own_of (command.Commit t) (state_of g.manager) (state_of h.0) _ _ (keeping_of t since next h.1.keeps.nodes) h.1.run)
+      (own_upkeep (command.Commit t) (state_of h.0) (state_of v.manager) goes_after)
 
   -- it is counted, and the notices are in their boxes
   pub keeping_carries : (boxes boxes' : List Slot) (slots : Slots) → Puts boxes (command.Commit t) list boxes'

@@ -6,6 +6,8 @@ pub mod Commands
 pub mod Counting
 pub mod Delivered
 pub mod Paths
+pub mod Renewed
+pub mod Rests
 pub mod RowCalls
 pub mod RowHolding
 pub mod RowLocking

@@ -1,7 +1,7 @@
 -- What a path is to those who are told and who wait, and that it is a run.
 use Rattle.gl_slots.specs.declared.slots.Slots.{Slots}
 use Rattle.gl_slots.specs.Limit.{most_slots}
-use Rattle.std.specs.Prelude.{◌≡◌, ◌⊎◌, ℕ, zero, suc, ◌+◌, ◌<◌, ◌≤◌, ◌==◌, ◌||◌, not, Bool, true, false, [], ◌∷◌, length, OnErr, Result}
+use Rattle.std.specs.Prelude.{◌≡◌, ◌⊎◌, ℕ, zero, suc, ◌+◌, ◌<◌, ◌≤◌, ◌==◌, ◌||◌, not, Bool, true, false, [], length, OnErr, Result}
 use Rattle.std.specs.Prelude.{Ok, Err}
 use Rattle.std.specs.List.{list_any}
 use Rattle.std.proofs.Common.{refl, sym, ap, subst, ◌∙◌, inl, inr, ⊎_elim, arith}
@@ -38,7 +38,8 @@ use Rattle.gl_wakes.specs.Wakes.{HasEnded}
 use Rattle.gl_wakes.proofs.Rising.{step_rises}
 use Rattle.gl_steps.proofs.Serving.{step_counts}
 use Rattle.gl_wakes.proofs.Waking.{wakes_ended}
-use Rattle.gl_waiting.specs.Going.{IsRun}
+use Rattle.gl_waiting.specs.Going.{IsRunOf}
+use Rattle.gl_waiting.proofs.Runs.{own_one, own_then}
 
 -- a lock leaves the limit of transactions
 settled_most : (c : Victims) (k : ℕ) (s s' : State) (t : ℕ) → SettledWithin c k s t s' → s'.most ≡ s.most
@@ -146,11 +147,12 @@ module _ (t : TxnId) (ask last : Ask) (r : Says) (m' : ManagerView) where
           absurd (true≢false (sym told ∙ ap (λ (l : Told). is_told u l || false) (none_told ask.0 path.0.0 path.1 path.4)))
 
   -- it is a run
-  pub path_runs : (k : ℕ) (m : ManagerView) → IsPath k t ask m last r m' → IsRun (state_of m) (state_of m')
-  path_runs zero m path = ((lock_of t last, r) ∷ [], (state_of m', path.0.step, refl))
+  pub path_runs : (k : ℕ) (m : ManagerView) → IsPath k t ask m last r m' → IsRunOf (lock_of t ask) (state_of m) (state_of m')
+  path_runs zero m path = own_one (lock_of t ask) (lock_of t last) (state_of m) (state_of m') r.0 r.1 (λ u apart. apart) path.0.step
   path_runs (suc k) m path =
-      let rest = path_runs k path.2 path.5 in
-      ((lock_of t path.0, path.1) ∷ rest.0, (state_of path.2, path.3.step, rest.1))
+      own_then (lock_of t ask) (state_of m) (state_of path.2) (state_of m')
+      (own_one (lock_of t ask) (lock_of t path.0) (state_of m) (state_of path.2) path.1.0 path.1.1 (λ u apart. apart) path.3.step)
+      (path_runs k path.2 path.5)
 
   -- where its last ask is granted it is counted
   pub path_granted : (mode : Mode) → r.0 ≡ answer.Granted mode → (k : ℕ) (m : ManagerView) → IsPath k t ask m last r m' → m.accepted < m'.accepted
@@ -198,7 +200,7 @@ module _ (t : TxnId) (ask : Ask) (m m' : ManagerView) (told : Told) where
         path_ended t ask path.1 says m' path.0 m slots
         (λ u low. is u low ∙ ap (λ (l : Told). false || list_any (λ x. x.0.slot == u) l) (sym (told_is result none))) path.2
 
-    pub way_runs : IsRun (state_of m) (state_of m')
+    pub way_runs : IsRunOf (lock_of t ask) (state_of m) (state_of m')
     way_runs = path_runs t ask path.1 says m' path.0 m path.2
 
   pub way_granted : (node : NodeId) (mode : Mode) → LocksPath t ask m told (Ok (record { node = node; locked = locked.Granted mode })) m'

@@ -48,9 +48,9 @@ use Rattle.gl_wakes.specs.Wakes.{HasEnded, names_slot}
 use Rattle.gl_wakes.proofs.Rising.{step_rises}
 use Rattle.gl_wakes.proofs.Waking.{wakes_ended}
 use Rattle.gl_waiting.specs.Delivering.{Carries, Puts}
-use Rattle.gl_waiting.specs.Going.{IsRun}
+use Rattle.gl_waiting.specs.Going.{IsRunOf}
 use Rattle.gl_waiting.proofs.Delivered.{with_boxes}
-use Rattle.gl_waiting.proofs.Runs.{run_one, run_same, run_then}
+use Rattle.gl_waiting.proofs.Runs.{own_one, own_same, own_then, own_upkeep}
 
 -- the node of a command makes no difference to the boxes, or to the slot that it names
 emptied_as : (v u : RowsView) (c : RowCall) (boxes : List Slot) → emptied (own_command v c) boxes ≡ emptied (own_command u c) boxes
@@ -212,10 +212,11 @@ module _ (m : ManagerView) (c : Command) (told : Told) (m' : ManagerView) where
         wakes_ended c told slots is h.ahead h.behind x h.step (upkeep_law (state_of m) h.ahead law h.before) u n below
         (ap (λ (x : State). waits_on x u n) left_before.is ∙ was) (sym (ap (λ (x : State). waits_on x u n) left_after.is) ∙ gone)
 
-    amid_runs : IsRun (state_of m) (state_of m')
+    amid_runs : IsRunOf c (state_of m) (state_of m')
     amid_runs =
-        run_then (state_of m) h.ahead (state_of m') (h.before.lines, h.before.run)
-        (run_then h.ahead h.behind (state_of m') (run_one h.ahead h.behind c x told h.step) (h.after.lines, h.after.run))
+        own_then c (state_of m) h.ahead (state_of m') (own_upkeep c (state_of m) h.ahead h.before)
+        (own_then c h.ahead h.behind (state_of m') (own_one c c h.ahead h.behind x told (λ t apart. apart) h.step)
+        (own_upkeep c h.behind (state_of m') h.after))
 
 -- A call of the registry: it comes to nothing, or it is counted.
 module _ (g : RegistryView) (c : RowCall) (a : RowAnswer) (told : Told) (v : RegistryView) (applies : AppliesCall g c a told v)
@@ -272,7 +273,7 @@ module _ (g : RegistryView) (c : RowCall) (a : RowAnswer) (told : Told) (v : Reg
         },
       )
 
-  pub row_runs : IsRun (state_of g.manager) (state_of v.manager)
+  pub row_runs : IsRunOf command (state_of g.manager) (state_of v.manager)
   row_runs =
-      ⊎_elim (λ (same : StaysAll g told v). run_same (state_of g.manager) (state_of v.manager) (ap state_of same.1))
+      ⊎_elim (λ (same : StaysAll g told v). own_same command (state_of g.manager) (state_of v.manager) (ap state_of same.1))
       (λ (comes : Comes). amid_runs g.manager command told v.manager comes.0 comes.1) same_or_comes

@@ -53,12 +53,12 @@ use Rattle.gl_waiting.specs.declared.tries.Keep.{Keep}
 use Rattle.gl_waiting.specs.declared.tries.Tried.{Tried}
 use Rattle.gl_waiting.specs.declared.tries.Tried.TheVariants as tried
 use Rattle.gl_waiting.specs.Delivering.{ComesToNothing, Delivered, DeliveryView, unlocking}
-use Rattle.gl_waiting.specs.Going.{IsRun}
+use Rattle.gl_waiting.specs.Going.{IsRunOf}
 use Rattle.gl_waiting.specs.Tries.{AnswersTry, GrantedAt, HasManager, LowersTo, HoldsAsTried, IsTried, LeavesTries, NamesLast, OnlyGrants, RollsBack}
 use Rattle.gl_waiting.specs.Tries.{TriesFirst, TriesOnce, TriesPath, TriesUp, climbs_down, gives_back}
 use Rattle.gl_waiting.specs.Tries.{last_answer, lock_count, parent_missing, tried_as, try_of}
 use Rattle.gl_waiting.proofs.Delivered.{with_boxes}
-use Rattle.gl_waiting.proofs.Runs.{run_one, run_then}
+use Rattle.gl_waiting.proofs.Runs.{own_one, own_then}
 
 -- One try, and the lock of the same node.
 
@@ -537,11 +537,11 @@ module _ (t : TxnId) (ask last : Ask) (a : Answer) (m' : ManagerView) where
       only_then t.slot (state_of m) (state_of path.2) (state_of m') (first_only t ask path.0 m path.2 path.1 path.3) (up_only k path.2 path.5)
 
   -- it is a run
-  pub up_runs : (k : ℕ) (m : ManagerView) → TriesUp k t ask m last a m' → IsRun (state_of m) (state_of m')
-  up_runs zero m path = run_one (state_of m) (state_of m') (try_of t last) a [] path.0.step
+  pub up_runs : (k : ℕ) (m : ManagerView) → TriesUp k t ask m last a m' → IsRunOf (try_of t ask) (state_of m) (state_of m')
+  up_runs zero m path = own_one (try_of t ask) (try_of t last) (state_of m) (state_of m') a [] (λ u apart. apart) path.0.step
   up_runs (suc k) m path =
-      run_then (state_of m) (state_of path.2) (state_of m') (run_one (state_of m) (state_of path.2) (try_of t path.0) path.1 [] path.3.step)
-      (up_runs k path.2 path.5)
+      own_then (try_of t ask) (state_of m) (state_of path.2) (state_of m')
+      (own_one (try_of t ask) (try_of t path.0) (state_of m) (state_of path.2) path.1 [] (λ u apart. apart) path.3.step) (up_runs k path.2 path.5)
 
   -- it changes nothing, or more was counted
   pub up_counts : (k : ℕ) (m : ManagerView) → TriesUp k t ask m last a m' → (m' ≡ m) ⊎ (m.accepted < m'.accepted)
@@ -688,7 +688,7 @@ module _ (k : Keep) (t : TxnId) (ask : Ask) (d : DeliveryView) (came : Tried) (m
   pub path_only : OnlyGrants t.slot (state_of d.manager) (state_of mid)
   path_only = up_only t ask path.1 (last_answer came) mid path.0 d.manager path.2
 
-  pub path_runs : IsRun (state_of d.manager) (state_of mid)
+  pub path_runs : IsRunOf (try_of t ask) (state_of d.manager) (state_of mid)
   path_runs = up_runs t ask path.1 (last_answer came) mid path.0 d.manager path.2
 
   pub path_low : d.manager.accepted ≤ mid.accepted

@@ -22,7 +22,7 @@ use Rattle.gl_catalog.specs.Paths.{Ask, lock_of, path_tests}
 use Rattle.gl_catalog.specs.declared.manager.paths.Reached.{Reached}
 use Rattle.gl_rows.specs.Applying.{AppliesCall, CarriesOut, answer_in, naming, own_command}
 use Rattle.gl_rows.specs.Locking.{Wish}
-use Rattle.gl_rows.specs.Releasing.{CommitsAndKeeps, GoesBackTo}
+use Rattle.gl_rows.specs.Releasing.{CommitsAndKeeps, GoesBackTo, no_node}
 use Rattle.gl_rows.specs.Serving.{PathLeavesRows, ServesBy, touches_rows}
 use Rattle.gl_rows.specs.declared.answer.RowAnswer.{RowAnswer}
 use Rattle.gl_rows.specs.declared.answer.RowAnswer.TheVariants as row_answer
@@ -33,9 +33,9 @@ use Rattle.gl_wakes.specs.declared.grant.Grant.{Grant}
 use Rattle.gl_wakes.specs.declared.grant.Stop.{Stop}
 use Rattle.gl_waiting.specs.Delivering.{Carries, ComesToNothing, Delivered, DeliveryView, registry_in, unlocking}
 use Rattle.gl_waiting.specs.Ends.{CallWith, Continues, IsNext}
-use Rattle.gl_waiting.specs.Going.{IsRun}
+use Rattle.gl_waiting.specs.Going.{IsRunOf}
 use Rattle.gl_waiting.specs.RowTries.{BeginsNoWait, HoldsTried, KeepsQueues, TriesRow}
-use Rattle.gl_waiting.specs.Tries.{HoldsAsTried, IsTried}
+use Rattle.gl_waiting.specs.Tries.{HoldsAsTried, IsTried, try_of}
 use Rattle.gl_waiting.specs.Waiters.{HasWaiter, outcome_of, place_at, place_of, waiter_in}
 use Rattle.gl_waiting.specs.Waiting.{WaitingView, delivery_in}
 use Rattle.gl_waiting.specs.declared.begins.QueuedBegin.{QueuedBegin}
@@ -67,7 +67,7 @@ IsNothing off = HasNoSlot off.ended × (off.went_on ≡ false)
 pub record Serves (v : WaitingView) (c : Command) (a : Option Answer) (told : Told) (ended : Slots) (v' : WaitingView) : Type 0 where
   pub serves : ServesBy (touches_rows (registry_in (delivery_in v)) c) (registry_in (delivery_in v)) c a told (registry_in (delivery_in v'))
   pub delivers : Carries (delivery_in v) c told ended (delivery_in v')
-  pub run : IsRun (state_of v.manager) (state_of v'.manager)
+  pub run : IsRunOf c (state_of v.manager) (state_of v'.manager)
   pub beside : KeepsBeside v v'
   pub nothing : v'.manager.accepted ≡ v.manager.accepted → v' ≡ v
 
@@ -76,7 +76,7 @@ pub record ServesRow (v : WaitingView) (c : RowCall) (a : RowAnswer) (told : Tol
   pub applies : AppliesCall (registry_in (delivery_in v)) c a told (registry_in (delivery_in v'))
   pub own : CarriesOut v.manager (own_command (naming c v.rows v'.rows) c) (answer_in a) told v'.manager
   pub delivers : Carries (delivery_in v) (own_command (naming c v.rows v'.rows) c) told ended (delivery_in v')
-  pub run : IsRun (state_of v.manager) (state_of v'.manager)
+  pub run : IsRunOf (own_command (naming c v.rows v'.rows) c) (state_of v.manager) (state_of v'.manager)
   pub beside : KeepsBeside v v'
   pub nothing : v'.manager.accepted ≡ v.manager.accepted → v' ≡ v
 
@@ -85,7 +85,7 @@ pub record LocksPath (v : WaitingView) (t : TxnId) (ask : Ask) (result : Result 
     : Type 0 where
   pub path : PathLeavesRows t ask (registry_in (delivery_in v)) result told (registry_in (delivery_in v'))
   pub delivers : Carries (delivery_in v) (lock_of t ask) told ended (delivery_in v')
-  pub run : IsRun (state_of v.manager) (state_of v'.manager)
+  pub run : IsRunOf (lock_of t ask) (state_of v.manager) (state_of v'.manager)
   pub beside : KeepsBeside v v'
   pub nothing : v'.manager.accepted ≡ v.manager.accepted → v' ≡ v
 
@@ -94,7 +94,7 @@ pub record RollsBackTo (v : WaitingView) (t : TxnId) (mark : ℕ) (result : Resu
   pub back : GoesBackTo t mark v.manager v.rows result told v'.manager v'.rows
   pub delivered : OnOk result (Delivered (delivery_in v) (unlocking t) told ended (delivery_in v'))
   pub refused : OnErr result (ComesToNothing (delivery_in v) told ended (delivery_in v'))
-  pub run : IsRun (state_of v.manager) (state_of v'.manager)
+  pub run : IsRunOf (unlocking t) (state_of v.manager) (state_of v'.manager)
   pub beside : KeepsBeside v v'
   pub nothing : OnErr result (v' ≡ v)
 
@@ -103,7 +103,7 @@ pub record KeepsLocks (v : WaitingView) (t : TxnId) (keep since : ℕ) (result :
     (v' : WaitingView) : Type 0 where
   pub keeps : CommitsAndKeeps t keep since v.manager v.rows result told v'.manager v'.rows
   pub delivers : Carries (delivery_in v) (command.Commit t) told ended (delivery_in v')
-  pub run : IsRun (state_of v.manager) (state_of v'.manager)
+  pub run : IsRunOf (command.Commit t) (state_of v.manager) (state_of v'.manager)
   pub beside : KeepsBeside v v'
   pub nothing : v'.manager.accepted ≡ v.manager.accepted → v' ≡ v
 
@@ -114,7 +114,7 @@ pub record TriesThere (v : WaitingView) (t : TxnId) (ask : Ask) (keep : Keep) (r
   pub held : HoldsAsTried t ask result (state_of v'.manager)
   pub tests : (r : Refusal) → first_refusal (path_tests (state_of v.manager) t ask.0 ask.1) ≡ Some r
       → (result ≡ tried.Refused r) × (delivery_in v' ≡ delivery_in v)
-  pub run : IsRun (state_of v.manager) (state_of v'.manager)
+  pub run : IsRunOf (try_of t ask) (state_of v.manager) (state_of v'.manager)
   pub beside : KeepsBeside v v'
   pub nothing : v'.manager.accepted ≡ v.manager.accepted → v' ≡ v
 
@@ -124,7 +124,7 @@ pub record TriesRowThere (v : WaitingView) (w : Wish) (result : RowTried) (told 
   pub holds : HoldsTried w.txn w.mode result (state_of v'.manager)
   pub waits : BeginsNoWait (state_of v.manager) (state_of v'.manager)
   pub queues : KeepsQueues result (state_of v.manager) (state_of v'.manager)
-  pub run : IsRun (state_of v.manager) (state_of v'.manager)
+  pub run : IsRunOf (lock_of w.txn (no_node, w.mode)) (state_of v.manager) (state_of v'.manager)
   pub beside : KeepsBeside v v'
   pub nothing : v'.manager.accepted ≡ v.manager.accepted → v' ≡ v
 
@@ -146,7 +146,7 @@ pub record GoesOnBy (v : WaitingView) (t : TxnId) (c : Came) (told : Told) (ende
   pub is_next : IsNext v (Some (waiter, next))
   pub txn : t ≡ waiter.txn
   pub continues : Continues waiter next (delivery_in v) c told (delivery_in v')
-  pub call : CallWith told ended (delivery_in v) (delivery_in v')
+  pub call : CallWith t told ended (delivery_in v) (delivery_in v')
   pub places : v'.places ≡ slice_set v.places waiter.txn.slot (place_of waiter c)
   pub queue : v'.queue ≡ v.queue
   pub begun : v'.begun ≡ v.begun
@@ -188,7 +188,7 @@ pub record EndsWait (v : WaitingView) (t : TxnId) (w : Waiter) (o : Option Outco
 
 -- the time of a transaction's wait is over: nothing changes if it has no waiter
 pub record TimesOut (v : WaitingView) (t : TxnId) (o : Option Outcome) (told : Told) (ended : Slots) (v' : WaitingView) : Type 0 where
-  pub run : IsRun (state_of v.manager) (state_of v'.manager)
+  pub run : IsRunOf (command.Cancel t) (state_of v.manager) (state_of v'.manager)
   pub waiter : (w : Waiter) → HasWaiter v.places t w → EndsWait v t w o told ended v'
   pub without : ((w : Waiter) → HasWaiter v.places t w → ⊥) → (o ≡ None) × (told ≡ []) × HasNoSlot ended × (v' ≡ v)
 

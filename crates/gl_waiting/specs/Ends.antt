@@ -1,11 +1,12 @@
 -- How a waiter goes on whose wait is over.
-use Rattle.std.specs.Prelude.{◌≡◌, ◌<◌, ℕ, [], Bool, Option, None, Some, Result, is_some}
+use Rattle.std.specs.Prelude.{◌≡◌, ◌<◌, ℕ, [], Bool, false, Option, None, Some, Result, is_some}
 use Rattle.gl_modes.specs.declared.refusal.Refusal.{Refusal}
 use Rattle.gl_slots.specs.declared.slots.Slots.{Slots}
 use Rattle.gl_catalog.specs.Manager.{state_of}
 use Rattle.gl_catalog.specs.declared.manager.paths.Reached.{Reached}
 use Rattle.gl_modes.specs.declared.node.NodeId.{NodeId}
 use Rattle.gl_model.specs.Tellings.{Told}
+use Rattle.gl_steps.specs.Promises.{names, same_txn}
 use Rattle.gl_model.specs.declared.txn.TxnId.{TxnId}
 use Rattle.gl_steps.specs.declared.command.Answer.{Answer}
 use Rattle.gl_steps.specs.declared.command.Command.TheVariants as command
@@ -40,9 +41,10 @@ Continues w (next.GoOn node mode) d c told d' =
 Continues w (next.LockAgain row keys mode granted) d c told d' =
     (result : Result RowLocked RowRefusal) × LocksRowWith d w.txn row keys mode result told d' × (c ≡ came.Ended (again_as w.at granted result))
 
--- at most one call, with these notices, that ended the waits of these slots
-abbrev pub CallWith : Told → Slots → DeliveryView → DeliveryView → Type 0
-CallWith told ended d d' = (call : Call d d') × (call.told ≡ told) × (call.ended ≡ ended)
+-- at most one call, with these notices, that ended the waits of these slots, and names no transaction but this
+abbrev pub CallWith : TxnId → Told → Slots → DeliveryView → DeliveryView → Type 0
+CallWith t told ended d d' =
+    (call : Call d d') × (call.told ≡ told) × (call.ended ≡ ended) × ((u : TxnId) → same_txn u t ≡ false → names u call.command ≡ false)
 
 -- what the waiter of a slot does next
 abbrev pub next_at : WaitingView → ℕ → Option (Waiter × Next)

@@ -6,6 +6,7 @@ pub mod Going
 pub mod Keys
 pub mod Laws
 pub mod Owned
+pub mod Resting
 pub mod RowLocks
 pub mod RowTries
 pub mod Tries

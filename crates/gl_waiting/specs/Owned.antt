@@ -13,7 +13,9 @@ use Rattle.gl_waiting.specs.Begins.{BeginsView}
 use Rattle.gl_catalog.specs.Manager.{state_of}
 use Rattle.gl_waiting.specs.Delivering.{DeliveryView}
 use Rattle.gl_waiting.specs.Waiters.{KnowsDue}
+use Rattle.gl_waiting.specs.Resting.{RestingView}
 use Rattle.gl_waiting.specs.Waiting.{WaitingView}
+use Rattle.gl_waiting.specs.declared.resting.Resting.TheInside.{Inside as RestingInside}
 
 abbrev pub delivery_of : Inside → DeliveryView
 delivery_of d = record { manager = d.registry.manager; rows = d.registry.rows; boxes = d.boxes }
@@ -49,3 +51,6 @@ waiting_of w = w.table
 -- nobody waits for a slot while one is free
 abbrev pub HandsOnInTurn : WaitingInside → Type 0
 HandsOnInTurn w = IsInTurn w.table
+
+abbrev pub resting_of : RestingInside → RestingView
+resting_of r = record { resting = r.slots; crossed = r.crossed }

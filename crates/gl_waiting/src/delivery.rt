@@ -12,7 +12,7 @@ ghost use Rattle.gl_wakes.specs.Boxes.{verdict_of};
 ghost use Rattle.gl_wakes.specs.Notices.{RisingTo};
 ghost use Rattle.gl_wakes.specs.Wakes.{names_slot};
 ghost use Rattle.gl_waiting.specs.Delivering.{Carries, Puts, registry_in};
-ghost use Rattle.gl_waiting.specs.Going.{IsRun};
+ghost use Rattle.gl_waiting.specs.Going.{IsRunOf};
 
 use gl_catalog::{Answer, Command, Manager, Reached};
 use gl_modes::{Mode, NodeId, Refusal};
@@ -95,7 +95,7 @@ impl Delivery {
         ensures serves { ServesBy (touches_rows (registry_in self.old) command.entry) (registry_in self.old) command.entry result.0 told.new.items
             (registry_in self.new) }
         ensures carries { Carries self.old command.entry told.new.items result.1 self.new }
-        ensures run { IsRun (state_of self.old.manager) (state_of self.new.manager) }
+        ensures run { IsRunOf command.entry (state_of self.old.manager) (state_of self.new.manager) }
     {
         self.registry.law();
         let Some(answer) = self.registry.serve(command, told) else {
@@ -120,7 +120,7 @@ impl Delivery {
         requires empty { told.old.items ≡ [] }
         ensures path { PathLeavesRows txn (node, mode) (registry_in self.old) result.0 told.new.items (registry_in self.new) }
         ensures carries { Carries self.old (lock_of txn (node, mode)) told.new.items result.1 self.new }
-        ensures run { IsRun (state_of self.old.manager) (state_of self.new.manager) }
+        ensures run { IsRunOf (lock_of txn (node, mode)) (state_of self.old.manager) (state_of self.new.manager) }
     {
         self.registry.law();
         let before = self.registry.manager().accepted();

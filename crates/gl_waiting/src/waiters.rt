@@ -28,7 +28,7 @@ pub(crate) fn continue_by(
 ) -> (Came, Slots)
     requires empty { told.old.items ≡ [] }
     ensures continues { Continues waiter.now next delivery.old result.0 told.new.items delivery.new }
-    ensures call { CallWith told.new.items result.1 delivery.old delivery.new }
+    ensures call { CallWith waiter.now.txn told.new.items result.1 delivery.old delivery.new }
     ensures waits { (at : ANode) (wanted : AMode) → result.0 ≡ waits at wanted → waits_on (state_of delivery.new.manager) waiter.now.txn at ≡ true }
 {
     match next {
@@ -64,7 +64,7 @@ pub(crate) fn continue_by(
 fn unlock(delivery: &mut Delivery, txn: TxnId, node: NodeId, told: &mut Told) -> Slots
     requires empty { told.old.items ≡ [] }
     ensures unlocks { Unlocks txn node told.new.items delivery.old delivery.new }
-    ensures call { CallWith told.new.items result delivery.old delivery.new }
+    ensures call { CallWith txn told.new.items result delivery.old delivery.new }
 {
     let (_answer, ended) = delivery.serve(Command::Unlock { txn, node }, told);
     ended

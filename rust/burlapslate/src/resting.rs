@@ -49,6 +49,6 @@ impl Drop for Resting<'_> {
 
 impl fmt::Debug for Resting<'_> {
     fn fmt(&self, f: &mut fmt::Formatter<'_>) -> fmt::Result {
-        f.debug_tuple("Resting").field(&self.kept.txn).finish()
+        f.debug_tuple("Resting").field(&self.kept.rests).finish()
     }
 }

@@ -1,7 +1,7 @@
 -- A call about rows: what is known of the waits after it. For Guarded.serve_row.
 use Rattle.gl_slots.specs.declared.slots.Slots.{Slots}
 use Rattle.gl_slots.specs.Limit.{most_slots}
-use Rattle.std.specs.Prelude.{◌≡◌, ◌<◌, ◌≤◌, ◌&&◌, not, false}
+use Rattle.std.specs.Prelude.{◌≡◌, ◌<◌, ◌≤◌, ◌&&◌, ℕ, not, false}
 use Rattle.std.specs.Prelude.{Option, Some, None, if◌then◌else◌}
 use Rattle.std.proofs.Common.{refl, sym, ap, subst, ◌∙◌, inl, inr, arith}
 use Rattle.std.proofs.Math.Path.{fun_ext}
@@ -15,7 +15,8 @@ use Rattle.gl_steps.specs.declared.command.Answer.TheVariants as answer
 use Rattle.gl_steps.specs.declared.command.Command.{Command}
 use Rattle.gl_catalog.specs.Counters.{refuses}
 use Rattle.gl_catalog.specs.Manager.{ManagerView, state_of}
-use Rattle.gl_steps.specs.Promises.{NobodyWaits}
+use Rattle.gl_model.specs.declared.txn.TxnId.{TxnId}
+use Rattle.gl_steps.specs.Promises.{NobodyWaits, names}
 use Rattle.gl_rows.specs.declared.answer.RowAnswer.{RowAnswer}
 use Rattle.gl_rows.specs.declared.call.RowCall.{RowCall}
 use Rattle.gl_rows.specs.declared.call.RowCall.TheVariants as call
@@ -28,6 +29,8 @@ use Rattle.gl_window.specs.Boards.{HasParties}
 use Rattle.gl_window.specs.Strip.{Strip}
 use Rattle.gl_window.specs.Tellings.{leaves_waits, spares_waits, still_known}
 use Rattle.gl_steps.proofs.Serving.{step_counts}
+use Rattle.gl_waiting.specs.Resting.{ActsIn, acting_in}
+use Rattle.gl_waiting.proofs.Rests.{acting_acts}
 use Rattle.gl_waiting.proofs.RowCalls.{low}
 use Rattle.gl_c.specs.managers.Serving.{KnowsWaits}
 use Rattle.gl_c.proofs.serving.Showing.{knows_on, knows_still}
@@ -139,3 +142,29 @@ module _ (g : RegistryView) (c : RowCall) (a : RowAnswer) (told : Told) (v : Reg
   row_known law few shown parties known =
       subst (KnowsWaits (state_of v.manager) shown) (sym (still_as unnamed (naming c g.rows v.rows) c parties x told))
       (known_still g.manager command told v.manager x came amid law few shown parties known)
+
+-- a call about rows acts in the slot of its own transaction, whichever node it names
+acting_as : (v u : RowsView) (c : RowCall) → acting_in (own_command v c) ≡ acting_in (own_command u c)
+acting_as v u (call.File ps) = refl
+acting_as v u (call.Lock t row keys m) = refl
+acting_as v u (call.Unlock t row) = refl
+acting_as v u (call.Rekey t row index key) = refl
+acting_as v u (call.Commit t) = refl
+acting_as v u (call.Abort t) = refl
+acting_as v u (call.Cancel t) = refl
+acting_as v u (call.Escalate t n) = refl
+
+pub named_as : (v u : RowsView) (c : RowCall) (t : TxnId) → names t (own_command v c) ≡ names t (own_command u c)
+named_as v u (call.File ps) t = refl
+named_as v u (call.Lock w row keys m) t = refl
+named_as v u (call.Unlock w row) t = refl
+named_as v u (call.Rekey w row index key) t = refl
+named_as v u (call.Commit w) t = refl
+named_as v u (call.Abort w) t = refl
+named_as v u (call.Cancel w) t = refl
+named_as v u (call.Escalate w n) t = refl
+
+pub row_acts : (c : RowCall) (own : Command) (slot : Option ℕ) → own ≡ own_command unnamed c → slot ≡ acting_in own → (v : RowsView)
+    → ActsIn slot (own_command v c)
+row_acts c own slot named is v =
+    subst (λ (o : Option ℕ). ActsIn o (own_command v c)) (acting_as v unnamed c ∙ sym (is ∙ ap acting_in named)) (acting_acts (own_command v c))

@@ -11,6 +11,7 @@ use Rattle.gl_steps.specs.Step.{Goes, Step}
 use Rattle.gl_steps.specs.Tests.{refusal_of}
 use Rattle.gl_steps.specs.declared.command.Answer.{Answer}
 use Rattle.gl_steps.specs.declared.command.Answer.TheVariants as answer
+use Rattle.gl_steps.specs.declared.command.Command.{Command}
 use Rattle.gl_steps.specs.declared.command.Command.TheVariants as command
 use Rattle.gl_catalog.specs.Manager.{state_of}
 use Rattle.gl_waiting.specs.Asking.{BeginsInTurn, begin_of}
@@ -20,7 +21,7 @@ use Rattle.gl_waiting.specs.declared.begins.QueuedBegin.{QueuedBegin}
 use Rattle.gl_waiting.specs.declared.begins.Turn.{Turn}
 use Rattle.gl_waiting.specs.declared.begins.Turn.TheVariants as turn
 use Rattle.gl_waiting.proofs.Beginning.{begin_made}
-use Rattle.gl_waiting.proofs.Runs.{run_same}
+use Rattle.gl_waiting.proofs.Runs.{own_same}
 use Rattle.gl_waiting.proofs.TurnRuns.{TurnRun, begin_run}
 use Rattle.gl_window.specs.Strip.{Strip}
 use Rattle.gl_window.specs.Tellings.{still_known}
@@ -30,13 +31,14 @@ use Rattle.gl_c.specs.managers.Serving.{KnowsWaits}
 use Rattle.gl_c.proofs.serving.Known.{command_known}
 
 -- nothing changes but the queue
-same_state : (v v' : WaitingView) → state_of v'.manager ≡ state_of v.manager → TurnRun v v'
-same_state v v' same = run_same (state_of v.manager) (state_of v'.manager) same
+same_state : (c : Command) (v v' : WaitingView) → state_of v'.manager ≡ state_of v.manager → TurnRun c v v'
+same_state c v v' same = own_same c (state_of v.manager) (state_of v'.manager) same
 
-pub turn_is_run : (v : WaitingView) (b : QueuedBegin) (came : Turn) (ended : Slots) (v' : WaitingView) → BeginsInTurn v b came ended v' → TurnRun v v'
-turn_is_run v b (turn.Came result) ended v' h = begin_run v b.since result ended v' h.2
-turn_is_run v b turn.Queued ended v' h = same_state v v' (ap (λ (x : WaitingView). state_of x.manager) h.2)
-turn_is_run v b turn.NoMemory ended v' h = same_state v v' (ap (λ (x : WaitingView). state_of x.manager) h.2)
+pub turn_is_run : (c : Command) (v : WaitingView) (b : QueuedBegin) (came : Turn) (ended : Slots) (v' : WaitingView) → BeginsInTurn v b came ended v'
+    → TurnRun c v v'
+turn_is_run c v b (turn.Came result) ended v' h = begin_run c v b.since result ended v' h.2
+turn_is_run c v b turn.Queued ended v' h = same_state c v v' (ap (λ (x : WaitingView). state_of x.manager) h.2)
+turn_is_run c v b turn.NoMemory ended v' h = same_state c v v' (ap (λ (x : WaitingView). state_of x.manager) h.2)
 
 -- a begin tells nobody
 module _ (s : State) (a : Answer) (told : Told) (s' : State) where

@@ -1,5 +1,5 @@
 -- A call that locks a node after what must be held above it.
-use Rattle.std.specs.Prelude.{◌&&◌, not, Bool, true, false, Result, Ok, Err, if◌then◌else◌}
+use Rattle.std.specs.Prelude.{◌&&◌, not, Bool, true, false, Result, Ok, Err, if◌then◌else◌, Some}
 use Rattle.gl_modes.specs.declared.node.NodeId.{NodeId}
 use Rattle.gl_modes.specs.declared.refusal.Refusal.{Refusal}
 use Rattle.gl_modes.specs.Nodes.{same_node}
@@ -16,7 +16,7 @@ use Rattle.gl_slots.specs.Slots.{has_none, has_slot}
 use Rattle.gl_slots.specs.declared.slots.Slots.{Slots}
 use Rattle.gl_header.specs.Header.{is_empty}
 use Rattle.gl_c.specs.declared.answers.reply.Reply.{Reply}
-use Rattle.gl_c.specs.managers.Carries.{CallOf}
+use Rattle.gl_c.specs.managers.Carries.{CallOf, acts}
 use Rattle.gl_c.specs.Names.{node_of}
 use Rattle.gl_c.specs.Numbers.{on_the_way, victim, waiting}
 use Rattle.gl_c.specs.answers.Replies.{refused_reply, reply_of, status_reply}
@@ -63,4 +63,5 @@ path_call t ask = record {
   does = λ v result told off v'. InTurn v (λ ended mid. LocksPath v t ask result told ended mid) off v';
   spares = λ result told known. leaves_on_path known t result told;
   says = path_reply ask.0;
+  rests = acts (Some t.slot);
 }

@@ -12,11 +12,12 @@ use Rattle.gl_rows.specs.declared.answer.RowAnswer.TheVariants as row_answer
 use Rattle.gl_rows.specs.declared.call.RowCall.{RowCall}
 use Rattle.gl_rows.specs.declared.row.Row.{Row}
 use Rattle.gl_c.specs.declared.answers.reply.Reply.{Reply}
-use Rattle.gl_c.specs.managers.Carries.{Declines, CallOf, spared_by}
+use Rattle.gl_c.specs.managers.Carries.{Declines, CallOf, spared_by, acts}
 use Rattle.gl_c.specs.managers.Guarded.{GuardedView}
 use Rattle.gl_c.specs.Numbers.{no_manager, not_rows, other_keys, victim, waiting}
 use Rattle.gl_c.specs.locks.Paths.{reply_at}
 use Rattle.gl_c.specs.answers.Replies.{refused_reply, reply_of, status_reply}
+use Rattle.gl_waiting.specs.Resting.{acting_in}
 use Rattle.gl_waiting.specs.Asking.{InTurn, ServesRow}
 
 -- the reply for the lock of a row's node: if granted, the row is held, even if the node's keys are not those that the caller named
@@ -38,6 +39,7 @@ row_call c = record {
   does = λ v a told off v'. InTurn v (λ ended mid. ServesRow v c a told ended mid) off v';
   spares = λ a told known. spared_by (own_command unnamed c) (answer_in a) told known;
   says = call_reply;
+  rests = acts (acting_in (own_command unnamed c));
 }
 
 -- the reply with a row's node

@@ -4,7 +4,7 @@ use Rattle.gl_modes.specs.declared.refusal.Refusal.{Refusal}
 use Rattle.gl_model.specs.declared.txn.TxnId.{TxnId}
 use Rattle.gl_steps.specs.declared.command.Answer.TheVariants as answer
 use Rattle.gl_c.specs.declared.answers.reply.Reply.{Reply}
-use Rattle.gl_c.specs.managers.Carries.{CallOf}
+use Rattle.gl_c.specs.managers.Carries.{CallOf, acts}
 use Rattle.gl_slots.specs.Slots.{has_none}
 use Rattle.gl_c.specs.answers.Replies.{count_reply, refused_reply, reply_of}
 use Rattle.gl_waiting.specs.Asking.{InTurn, KeepsLocks, RollsBackTo}
@@ -20,6 +20,7 @@ back_call t mark = record {
   does = λ v result told off v'. InTurn v (λ ended mid. RollsBackTo v t mark result told ended mid) off v';
   spares = λ result told known. has_none known;
   says = back_reply;
+  rests = acts (Some t.slot);
 }
 
 -- the reply: the transaction that began, or that it was done and none began
@@ -34,4 +35,5 @@ keeping_call t keep since = record {
   does = λ v result told off v'. InTurn v (λ ended mid. KeepsLocks v t keep since result told ended mid) off v';
   spares = λ result told known. has_none known;
   says = keeping_reply;
+  rests = acts (Some t.slot);
 }

@@ -1,5 +1,5 @@
 -- Calls that try paths and rows.
-use Rattle.std.specs.Prelude.{true, false, [], Option}
+use Rattle.std.specs.Prelude.{true, false, [], Option, Some}
 use Rattle.gl_modes.specs.declared.refusal.Refusal.TheVariants as no
 use Rattle.gl_slots.specs.Slots.{has_none}
 use Rattle.gl_model.specs.declared.answers.Locked.TheVariants as locked
@@ -14,7 +14,7 @@ use Rattle.gl_waiting.specs.declared.tries.Tried.{Tried}
 use Rattle.gl_waiting.specs.declared.tries.Tried.TheVariants as tried
 use Rattle.gl_c.specs.declared.answers.notices.Notices.{Notices}
 use Rattle.gl_c.specs.declared.answers.reply.Reply.{Reply}
-use Rattle.gl_c.specs.managers.Carries.{Declines, CallOf}
+use Rattle.gl_c.specs.managers.Carries.{Declines, CallOf, acts}
 use Rattle.gl_c.specs.managers.Guarded.{GuardedView}
 use Rattle.gl_c.specs.answers.Notices.{Tells}
 use Rattle.gl_c.specs.answers.Replies.{refused_reply, reply_of, status_reply}
@@ -43,6 +43,7 @@ tried_path_call k t ask = record {
   does = λ v came told off v'. InTurn v (λ ended mid. TriesThere v t ask k came told ended mid) off v';
   spares = λ came told known. has_none known;
   says = tried_reply;
+  rests = acts (Some t.slot);
 }
 
 -- the call that tries a row
@@ -51,6 +52,7 @@ tried_row_call w = record {
   does = λ v came told off v'. InTurn v (λ ended mid. TriesRowThere v w came told ended mid) off v';
   spares = λ came told known. has_none known;
   says = tried_row_reply;
+  rests = acts (Some w.txn.slot);
 }
 
 -- a call with a number that names nothing

@@ -9,7 +9,7 @@ use Rattle.gl_waiting.specs.declared.begins.QueuedBegin.{QueuedBegin}
 use Rattle.gl_waiting.specs.declared.begins.Turn.{Turn}
 use Rattle.gl_waiting.specs.declared.begins.Turn.TheVariants as turn
 use Rattle.gl_c.specs.declared.answers.reply.Reply.{Reply}
-use Rattle.gl_c.specs.managers.Carries.{CallOf, Declines, spared_by}
+use Rattle.gl_c.specs.managers.Carries.{CallOf, Declines, spared_by, acts}
 use Rattle.gl_c.specs.managers.Guarded.{GuardedView}
 use Rattle.gl_c.specs.Numbers.{done, given_at, no_manager, no_place, waiting}
 use Rattle.gl_c.specs.answers.Replies.{count_reply, refused_reply, reply_of, status_reply}
@@ -36,6 +36,7 @@ turn_call b = record {
   does = λ v came told off v'. BeginsInTurn v b came off.ended v' × (off.went_on ≡ false);
   spares = λ came told known. spared_by (begin_of b.since) (turn_said came) told known;
   says = turn_reply;
+  rests = acts None;
 }
 
 -- the reply for a begin that was handed on: its answer, and its name

@@ -6,6 +6,7 @@ use Rattle.gl_model.specs.declared.txn.TxnId.{TxnId}
 use Rattle.gl_steps.specs.declared.command.Answer.TheVariants as answer
 use Rattle.gl_waiting.specs.Asking.{Awaits, GoesOn, InTurn, TimesOut, WithdrawsWaiter}
 use Rattle.gl_waiting.specs.Ends.{HasNext, IsNext}
+use Rattle.gl_waiting.specs.Resting.{Rouses}
 use Rattle.gl_waiting.specs.Waiters.{earliest_until, first_late, node_in}
 use Rattle.gl_waiting.specs.declared.keys.RowKeys.{RowKeys}
 use Rattle.gl_waiting.specs.declared.waiter.Came.{Came}
@@ -19,7 +20,7 @@ use Rattle.gl_waiting.specs.declared.waiter.Waiter.{Waiter}
 use Rattle.gl_c.specs.declared.answers.reply.Reply.{Reply}
 use Rattle.gl_c.specs.declared.names.Node.{Node}
 use Rattle.gl_c.specs.declared.names.Txn.{Txn}
-use Rattle.gl_c.specs.managers.Carries.{CallOf, Declines}
+use Rattle.gl_c.specs.managers.Carries.{CallOf, Declines, acts}
 use Rattle.gl_c.specs.managers.Guarded.{GuardedView, waiting_in}
 use Rattle.gl_c.specs.answers.Replies.{count_reply, refused_reply, reply_of, status_reply}
 use Rattle.gl_c.specs.locks.Paths.{reply_at}
@@ -116,12 +117,18 @@ abbrev pub on_reply : Option (TxnId × Came) → Bool → Reply
 on_reply (Some x) over = record (came_reply x.1) { txn = txn_of x.0; count = if over then 1 else 0 }
 on_reply None over = status_reply no_place
 
+-- the slot of the waiter that went on
+abbrev pub on_slot : Option (TxnId × Came) → Option ℕ
+on_slot (Some x) = Some x.0.slot
+on_slot None = None
+
 -- the call by which the waiter of the lowest slot goes on whose wait is over; and whether the wait of a waiter is over after it
 abbrev pub on_call : CallOf (Option (TxnId × Came) × Bool)
 on_call = record {
   does = λ v o told off v'. InTurn v (λ ended mid. GoesOn v o.0 told ended mid) off v' × HasNext v' o.1;
   spares = λ o told known. false;
   says = λ o. on_reply o.0 o.1;
+  rests = λ v o v' r r'. Rouses (on_slot o.0) v r v' r';
 }
 
 -- the reply for a wait that was cancelled since its time is over
@@ -135,6 +142,7 @@ late_call t = record {
   does = λ v o told off v'. InTurn v (λ ended mid. TimesOut v t o told ended mid) off v';
   spares = λ o told known. false;
   says = late_reply;
+  rests = acts (Some t.slot);
 }
 
 -- the reply for what a waiter does next: a number for it, its node, and its mode

@@ -7,6 +7,7 @@ use Rattle.gl_model.specs.Tellings.{Told}
 use Rattle.gl_steps.specs.declared.command.Answer.{Answer}
 use Rattle.gl_steps.specs.declared.command.Command.{Command}
 use Rattle.gl_waiting.specs.Asking.{InTurn, Serves}
+use Rattle.gl_waiting.specs.Resting.{Rouses, acting_in}
 use Rattle.gl_waiting.specs.Waiting.{WaitingView}
 use Rattle.gl_waiting.specs.declared.set_off.SetOff.{SetOff}
 use Rattle.gl_window.specs.Tellings.{leaves_waits}
@@ -20,12 +21,17 @@ use Rattle.gl_c.specs.Numbers.{no_manager}
 use Rattle.gl_c.specs.answers.Replies.{served_reply, status_reply}
 use Rattle.gl_c.specs.managers.Serving.{Leaves}
 
--- a kind of call: what it does to the table of waiters, with the begins that it hands on; whether it is known to leave all waits, by the parties to them; and
--- what C is answered
+-- a kind of call: what it does to the table of waiters, with the begins that it hands on; whether it is known to leave all waits, by the parties to them;
+-- what C is answered; and what becomes of those who rest
 pub record CallOf (A : Type 0) : Type 1 where
   pub does : WaitingView → A → Told → SetOff → WaitingView → Type 0
   pub spares : A → Told → Slots → Bool
   pub says : A → Reply
+  pub rests : WaitingView → A → WaitingView → Slots → Slots → Type 0
+
+-- the transaction of this slot acts: it rests no more
+abbrev pub acts : {A : Type 0} → Option ℕ → WaitingView → A → WaitingView → Slots → Slots → Type 0
+acts slot v a v' r r' = Rouses slot v r v' r'
 
 -- whether a call is known to leave all waits that carries out this command, if it does
 abbrev pub spared_by : Command → Option Answer → Told → Slots → Bool
@@ -38,11 +44,12 @@ command_call c = record {
   does = λ v a told off v'. InTurn v (λ ended mid. Serves v c a told ended mid) off v';
   spares = spared_by c;
   says = served_reply;
+  rests = acts (acting_in c);
 }
 
 -- a call is made, with this answer and these notices
 abbrev pub Performs : {A : Type 0} → GuardedView → CallOf A → A → Told → GuardedView → Type 0
-Performs g call a told g' = Leaves (call.does (waiting_in g) a told) (call.spares a told) g g'
+Performs g call a told g' = Leaves (call.does (waiting_in g) a told) (call.spares a told) (call.rests (waiting_in g) a) g g'
 
 -- a call is made, and C gets the reply and the notices
 pub record Replies {A : Type 0} (g : GuardedView) (call : CallOf A) (r : Reply) (notices : Notices) (g' : GuardedView) : Type 0 where

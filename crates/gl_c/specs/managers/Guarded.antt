@@ -10,7 +10,8 @@ use Rattle.gl_waiting.specs.declared.waiter.Place.{Place}
 use Rattle.gl_wakes.specs.Boxes.{Slot}
 use Rattle.gl_window.specs.Strip.{Strip}
 
--- the table of waiters (the manager, the files of rows with the locked rows, a notice box and a place for each slot, and the begin queue), the slots whose wait
+-- the table of waiters (the manager, the files of rows with the locked rows, a notice box and a place for each slot, and the begin queue), the slots of
+-- those who rest, the slots whose wait
 -- the last counted call may have ended, the snapshots that watchers were shown, if there ever was one, and all parties to waits, if it is known that the last
 -- snapshot has every wait
 pub record GuardedView : Type 0 where
@@ -20,6 +21,7 @@ pub record GuardedView : Type 0 where
   pub places : List Place
   pub queue : List QueuedBegin
   pub begun : List Begun
+  pub resting : Slots
   pub ended : Slots
   pub shown : Option Strip
   pub parties : Option Slots

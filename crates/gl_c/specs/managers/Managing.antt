@@ -32,6 +32,7 @@ pub record IsNew (detect : Detect) (victims : Victims) (most nodes bounds : ℕ)
   pub places : g.places ≡ replicate most_slots Empty
   pub queue : g.queue ≡ []
   pub begun : g.begun ≡ []
+  pub resting : g.resting ≡ no_slots
   pub ended : g.ended ≡ no_slots
   pub shown : g.shown ≡ None
   pub fileless : (file : NodeId) → has_rows g.rows file ≡ false

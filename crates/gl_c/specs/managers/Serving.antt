@@ -32,11 +32,13 @@ abbrev pub known_after : Bool → Option Slots → (Slots → Bool) → Option S
 known_after went_on parties spares = if went_on then None else still_known parties spares
 
 -- a call does this to the table of waiters; if it counted a command, the waits that it ended are noted; watchers are shown the snapshot after it or nothing,
--- and nothing if it is known to leave all waits; else nothing changes beside the table
-pub record Leaves (IsCalled : SetOff → WaitingView → Type 0) (spares : Slots → Bool) (g g' : GuardedView) : Type 0 where
+-- and nothing if it is known to leave all waits; else nothing changes beside the table. Those who rest are left so
+pub record Leaves (IsCalled : SetOff → WaitingView → Type 0) (spares : Slots → Bool) (Rests : WaitingView → Slots → Slots → Type 0) (g g' : GuardedView)
+    : Type 0 where
   pub off : SetOff
   pub called : IsCalled off (waiting_in g')
   pub noted : (g'.manager.accepted ≡ g.manager.accepted → ⊥) → g'.ended ≡ off.ended
+  pub rests : Rests (waiting_in g') g.resting g'.resting
   pub uncounted : g'.manager.accepted ≡ g.manager.accepted → g' ≡ with_waiting g (waiting_in g')
   pub shown : ShowsOn (is_none (known_after off.went_on g.parties spares)) (board_of (state_of g'.manager)) g.shown g'.shown
   pub known : KnowsWaits (state_of g'.manager) g'.shown g'.parties

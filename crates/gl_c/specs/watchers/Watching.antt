@@ -24,6 +24,7 @@ Continues (Some before) after = (s : Strip) × (after ≡ Some s) × GoesOn befo
 -- everything except what watchers are shown is unchanged
 pub record OnlyShows (g g' : GuardedView) : Type 0 where
   pub waiting : waiting_in g' ≡ waiting_in g
+  pub resting : g'.resting ≡ g.resting
   pub ended : g'.ended ≡ g.ended
   pub shown : Continues g.shown g'.shown
 

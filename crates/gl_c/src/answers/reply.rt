@@ -2,6 +2,7 @@
 
 ghost use Rattle.std.specs.Prelude.{◌≡◌};
 ghost use Rattle.gl_steps.specs.declared.command.Answer.TheVariants as answer;
+ghost use Rattle.gl_c.specs.locks.Resting.{ended_reply};
 ghost use Rattle.gl_c.specs.locks.Paths.{path_reply, reached_reply, reply_at};
 ghost use Rattle.gl_c.specs.answers.Replies.{count_reply, refused_at, refused_reply, reply_of, served_reply, status_reply};
 ghost use Rattle.gl_c.specs.locks.Rows.{call_reply, row_lock_status};
@@ -182,6 +183,19 @@ impl Reply {
             RowAnswer::Locked(x) => Reply::of_row_lock(x.locked, x.own_keys).at(x.node),
             RowAnswer::Answered(answer) => Reply::of(answer),
             RowAnswer::NotRows => Reply::with_status(NOT_ROWS),
+        }
+    }
+
+    /// The reply for one who rested and was to be ended; `None` if nobody was.
+    pub(crate) fn of_ended(ended: Option<(TxnId, RowAnswer)>) -> Reply
+        ensures { result ≡ ended_reply ended }
+    {
+        match ended {
+            Some((txn, answer)) => Reply {
+                txn: Txn::of(txn),
+                ..Reply::of_row_call(answer)
+            },
+            None => Reply::with_status(NO_PLACE),
         }
     }
 

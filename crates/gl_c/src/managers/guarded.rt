@@ -23,22 +23,24 @@ use gl_modes::{Mode, NodeId, Refusal};
 use gl_rows::{Registry, Row, RowAnswer, RowCall};
 use gl_slots::Slots;
 use gl_table::{Detect, Told, TxnId};
-use gl_waiting::{Delivery, Waiting};
+use gl_waiting::{Delivery, Resting, Waiting, acting_slot};
 use gl_waits::Victims;
 use gl_wakes::{Grant, Stop};
 use gl_window::{WatchFault, Watcher};
 use std::alloc::Global;
 use std::marker::Model;
 
+mod resting;
 mod tries;
 mod turns;
 mod waiters;
 
-/// The table of waiters, the slots whose wait the last counted call may have ended, and what watchers
-/// were shown, if there ever was one.
+/// The table of waiters, who of its transactions rest, the slots whose wait the last counted call may
+/// have ended, and what watchers were shown, if there ever was one.
 #[derive(Drop)]
 pub(crate) struct Guarded {
     waiting: Waiting,
+    resting: Resting,
     ended: Slots,
     showing: Option<Showing>,
 }
@@ -76,6 +78,7 @@ impl Guarded {
         let registry = Registry::new(alloc, manager)?;
         Ok(Guarded {
             waiting: Waiting::new(alloc, Delivery::new(registry)),
+            resting: Resting::nobody(),
             ended: Slots::empty(),
             showing: None,
         })
@@ -128,6 +131,7 @@ impl Guarded {
             return answer;
         }
         self.ended = off.ended;
+        self.resting.rouse(&self.waiting, acting_slot(&command));
         keep(
             &mut self.showing,
             off.went_on,
@@ -158,6 +162,7 @@ impl Guarded {
             return reached;
         }
         self.ended = off.ended;
+        self.resting.rouse(&self.waiting, Some(txn.slot));
         keep_on_path(
             &mut self.showing,
             off.went_on,
@@ -183,6 +188,8 @@ impl Guarded {
             return answer;
         }
         self.ended = off.ended;
+        self.resting
+            .rouse(&self.waiting, acting_slot(&call.command()));
         keep(
             &mut self.showing,
             off.went_on,
@@ -205,12 +212,14 @@ impl Guarded {
         requires empty { told.old.items ≡ [] }
         ensures { Performs self.old (back_call txn mark) result told.new.items self.new }
     {
+        self.waiting.law();
         let before = self.waiting.manager().accepted();
         let (released, off) = self.waiting.release_since(txn, mark, told);
         if self.waiting.manager().accepted() == before {
             return released;
         }
         self.ended = off.ended;
+        self.resting.rouse(&self.waiting, Some(txn.slot));
         keep_nobody(&mut self.showing, off.went_on);
         self.show_if_due();
         released
@@ -228,12 +237,14 @@ impl Guarded {
         requires empty { told.old.items ≡ [] }
         ensures { Performs self.old (keeping_call txn keep since) result told.new.items self.new }
     {
+        self.waiting.law();
         let before = self.waiting.manager().accepted();
         let (next, off) = self.waiting.commit_keeping(txn, keep, since, told);
         if self.waiting.manager().accepted() == before {
             return next;
         }
         self.ended = off.ended;
+        self.resting.rouse(&self.waiting, Some(txn.slot));
         keep_nobody(&mut self.showing, off.went_on);
         self.show_if_due();
         next
@@ -242,7 +253,7 @@ impl Guarded {
     /// Shows watchers the present snapshot if there is a watcher and the last snapshot may lack a wait.
     #[inline(always)]
     fn show_if_due(&mut self)
-        ensures kept { (waiting_in self.new ≡ waiting_in self.old) × (self.new.ended ≡ self.old.ended) }
+        ensures kept { (waiting_in self.new ≡ waiting_in self.old) × (self.new.ended ≡ self.old.ended) × (self.new.resting ≡ self.old.resting) }
         ensures shown { ShowsOn (is_none self.old.parties) (board_of (state_of self.old.manager)) self.old.shown self.new.shown }
         ensures known { KnowsWaits (state_of self.new.manager) self.new.shown self.new.parties }
     {

@@ -11,6 +11,7 @@ ghost use Rattle.gl_wakes.specs.Boxes.{verdict_of};
 ghost use Rattle.gl_c.specs.managers.Carries.{Answers, Replies, command_call};
 ghost use Rattle.gl_c.specs.questions.Looks.{looked};
 ghost use Rattle.gl_c.specs.locks.Paths.{path_call};
+ghost use Rattle.gl_c.specs.locks.Resting.{WakesThere, end_call, resting_call};
 ghost use Rattle.gl_c.specs.locks.Savepoints.{back_call, keeping_call};
 ghost use Rattle.gl_c.specs.managers.Managing.{IsNew};
 ghost use Rattle.gl_c.specs.locks.Rows.{named_reply, row_call};
@@ -34,7 +35,7 @@ use gl_modes::{Mode, NodeId, Refusal};
 use gl_rows::{Row, RowCall};
 use gl_slots::Slots;
 use gl_table::{Detect, Told, TxnId};
-use gl_waiting::{Keep, QueuedBegin, Waiter};
+use gl_waiting::{Keep, QueuedBegin, Waiter, Whom};
 use gl_waits::Victims;
 use gl_window::{WatchFault, Watcher};
 use std::alloc::Global;
@@ -138,6 +139,46 @@ impl Session {
         notices.put(self.told.as_slice());
         self.told.clear();
         Reply::of_keeping(next)
+    }
+
+    /// The same, and lets the one that begins rest.
+    pub(crate) fn commit_and_rest(
+        &mut self,
+        txn: TxnId,
+        keep: usize,
+        since: u64,
+        notices: &mut Notices,
+    ) -> Reply
+        ensures { Replies self.old (resting_call txn keep since) result notices.new self.new }
+    {
+        let next = self.guarded.serve_resting(txn, keep, since, &mut self.told);
+        notices.put(self.told.as_slice());
+        self.told.clear();
+        Reply::of_keeping(next)
+    }
+
+    /// Ends one who rests, and writes the notices.
+    pub(crate) fn end_resting(&mut self, whom: Whom, notices: &mut Notices) -> Reply
+        ensures { Replies self.old (end_call whom) result notices.new self.new }
+    {
+        let ended = self.guarded.end_resting(whom, &mut self.told);
+        notices.put(self.told.as_slice());
+        self.told.clear();
+        Reply::of_ended(ended)
+    }
+
+    /// Lets a transaction work again that rested.
+    pub(crate) fn wake(&mut self, txn: TxnId) -> Reply
+        ensures { WakesThere self.old txn result self.new }
+    {
+        Reply::of_found(self.guarded.wake(txn))
+    }
+
+    /// The slots of those who rest.
+    pub(crate) fn resting(&self) -> Slots
+        ensures { result ≡ self.now.resting }
+    {
+        self.guarded.resting()
     }
 
     /// Carries out a call about rows, and writes its notices.

@@ -5,7 +5,7 @@ ghost use Rattle.gl_catalog.specs.Manager.{state_of};
 ghost use Rattle.gl_catalog.specs.Paths.{lock_of};
 ghost use Rattle.gl_rows.specs.Serving.{Applies};
 ghost use Rattle.gl_waiting.specs.Delivering.{Carries, IsLockAnswer, lock_said};
-ghost use Rattle.gl_waiting.specs.Going.{IsRun};
+ghost use Rattle.gl_waiting.specs.Going.{IsRunOf};
 
 use crate::delivery::Delivery;
 use gl_catalog::{Answer, Command};
@@ -26,7 +26,7 @@ impl Delivery {
         ensures applies { Applies self.old.manager (lock_of txn (node, mode)) (lock_said result.0) told.new.items self.new.manager }
         ensures rows { self.new.rows ≡ self.old.rows }
         ensures carries { Carries self.old (lock_of txn (node, mode)) told.new.items result.1 self.new }
-        ensures run { IsRun (state_of self.old.manager) (state_of self.new.manager) }
+        ensures run { IsRunOf (lock_of txn (node, mode)) (state_of self.old.manager) (state_of self.new.manager) }
     {
         let (answer, ended) = self.serve(Command::Lock { txn, node, mode }, told);
         let Some(answer) = answer else { unreachable!() };

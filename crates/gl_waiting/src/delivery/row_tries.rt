@@ -3,9 +3,11 @@
 ghost use Rattle.std.specs.Prelude.{◌≡◌, ◌⊎◌, ◌<◌, ◌≤◌, [], Some, false};
 ghost use Rattle.gl_slots.specs.Slots.{HasNoSlot};
 ghost use Rattle.gl_catalog.specs.Manager.{state_of};
+ghost use Rattle.gl_catalog.specs.Paths.{lock_of};
+ghost use Rattle.gl_rows.specs.Releasing.{no_node};
 ghost use Rattle.gl_rows.specs.Rows.{name_of};
 ghost use Rattle.gl_wakes.specs.Wakes.{HasEnded};
-ghost use Rattle.gl_waiting.specs.Going.{IsRun};
+ghost use Rattle.gl_waiting.specs.Going.{IsRunOf};
 ghost use Rattle.gl_waiting.specs.RowTries.{BeginsNoWait, BlocksNobody, HoldsTried, IsHeldIn, KeepsQueues, NotesRow, TriesRow, busy_node, was_held};
 
 use super::Delivery;
@@ -38,7 +40,7 @@ impl Delivery {
         ensures holds { HoldsTried txn mode result.0 (state_of self.new.manager) }
         ensures waits { BeginsNoWait (state_of self.old.manager) (state_of self.new.manager) }
         ensures queues { KeepsQueues result.0 (state_of self.old.manager) (state_of self.new.manager) }
-        ensures run { IsRun (state_of self.old.manager) (state_of self.new.manager) }
+        ensures run { IsRunOf (lock_of txn (no_node, mode)) (state_of self.old.manager) (state_of self.new.manager) }
         ensures ended { HasEnded (state_of self.old.manager) (state_of self.new.manager) result.1 }
         ensures counted { HasNoSlot result.1 ⊎ (self.old.manager.accepted < self.new.manager.accepted) }
         ensures low { self.old.manager.accepted ≤ self.new.manager.accepted }
@@ -87,7 +89,7 @@ impl Delivery {
         ensures holds { HoldsTried txn mode result.0 (state_of self.new.manager) }
         ensures waits { BeginsNoWait (state_of self.old.manager) (state_of self.new.manager) }
         ensures queues { KeepsQueues result.0 (state_of self.old.manager) (state_of self.new.manager) }
-        ensures run { IsRun (state_of self.old.manager) (state_of self.new.manager) }
+        ensures run { IsRunOf (lock_of txn (no_node, mode)) (state_of self.old.manager) (state_of self.new.manager) }
         ensures ended { HasEnded (state_of self.old.manager) (state_of self.new.manager) result.1 }
         ensures counted { HasNoSlot result.1 ⊎ (self.old.manager.accepted < self.new.manager.accepted) }
         ensures low { self.old.manager.accepted ≤ self.new.manager.accepted }

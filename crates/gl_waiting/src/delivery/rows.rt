@@ -3,9 +3,11 @@
 ghost use Rattle.std.specs.Prelude.{◌≡◌, []};
 ghost use Rattle.gl_rows.specs.Answers.{lock_said};
 ghost use Rattle.gl_catalog.specs.Manager.{state_of};
+ghost use Rattle.gl_catalog.specs.Paths.{lock_of};
+ghost use Rattle.gl_rows.specs.Releasing.{no_node};
 ghost use Rattle.gl_rows.specs.Applying.{AppliesCall, CarriesOut, answer_in, naming, own_command};
 ghost use Rattle.gl_waiting.specs.Delivering.{Carries, registry_in};
-ghost use Rattle.gl_waiting.specs.Going.{IsRun};
+ghost use Rattle.gl_waiting.specs.Going.{IsRunOf};
 ghost use Rattle.gl_waiting.specs.RowLocks.{IsRowLockAnswer, LocksRowAs, row_lock};
 
 use super::{Delivery, deliver};
@@ -24,7 +26,7 @@ impl Delivery {
         ensures own { CarriesOut self.old.manager (own_command (naming call.entry self.old.rows self.new.rows) call.entry) (answer_in result.0)
             told.new.items self.new.manager }
         ensures carries { Carries self.old (own_command (naming call.entry self.old.rows self.new.rows) call.entry) told.new.items result.1 self.new }
-        ensures run { IsRun (state_of self.old.manager) (state_of self.new.manager) }
+        ensures run { IsRunOf (own_command (naming call.entry self.old.rows self.new.rows) call.entry) (state_of self.old.manager) (state_of self.new.manager) }
     {
         self.registry.law();
         let before = self.registry.manager().accepted();
@@ -50,7 +52,7 @@ impl Delivery {
         ensures locks { LocksRowAs self.old (record { txn = txn; row = row; keys = keys.entry; mode = mode }) result.0 told.new.items self.new }
         ensures carries { Carries self.old (own_command self.new.rows (row_lock (record { txn = txn; row = row; keys = keys.entry; mode = mode })))
             told.new.items result.1 self.new }
-        ensures run { IsRun (state_of self.old.manager) (state_of self.new.manager) }
+        ensures run { IsRunOf (lock_of txn (no_node, mode)) (state_of self.old.manager) (state_of self.new.manager) }
     {
         let call = RowCall::Lock {
             txn,

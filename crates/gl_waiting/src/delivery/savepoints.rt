@@ -5,7 +5,7 @@ ghost use Rattle.gl_catalog.specs.Manager.{state_of};
 ghost use Rattle.gl_rows.specs.Releasing.{CommitsAndKeeps, GoesBackTo};
 ghost use Rattle.gl_steps.specs.declared.command.Command.TheVariants as command;
 ghost use Rattle.gl_waiting.specs.Delivering.{Carries, ComesToNothing, Delivered, unlocking};
-ghost use Rattle.gl_waiting.specs.Going.{IsRun};
+ghost use Rattle.gl_waiting.specs.Going.{IsRunOf};
 
 use super::{Delivery, deliver};
 use gl_catalog::Command;
@@ -27,7 +27,7 @@ impl Delivery {
         ensures delivered { OnOk result.0 (Delivered self.old (unlocking txn) told.new.items result.1 self.new) }
         ensures refused { OnErr result.0 (ComesToNothing self.old told.new.items result.1 self.new) }
         ensures counted { self.old.manager.accepted ≤ self.new.manager.accepted }
-        ensures run { IsRun (state_of self.old.manager) (state_of self.new.manager) }
+        ensures run { IsRunOf (unlocking txn) (state_of self.old.manager) (state_of self.new.manager) }
     {
         self.registry.law();
         let released = match self.registry.release_since(txn, mark, told) {
@@ -55,7 +55,7 @@ impl Delivery {
         requires empty { told.old.items ≡ [] }
         ensures keeps { CommitsAndKeeps txn keep since self.old.manager self.old.rows result.0 told.new.items self.new.manager self.new.rows }
         ensures carries { Carries self.old (command.Commit txn) told.new.items result.1 self.new }
-        ensures run { IsRun (state_of self.old.manager) (state_of self.new.manager) }
+        ensures run { IsRunOf (command.Commit txn) (state_of self.old.manager) (state_of self.new.manager) }
     {
         self.registry.law();
         let next = match self.registry.commit_keeping(txn, keep, since, told) {

@@ -8,7 +8,7 @@ ghost use Rattle.gl_catalog.specs.Manager.{state_of};
 ghost use Rattle.gl_catalog.specs.Paths.{KeepsBelow, KeepsPath, path_tests};
 ghost use Rattle.gl_catalog.specs.Replies.{CallSteps, said, took};
 ghost use Rattle.gl_wakes.specs.Wakes.{HasEnded};
-ghost use Rattle.gl_waiting.specs.Going.{IsRun};
+ghost use Rattle.gl_waiting.specs.Going.{IsRunOf};
 ghost use Rattle.gl_waiting.specs.declared.tries.Tried.TheVariants.{Refused as refused};
 ghost use Rattle.gl_waiting.specs.Tries.{AnswersTry, HasManager, HoldsAsTried, IsTried, TriesOnce, TriesPath, try_of};
 
@@ -48,7 +48,7 @@ impl Delivery {
         ensures held { HoldsAsTried txn (node, mode) result.0 (state_of self.new.manager) }
         ensures tests { (r : ARefusal) → first_refusal (path_tests (state_of self.old.manager) txn node mode) ≡ Some r
             → (result.0 ≡ refused r) × (self.new ≡ self.old) }
-        ensures run { IsRun (state_of self.old.manager) (state_of self.new.manager) }
+        ensures run { IsRunOf (try_of txn (node, mode)) (state_of self.old.manager) (state_of self.new.manager) }
         ensures ended { HasEnded (state_of self.old.manager) (state_of self.new.manager) result.1 }
         ensures counted { HasNoSlot result.1 ⊎ (self.old.manager.accepted < self.new.manager.accepted) }
         ensures low { self.old.manager.accepted ≤ self.new.manager.accepted }

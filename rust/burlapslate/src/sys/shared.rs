@@ -136,8 +136,9 @@ struct SessionPlace<'t> {
 #[repr(C)]
 #[derive(Clone, Copy)]
 pub(crate) struct Kept {
-    /// The transaction, or the one that rests.
+    /// The transaction; none while one rests.
     pub(crate) txn: Txn,
+    pub(crate) rests: Txn,
     pub(crate) most: u32,
     pub(crate) count: u32,
 }
@@ -145,6 +146,7 @@ pub(crate) struct Kept {
 impl Kept {
     pub(crate) const NOTHING: Kept = Kept {
         txn: Txn::NONE,
+        rests: Txn::NONE,
         most: 0,
         count: 0,
     };

@@ -25,12 +25,14 @@ impl Guarded {
         requires empty { told.old.items ≡ [] }
         ensures { Performs self.old (tried_path_call keep txn (node, mode)) result told.new.items self.new }
     {
+        self.waiting.law();
         let before = self.waiting.manager().accepted();
         let (tried, off) = self.waiting.try_path(txn, node, mode, keep, told);
         if self.waiting.manager().accepted() == before {
             return tried;
         }
         self.ended = off.ended;
+        self.resting.rouse(&self.waiting, Some(txn.slot));
         keep_nobody(&mut self.showing, off.went_on);
         self.show_if_due();
         tried
@@ -49,12 +51,14 @@ impl Guarded {
         requires empty { told.old.items ≡ [] }
         ensures { Performs self.old (tried_row_call (record { txn = txn; row = row; keys = keys.entry; mode = mode })) result told.new.items self.new }
     {
+        self.waiting.law();
         let before = self.waiting.manager().accepted();
         let (tried, off) = self.waiting.try_row(txn, row, keys, mode, told);
         if self.waiting.manager().accepted() == before {
             return tried;
         }
         self.ended = off.ended;
+        self.resting.rouse(&self.waiting, Some(txn.slot));
         keep_nobody(&mut self.showing, off.went_on);
         self.show_if_due();
         tried

@@ -26,6 +26,7 @@ impl Guarded {
             return turn;
         }
         self.ended = ended;
+        self.resting.rouse(&self.waiting, None);
         let command = begin_command(begin.since);
         keep(&mut self.showing, false, &command, said(turn), &[]);
         self.show_if_due();

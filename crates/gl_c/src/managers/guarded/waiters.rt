@@ -4,12 +4,13 @@ ghost use Rattle.std.specs.Prelude.{◌≡◌, []};
 ghost use Rattle.gl_waiting.specs.Asking.{Awaits, WithdrawsWaiter};
 ghost use Rattle.gl_waiting.specs.Ends.{IsNext};
 ghost use Rattle.gl_waiting.specs.Waiters.{earliest_until, first_late};
-ghost use Rattle.gl_c.specs.locks.Waiters.{late_call, on_call};
+ghost use Rattle.gl_c.specs.locks.Waiters.{late_call, on_call, on_slot};
 ghost use Rattle.gl_c.specs.managers.Carries.{Performs};
 ghost use Rattle.gl_c.specs.managers.Guarded.{waiting_in};
 
 use super::Guarded;
 use crate::managers::showing::keep_nobody;
+use gl_slots::Slot;
 use gl_table::{Told, TxnId};
 use gl_waiting::{Came, Next, Outcome, Waiter};
 
@@ -37,6 +38,7 @@ impl Guarded {
         requires empty { told.old.items ≡ [] }
         ensures { Performs self.old on_call result told.new.items self.new }
     {
+        self.waiting.law();
         let before = self.waiting.manager().accepted();
         let (came, off) = self.waiting.go_on(told);
         let over = self.waiting.has_next();
@@ -44,6 +46,7 @@ impl Guarded {
             return (came, over);
         }
         self.ended = off.ended;
+        self.resting.rouse(&self.waiting, slot_of(came));
         keep_nobody(&mut self.showing, true);
         self.show_if_due();
         (came, over)
@@ -55,12 +58,14 @@ impl Guarded {
         requires empty { told.old.items ≡ [] }
         ensures { Performs self.old (late_call txn) result told.new.items self.new }
     {
+        self.waiting.law();
         let before = self.waiting.manager().accepted();
         let (end, off) = self.waiting.time_out(txn, told);
         if self.waiting.manager().accepted() == before {
             return end;
         }
         self.ended = off.ended;
+        self.resting.rouse(&self.waiting, Some(txn.slot));
         keep_nobody(&mut self.showing, true);
         self.show_if_due();
         end
@@ -85,5 +90,15 @@ impl Guarded {
         ensures { result ≡ earliest_until self.now.places }
     {
         self.waiting.earliest_wait()
+    }
+}
+
+/// The slot of the waiter that went on.
+fn slot_of(came: Option<(TxnId, Came)>) -> Option<Slot>
+    ensures { result ≡ on_slot came }
+{
+    match came {
+        Some((txn, _)) => Some(txn.slot),
+        None => None,
     }
 }

@@ -15,6 +15,7 @@ ghost use Rattle.gl_model.specs.State.{members, waits_for};
 ghost use Rattle.gl_catalog.specs.Manager.{IsLawfulManager};
 ghost use Rattle.gl_c.specs.questions.Looks.{Looks};
 ghost use Rattle.gl_c.specs.locks.Paths.{path_call};
+ghost use Rattle.gl_c.specs.locks.Resting.{FindsResting, WakesIn, end_call, resting_call};
 ghost use Rattle.gl_c.specs.locks.Savepoints.{back_call, keeping_call};
 ghost use Rattle.gl_c.specs.answers.Notices.{Tells};
 ghost use Rattle.gl_c.specs.Numbers.{no_manager};
@@ -42,7 +43,7 @@ use gl_catalog::Command;
 use gl_modes::{Mode, NodeId};
 use gl_rows::{Row, RowCall};
 use gl_table::TxnId;
-use gl_waiting::{Keep, QueuedBegin, Waiter};
+use gl_waiting::{Keep, QueuedBegin, Waiter, Whom};
 use gl_window::{WatchFault, Watcher};
 use std::alloc::Global;
 use std::mem::replace;
@@ -164,6 +165,51 @@ impl Handle {
             return declined(told);
         };
         let reply = session.commit_keeping(txn, keep, since, told);
+        *self = Handle::of(alloc, session);
+        reply
+    }
+
+    /// The same, and lets the one that begins rest.
+    pub(crate) fn commit_and_rest(
+        &mut self,
+        txn: TxnId,
+        keep: usize,
+        since: u64,
+        told: &mut Notices,
+    ) -> Reply
+        ensures { Carries (guarded_in self.old) (resting_call txn keep since) result told.new (guarded_in self.new) }
+    {
+        let alloc = self.alloc;
+        let Some(mut session) = self.take() else {
+            return declined(told);
+        };
+        let reply = session.commit_and_rest(txn, keep, since, told);
+        *self = Handle::of(alloc, session);
+        reply
+    }
+
+    /// Ends one who rests, and writes the notices.
+    pub(crate) fn end_resting(&mut self, whom: Whom, told: &mut Notices) -> Reply
+        ensures { Carries (guarded_in self.old) (end_call whom) result told.new (guarded_in self.new) }
+    {
+        let alloc = self.alloc;
+        let Some(mut session) = self.take() else {
+            return declined(told);
+        };
+        let reply = session.end_resting(whom, told);
+        *self = Handle::of(alloc, session);
+        reply
+    }
+
+    /// Lets a transaction work again that rested.
+    pub(crate) fn wake(&mut self, txn: TxnId) -> Reply
+        ensures { WakesIn (guarded_in self.old) txn result (guarded_in self.new) }
+    {
+        let alloc = self.alloc;
+        let Some(mut session) = self.take() else {
+            return Reply::with_status(NO_MANAGER);
+        };
+        let reply = session.wake(txn);
         *self = Handle::of(alloc, session);
         reply
     }
@@ -455,6 +501,19 @@ impl Handle {
             return Found::none(NO_MANAGER);
         };
         let found = Found::of(session.ended().bits());
+        *self = Handle::of(alloc, session);
+        found
+    }
+
+    /// The slots of those who rest.
+    pub(crate) fn resting(&mut self) -> Found
+        ensures { FindsResting (guarded_in self.old) result (guarded_in self.new) }
+    {
+        let alloc = self.alloc;
+        let Some(session) = self.take() else {
+            return Found::none(NO_MANAGER);
+        };
+        let found = Found::of(session.resting().bits());
         *self = Handle::of(alloc, session);
         found
     }

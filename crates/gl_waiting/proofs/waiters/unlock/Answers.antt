@@ -8,4 +8,5 @@ returns-clause-call c = (
       c.serve-answer.ensures.run,
   refl,
   refl,
+  λ u apart. apart,
 )

@@ -1,10 +1,11 @@
-use Rattle.std.proofs.Common.{subst}
+use Rattle.gl_waiting.proofs.Runs.{own_same}
+use Rattle.std.proofs.Common.{subst, rules}
 use Rattle.std.specs.Prelude.{Ok}
 use Rattle.gl_catalog.specs.Manager.{state_of}
 use Rattle.gl_rows.specs.Releasing.{CommitsAndKeeps}
 use Rattle.gl_steps.specs.declared.command.Command.TheVariants as command
 use Rattle.gl_waiting.specs.Delivering.{Carries, DeliveryView}
-use Rattle.gl_waiting.specs.Going.{IsRun}
+use Rattle.gl_waiting.specs.Going.{IsRunOf}
 use Rattle.gl_waiting.proofs.Delivered.{with_boxes}
 use Rattle.gl_waiting.proofs.Backs.{keeping_carries, keeping_rises, keeping_runs}
 use Rattle.gl_waiting.proofs.delivery.Delivery.commit_keeping.Goals as goal
@@ -30,6 +31,10 @@ returns-clause-carries c =
 
 pub returns-clause-run : goal.returns-clause-run
 returns-clause-run c =
-    subst (λ (d : DeliveryView). IsRun (state_of d.manager) (state_of c.commit_keeping.new.self.manager)) c.self.view_is
+    subst (λ (d : DeliveryView). IsRunOf (command.Commit c.args.txn) (state_of d.manager) (state_of c.commit_keeping.new.self.manager)) c.self.view_is
     (keeping_runs c.self.inside.registry c.commit_keeping.new.self c.args.txn c.args.keep c.args.since c.in-Ok.next c.commit_keeping.new.told.items
     c.in-Ok.ensures)
+
+pub returns-in-Err-clause-run : goal.returns-in-Err-clause-run
+returns-in-Err-clause-run c =
+    own_same (command.Commit c.args.txn) (state_of c.args.self.now.manager) (state_of c.commit_keeping.new.self.manager) (search rules)

@@ -3,7 +3,7 @@ use Rattle.gl_catalog.specs.Manager.{ManagerView, state_of}
 use Rattle.gl_catalog.specs.Paths.{lock_of}
 use Rattle.gl_rows.specs.Serving.{PathLeavesRows}
 use Rattle.gl_waiting.specs.Delivering.{Carries, DeliveryView, registry_in}
-use Rattle.gl_waiting.specs.Going.{IsRun}
+use Rattle.gl_waiting.specs.Going.{IsRunOf}
 use Rattle.gl_waiting.proofs.Delivered.{with_boxes}
 use Rattle.gl_waiting.proofs.Paths.{ended_told, later_unless, same_if, told_rises, way_runs}
 use Rattle.gl_waiting.proofs.delivery.Delivery.lock_path.Goals as goal
@@ -65,12 +65,14 @@ returns-clause-carries c =
 
 pub returns-then-accepted-before-clause-run : goal.returns-then-accepted-before-clause-run
 returns-then-accepted-before-clause-run c =
-    subst (λ (d : DeliveryView). IsRun (state_of d.manager) (state_of c.lock_path-reached.new.self.manager)) c.self.view_is
+    subst (λ (d : DeliveryView). IsRunOf (lock_of c.args.txn (c.args.node, c.args.mode)) (state_of d.manager)
+    (state_of c.lock_path-reached.new.self.manager)) c.self.view_is
     (way_runs c.args.txn (c.args.node, c.args.mode) c.self.inside.registry.manager c.lock_path-reached.new.self.manager c.lock_path-reached.new.told.items
     c.lock_path-reached.result c.lock_path-reached.ensures.untold c.lock_path-reached.ensures.path)
 
 pub returns-clause-run : goal.returns-clause-run
 returns-clause-run c =
-    subst (λ (d : DeliveryView). IsRun (state_of d.manager) (state_of c.lock_path-reached.new.self.manager)) c.self.view_is
+    subst (λ (d : DeliveryView). IsRunOf (lock_of c.args.txn (c.args.node, c.args.mode)) (state_of d.manager)
+    (state_of c.lock_path-reached.new.self.manager)) c.self.view_is
     (way_runs c.args.txn (c.args.node, c.args.mode) c.self.inside.registry.manager c.lock_path-reached.new.self.manager c.lock_path-reached.new.told.items
     c.lock_path-reached.result c.lock_path-reached.ensures.untold c.lock_path-reached.ensures.path)

@@ -1,3 +1,5 @@
+use Rattle.gl_rows.specs.Releasing.{no_node}
+use Rattle.gl_catalog.specs.Paths.{lock_of}
 use Rattle.std.proofs.Common.{ap, subst, sym, ◌∙◌}
 use Rattle.std.specs.Prelude.{Err, Result}
 use Rattle.gl_catalog.specs.Manager.{ManagerView, state_of}
@@ -9,7 +11,7 @@ use Rattle.gl_waiting.specs.RowTries.{HoldsTried, KeepsQueues}
 use Rattle.gl_waiting.specs.declared.tries.RowTried.{RowTried}
 use Rattle.gl_waiting.proofs.RowHolding.{held_holds, lock_holds, refused_holds, unreleased_same}
 use Rattle.gl_waiting.proofs.RowTrying.{back_counted, back_ended, back_queues, back_waits, held_at_once, held_enters_row, no_wait_locked, refused_same}
-use Rattle.gl_waiting.proofs.Runs.{run_then}
+use Rattle.gl_waiting.proofs.Runs.{own_then}
 use Rattle.gl_waiting.proofs.delivery.Delivery.note_row.Goals as goal
 
 pub row_tried_as-requires : goal.row_tried_as-requires
@@ -51,8 +53,8 @@ returns-then-is_released-clause-queues c =
 
 pub returns-then-is_released-clause-run : goal.returns-then-is_released-clause-run
 returns-then-is_released-clause-run c =
-    run_then (state_of c.args.self.now.manager) (state_of c.lock_row-locked.new.self.manager) (state_of c.serve_row-answer.new.self.manager)
-    c.lock_row-locked.ensures.run c.serve_row-answer.ensures.run
+    own_then (lock_of c.args.txn (no_node, c.args.mode)) (state_of c.args.self.now.manager) (state_of c.lock_row-locked.new.self.manager)
+    (state_of c.serve_row-answer.new.self.manager) c.lock_row-locked.ensures.run c.serve_row-answer.ensures.run
 
 pub returns-then-is_released-clause-ended : goal.returns-then-is_released-clause-ended
 returns-then-is_released-clause-ended c =
@@ -84,8 +86,8 @@ returns-clause-waits c =
 
 pub returns-clause-run : goal.returns-clause-run
 returns-clause-run c =
-    run_then (state_of c.args.self.now.manager) (state_of c.lock_row-locked.new.self.manager) (state_of c.serve_row-answer.new.self.manager)
-    c.lock_row-locked.ensures.run c.serve_row-answer.ensures.run
+    own_then (lock_of c.args.txn (no_node, c.args.mode)) (state_of c.args.self.now.manager) (state_of c.lock_row-locked.new.self.manager)
+    (state_of c.serve_row-answer.new.self.manager) c.lock_row-locked.ensures.run c.serve_row-answer.ensures.run
 
 pub returns-clause-ended : goal.returns-clause-ended
 returns-clause-ended c =

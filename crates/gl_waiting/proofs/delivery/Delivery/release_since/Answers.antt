@@ -1,7 +1,8 @@
-use Rattle.std.proofs.Common.{◌≤◌, subst}
+use Rattle.gl_waiting.proofs.Runs.{own_same}
+use Rattle.std.proofs.Common.{◌≤◌, subst, rules}
 use Rattle.gl_catalog.specs.Manager.{state_of}
 use Rattle.gl_waiting.specs.Delivering.{Delivered, DeliveryView, unlocking}
-use Rattle.gl_waiting.specs.Going.{IsRun}
+use Rattle.gl_waiting.specs.Going.{IsRunOf}
 use Rattle.gl_waiting.proofs.Backs.{back_counts, back_delivered, back_rises, back_runs}
 use Rattle.gl_waiting.proofs.Delivered.{with_boxes}
 use Rattle.gl_waiting.proofs.delivery.Delivery.release_since.Goals as goal
@@ -26,5 +27,9 @@ returns-clause-counted c =
 
 pub returns-clause-run : goal.returns-clause-run
 returns-clause-run c =
-    subst (λ (d : DeliveryView). IsRun (state_of d.manager) (state_of c.release_since.new.self.manager)) c.self.view_is
+    subst (λ (d : DeliveryView). IsRunOf (unlocking c.args.txn) (state_of d.manager) (state_of c.release_since.new.self.manager)) c.self.view_is
     (back_runs c.self.inside.registry c.release_since.new.self c.args.txn c.args.mark c.in-Ok.released c.release_since.new.told.items c.in-Ok.ensures)
+
+pub returns-in-Err-clause-run : goal.returns-in-Err-clause-run
+returns-in-Err-clause-run c =
+    own_same (unlocking c.args.txn) (state_of c.args.self.now.manager) (state_of c.release_since.new.self.manager) (search rules)

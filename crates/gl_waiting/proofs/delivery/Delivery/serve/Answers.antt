@@ -1,11 +1,11 @@
-use Rattle.std.proofs.Common.{subst, sym, ◌∙◌}
+use Rattle.std.proofs.Common.{subst, sym, ◌∙◌, rules}
 use Rattle.std.specs.Prelude.{Some}
 use Rattle.gl_catalog.specs.Manager.{state_of}
 use Rattle.gl_rows.specs.Serving.{ServesBy, touches_rows}
 use Rattle.gl_waiting.specs.Delivering.{Carries, DeliveryView, registry_in}
-use Rattle.gl_waiting.specs.Going.{IsRun}
+use Rattle.gl_waiting.specs.Going.{IsRunOf}
 use Rattle.gl_waiting.proofs.Delivered.{carries_not, carries_so, made, made_rises, with_boxes}
-use Rattle.gl_waiting.proofs.Runs.{run_one}
+use Rattle.gl_waiting.proofs.Runs.{own_one, own_same}
 use Rattle.gl_waiting.proofs.delivery.Delivery.serve.Goals as goal
 
 pub returns-then-not-is_accepted-clause-serves : goal.returns-then-not-is_accepted-clause-serves
@@ -45,13 +45,17 @@ returns-clause-carries c =
 pub returns-then-not-is_accepted-clause-run : goal.returns-then-not-is_accepted-clause-run
 returns-then-not-is_accepted-clause-run c =
     let h = made c.self.inside.registry c.serve.new.self c.args.command c.in-Some.answer c.serve.new.told.items c.in-Some.ensures in
-    subst (λ (d : DeliveryView). IsRun (state_of d.manager) (state_of c.serve.new.self.manager)) c.self.view_is
-    (run_one (state_of c.self.inside.registry.manager) (state_of c.serve.new.self.manager) c.args.command c.in-Some.answer c.serve.new.told.items
-    h.applies.step)
+    subst (λ (d : DeliveryView). IsRunOf c.args.command (state_of d.manager) (state_of c.serve.new.self.manager)) c.self.view_is
+    (own_one c.args.command c.args.command (state_of c.self.inside.registry.manager) (state_of c.serve.new.self.manager) c.in-Some.answer
+    c.serve.new.told.items (λ t apart. apart) h.applies.step)
 
 pub returns-clause-run : goal.returns-clause-run
 returns-clause-run c =
     let h = made c.self.inside.registry c.serve.new.self c.args.command c.in-Some.answer c.serve.new.told.items c.in-Some.ensures in
-    subst (λ (d : DeliveryView). IsRun (state_of d.manager) (state_of c.serve.new.self.manager)) c.self.view_is
-    (run_one (state_of c.self.inside.registry.manager) (state_of c.serve.new.self.manager) c.args.command c.in-Some.answer c.serve.new.told.items
-    h.applies.step)
+    subst (λ (d : DeliveryView). IsRunOf c.args.command (state_of d.manager) (state_of c.serve.new.self.manager)) c.self.view_is
+    (own_one c.args.command c.args.command (state_of c.self.inside.registry.manager) (state_of c.serve.new.self.manager) c.in-Some.answer
+    c.serve.new.told.items (λ t apart. apart) h.applies.step)
+
+pub returns-in_default-clause-run : goal.returns-in_default-clause-run
+returns-in_default-clause-run c =
+    own_same c.args.command (state_of c.args.self.now.manager) (state_of c.serve.new.self.manager) (search rules)

@@ -7,7 +7,7 @@ use Rattle.gl_catalog.specs.Manager.{ManagerView, state_of}
 use Rattle.gl_rows.specs.Applying.{AppliesCall, CarriesOut, answer_in, naming, own_command}
 use Rattle.gl_wakes.specs.Wakes.{names_slot}
 use Rattle.gl_waiting.specs.Delivering.{Carries, DeliveryView, Puts, registry_in}
-use Rattle.gl_waiting.specs.Going.{IsRun}
+use Rattle.gl_waiting.specs.Going.{IsRunOf}
 use Rattle.gl_waiting.proofs.Delivered.{with_boxes}
 use Rattle.gl_waiting.proofs.RowCalls.{comes_unless, row_none, row_rises, row_runs, row_some, stays_if}
 use Rattle.gl_waiting.proofs.delivery.Delivery.serve_row.Goals as goal
@@ -31,7 +31,8 @@ returns-then-accepted-before-clause-carries c =
 
 pub returns-then-accepted-before-clause-run : goal.returns-then-accepted-before-clause-run
 returns-then-accepted-before-clause-run c =
-    subst (λ (d : DeliveryView). IsRun (state_of d.manager) (state_of c.apply-answer.new.self.manager)) c.self.view_is
+    subst (λ (d : DeliveryView). IsRunOf (own_command (naming c.args.call d.rows c.apply-answer.new.self.rows) c.args.call) (state_of d.manager)
+    (state_of c.apply-answer.new.self.manager)) c.self.view_is
     (row_runs c.self.inside.registry c.args.call c.apply-answer.result c.apply-answer.new.told.items c.apply-answer.new.self
     c.apply-answer.ensures.applies c.apply-answer.ensures.own)
 
@@ -81,6 +82,7 @@ returns-clause-carries c =
 
 pub returns-clause-run : goal.returns-clause-run
 returns-clause-run c =
-    subst (λ (d : DeliveryView). IsRun (state_of d.manager) (state_of c.apply-answer.new.self.manager)) c.self.view_is
+    subst (λ (d : DeliveryView). IsRunOf (own_command (naming c.args.call d.rows c.apply-answer.new.self.rows) c.args.call) (state_of d.manager)
+    (state_of c.apply-answer.new.self.manager)) c.self.view_is
     (row_runs c.self.inside.registry c.args.call c.apply-answer.result c.apply-answer.new.told.items c.apply-answer.new.self
     c.apply-answer.ensures.applies c.apply-answer.ensures.own)

@@ -9,8 +9,8 @@ use Rattle.gl_catalog.specs.Paths.{Ask}
 use Rattle.gl_rows.specs.Releasing.{GoesBackTo}
 use Rattle.gl_wakes.specs.Wakes.{HasEnded}
 use Rattle.gl_waiting.specs.Delivering.{ComesToNothing, Delivered, DeliveryView, unlocking}
-use Rattle.gl_waiting.specs.Tries.{IsTried, gives_back, lock_count}
-use Rattle.gl_waiting.proofs.Runs.{run_then}
+use Rattle.gl_waiting.specs.Tries.{IsTried, gives_back, lock_count, try_of}
+use Rattle.gl_waiting.proofs.Runs.{own_as, own_then}
 use Rattle.gl_waiting.proofs.TriedPaths.{decided, mark_is, none_held, path_ended, path_held, path_low, path_runs, rolled, rolled_ended, stays}
 use Rattle.gl_waiting.proofs.delivery.Delivery.try_path.Goals.{then-after-before-via-else-after-before+then-not-gives_back}
 use Rattle.gl_waiting.proofs.delivery.Delivery.try_path.Goals.{then-after-before-via-then-after-before}
@@ -138,9 +138,12 @@ returns-clause-tests c = λ r found.
 
 pub returns-clause-run : goal.returns-clause-run
 returns-clause-run c =
-    run_then (state_of c.args.self.now.manager) (state_of c.try_up-tried.new.self.manager) (state_of c.release_since-released.new.self.manager)
+    own_then (try_of c.args.txn (c.args.node, c.args.mode)) (state_of c.args.self.now.manager) (state_of c.try_up-tried.new.self.manager)
+    (state_of c.release_since-released.new.self.manager)
     (path_runs c.args.keep c.args.txn (c.args.node, c.args.mode) c.args.self.now c.try_up-tried.result c.try_up-tried.new.self.manager
-    c.try_up-tried.ensures.path) c.release_since-released.ensures.run
+    c.try_up-tried.ensures.path)
+    (own_as (unlocking c.args.txn) (try_of c.args.txn (c.args.node, c.args.mode)) (state_of c.try_up-tried.new.self.manager)
+    (state_of c.release_since-released.new.self.manager) (λ u apart. apart) c.release_since-released.ensures.run)
 
 pub returns-clause-ended : goal.returns-clause-ended
 returns-clause-ended c = no_wait c

@@ -1,8 +1,9 @@
-use Rattle.std.proofs.Common.{◌≡◌, [], ap, false, subst, sym, ◌∙◌, Bool}
+use Rattle.gl_rows.specs.Releasing.{no_node}
+use Rattle.std.proofs.Common.{◌≡◌, [], ap, false, subst, sym, ◌∙◌, Bool, rules}
 use Rattle.std.specs.Prelude.{Err, Ok, Option}
 use Rattle.gl_modes.specs.declared.node.NodeId.{NodeId}
 use Rattle.gl_catalog.specs.Manager.{ManagerView, state_of}
-use Rattle.gl_catalog.specs.Paths.{Ask}
+use Rattle.gl_catalog.specs.Paths.{Ask, lock_of}
 use Rattle.gl_model.specs.declared.txn.TxnId.{TxnId}
 use Rattle.gl_rows.specs.Locking.{Wish}
 use Rattle.gl_waiting.specs.Delivering.{DeliveryView}
@@ -12,7 +13,7 @@ use Rattle.gl_waiting.specs.Tries.{try_of}
 use Rattle.gl_waiting.proofs.RowHolding.{holds_least, lock_holds, refused_at_holds}
 use Rattle.gl_waiting.proofs.RowTrying.{free_at_once, free_enters, no_wait_locked, no_wait_then, no_wait_tried, then_counted, then_ended, then_low, then_queues}
 use Rattle.gl_waiting.proofs.RowTrying.{tried_blocks, tried_holds, was_unheld}
-use Rattle.gl_waiting.proofs.Runs.{run_one, run_then}
+use Rattle.gl_waiting.proofs.Runs.{own_one, own_same, own_then}
 use Rattle.gl_waiting.proofs.TriedPaths.{took_is, took_least}
 use Rattle.gl_waiting.proofs.delivery.Delivery.try_row.Goals as goal
 
@@ -65,8 +66,9 @@ pub returns-in-Ok-clause-run : goal.returns-in-Ok-clause-run
 returns-in-Ok-clause-run c =
     let s = state_of c.args.self.now.manager in
     let mid = state_of c.try_at.new.self.manager in
-    run_then s mid (state_of c.note_row.new.self.manager) (run_one s mid (try_of c.args.txn (c.in-Some.node, c.args.mode)) _ _ c.in-Ok.ensures.step)
-    c.note_row.ensures.run
+    let own = lock_of c.args.txn (no_node, c.args.mode) in
+    own_then own s mid (state_of c.note_row.new.self.manager)
+    (own_one own (try_of c.args.txn (c.in-Some.node, c.args.mode)) s mid _ _ (λ u apart. apart) c.in-Ok.ensures.step) c.note_row.ensures.run
 
 pub returns-in-Ok-clause-ended : goal.returns-in-Ok-clause-ended
 returns-in-Ok-clause-ended c =
@@ -120,3 +122,7 @@ pub returns-in-Err-clause-holds : goal.returns-in-Err-clause-holds
 returns-in-Err-clause-holds c =
     subst (λ (x : RowTried). HoldsTried c.args.txn c.args.mode x (state_of c.try_at.new.self.manager)) (sym c.refused_at.ensures)
     (refused_at_holds c.args.txn c.args.mode c.in-Some.node c.in-Err.refusal (state_of c.try_at.new.self.manager))
+
+pub returns-in-Err-clause-run : goal.returns-in-Err-clause-run
+returns-in-Err-clause-run c =
+    own_same (lock_of c.args.txn (no_node, c.args.mode)) (state_of c.args.self.now.manager) (state_of c.try_at.new.self.manager) (search rules)

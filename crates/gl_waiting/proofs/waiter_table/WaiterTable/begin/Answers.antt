@@ -1,3 +1,4 @@
+use Rattle.gl_waiting.specs.Going.{IsRunOf}
 use Rattle.std.proofs.Common.{◌≡◌, refl, subst, sym, ap, ◌∙◌}
 use Rattle.std.specs.Prelude.{Some, Err}
 use Rattle.gl_slots.specs.Slots.{has_slot}
@@ -42,7 +43,8 @@ returns-in-Ok c =
                 c.serve-answer.result.0 (answer.Begun c.in-Ok.txn) c.serve-answer.new.told.items c.begin_command.ensures answered served.serves;
             delivers = subst (λ (x : Command). Carries c.self.inside.delivery x c.serve-answer.new.told.items c.serve-answer.result.1 c.serve-answer.new.self)
                 c.begin_command.ensures served.carries;
-            run = served.run;
+            run = subst (λ (x : Command). IsRunOf x (state_of c.self.inside.delivery.manager) (state_of c.serve-answer.new.self.manager))
+                c.begin_command.ensures served.run;
             beside = (refl, refl, refl);
             nothing = nothing_counted c.self.inside.delivery c.serve-answer.new.self c.serve-answer.result.1 c.self.inside.places c.self.inside.begins
                 (carries_or_not c.self.inside.delivery c.serve-answer.new.self c.begin_command.result c.serve-answer.new.told.items c.serve-answer.result.1

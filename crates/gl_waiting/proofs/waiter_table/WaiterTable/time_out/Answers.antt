@@ -1,3 +1,4 @@
+use Rattle.gl_waiting.proofs.Runs.{own_same}
 use Rattle.std.proofs.Common.{◌≡◌, ◌<◌, List, refl, subst, sym, ap, ◌∙◌}
 use Rattle.std.specs.Prelude.{Bool, Option, Some, None, [], Result, Ok, Err, true}
 use Rattle.gl_modes.specs.declared.node.NodeId.{NodeId}
@@ -99,4 +100,15 @@ returns c =
         begun = refl;
       };
       without = λ none. absurd (none c.in-Some.waiter c.in-Some.ensures.some);
+    })
+
+-- it has no waiter
+
+pub returns-in_default : goal.returns-in_default
+returns-in_default c =
+    subst (λ (v : WaitingView). TimesOut v c.args.txn None c.args.told.now.items c.empty.result v) c.self.view_is
+    (record {
+      run = own_same (command.Cancel c.args.txn) (state_of c.self.inside.delivery.manager) (state_of c.self.inside.delivery.manager) refl;
+      waiter = λ w has. absurd (c.in_default.ensures.none w has);
+      without = λ none. (refl, c.requires.empty, c.empty.ensures.none, refl);
     })

@@ -1,3 +1,6 @@
+use Rattle.gl_steps.specs.declared.command.Command.TheVariants as command
+use Rattle.gl_modes.proofs.Words.{no}
+use Rattle.gl_catalog.specs.Manager.{state_of}
 use Rattle.std.specs.Prelude.{[], Bool, false, Option}
 use Rattle.gl_slots.specs.declared.slots.Slots.{Slots}
 use Rattle.std.proofs.Common.{◌≡◌, ap, refl, subst, sym, ◌∙◌}
@@ -12,7 +15,7 @@ use Rattle.gl_c.specs.managers.Guarded.{GuardedView, with_waiting}
 use Rattle.gl_c.specs.managers.Serving.{known_after}
 use Rattle.gl_c.specs.managers.Showing.{parties_in, shown_in}
 use Rattle.gl_c.specs.managers.Sound.{view_of}
-use Rattle.gl_c.proofs.serving.Serving.{counted_as, leaves_counted, leaves_idle, sound_counted, sound_idle}
+use Rattle.gl_c.proofs.serving.Serving.{counted_as, idle_rouses, leaves_counted, leaves_idle, some_rouses, sound_counted, sound_idle}
 use Rattle.gl_c.proofs.serving.Turns.{turn_is_run, turn_knows}
 use Rattle.gl_c.proofs.managers.guarded.Guarded.begin_in_turn.Goals as goal
 
@@ -25,16 +28,18 @@ same c =
 pub invariant_of-self : goal.invariant_of-self
 invariant_of-self c =
     sound_idle c.self.inside c.begin_in_turn-turn.new.self
-    (turn_is_run c.self.inside.waiting c.args.begin c.begin_in_turn-turn.result.0 c.begin_in_turn-turn.result.1 c.begin_in_turn-turn.new.self
-    c.begin_in_turn-turn.ensures) c.self.invariant (same c)
+    (turn_is_run command.Begin c.self.inside.waiting c.args.begin c.begin_in_turn-turn.result.0 c.begin_in_turn-turn.result.1 c.begin_in_turn-turn.new.self
+    c.begin_in_turn-turn.ensures).0 c.self.invariant (same c)
 
 pub returns-then-accepted-before : goal.returns-then-accepted-before
 returns-then-accepted-before c =
     subst (λ (g : GuardedView). Performs g (turn_call c.args.begin) c.begin_in_turn-turn.result.0 []
     (with_waiting (view_of c.self.inside) c.begin_in_turn-turn.new.self)) c.self.view_is
     (leaves_idle c.self.inside c.begin_in_turn-turn.new.self
-    (turn_is_run c.self.inside.waiting c.args.begin c.begin_in_turn-turn.result.0 c.begin_in_turn-turn.result.1 c.begin_in_turn-turn.new.self
-    c.begin_in_turn-turn.ensures) c.self.invariant (same c) _ (spared_by (begin_of c.args.begin.since) (turn_said c.begin_in_turn-turn.result.0) [])
+    (turn_is_run command.Begin c.self.inside.waiting c.args.begin c.begin_in_turn-turn.result.0 c.begin_in_turn-turn.result.1 c.begin_in_turn-turn.new.self
+    c.begin_in_turn-turn.ensures).0 c.self.invariant (same c) _ _ c.self.inside.resting.resting refl
+    (idle_rouses _ c.self.inside.waiting c.begin_in_turn-turn.new.self c.self.inside.resting.resting (same c)) (spared_by (begin_of c.args.begin.since)
+    (turn_said c.begin_in_turn-turn.result.0) [])
     (record { ended = c.begin_in_turn-turn.result.1; went_on = false }) (c.begin_in_turn-turn.ensures, refl))
 
 -- some were
@@ -50,8 +55,12 @@ noted known went_on parties b came own said is named answered =
 pub invariant_of-self-2 : goal.invariant_of-self-2
 invariant_of-self-2 c =
     sound_counted c.self.inside c.begin_in_turn-turn.new.self
-    (turn_is_run c.self.inside.waiting c.args.begin c.begin_in_turn-turn.result.0 c.begin_in_turn-turn.result.1 c.begin_in_turn-turn.new.self
-    c.begin_in_turn-turn.ensures) c.self.invariant false
+    (turn_is_run command.Begin c.self.inside.waiting c.args.begin c.begin_in_turn-turn.result.0 c.begin_in_turn-turn.result.1 c.begin_in_turn-turn.new.self
+    c.begin_in_turn-turn.ensures).0 c.self.invariant c.rouse.new.self
+    (c.rouse.ensures.keeps (state_of c.self.inside.waiting.manager) command.Begin c.law.ensures.manager.lawful
+    (turn_is_run command.Begin c.self.inside.waiting c.args.begin c.begin_in_turn-turn.result.0 c.begin_in_turn-turn.result.1 c.begin_in_turn-turn.new.self
+    c.begin_in_turn-turn.ensures)
+    (λ u e. absurd (no e)) c.self.invariant.rests) false
     (spared_by (begin_of c.args.begin.since) (turn_said c.begin_in_turn-turn.result.0) []) c.keep.new.showing c.keep.ensures.shown
     (noted (parties_in c.keep.new.showing) false (parties_in c.self.inside.showing) c.args.begin
     c.begin_in_turn-turn.result.0 c.begin_command-command.result c.said.result c.keep.ensures.parties c.begin_command-command.ensures c.said.ensures)
@@ -65,12 +74,18 @@ pub returns : goal.returns
 returns c =
     subst (λ (g : GuardedView). Performs g (turn_call c.args.begin) c.begin_in_turn-turn.result.0 [] c.show_if_due.new.self) c.self.view_is
     (leaves_counted c.self.inside c.begin_in_turn-turn.new.self
-    (turn_is_run c.self.inside.waiting c.args.begin c.begin_in_turn-turn.result.0 c.begin_in_turn-turn.result.1 c.begin_in_turn-turn.new.self
-    c.begin_in_turn-turn.ensures) c.self.invariant false
+    (turn_is_run command.Begin c.self.inside.waiting c.args.begin c.begin_in_turn-turn.result.0 c.begin_in_turn-turn.result.1 c.begin_in_turn-turn.new.self
+    c.begin_in_turn-turn.ensures).0 c.self.invariant c.rouse.new.self
+    (c.rouse.ensures.keeps (state_of c.self.inside.waiting.manager) command.Begin c.law.ensures.manager.lawful
+    (turn_is_run command.Begin c.self.inside.waiting c.args.begin c.begin_in_turn-turn.result.0 c.begin_in_turn-turn.result.1 c.begin_in_turn-turn.new.self
+    c.begin_in_turn-turn.ensures)
+    (λ u e. absurd (no e)) c.self.invariant.rests) false
     (spared_by (begin_of c.args.begin.since) (turn_said c.begin_in_turn-turn.result.0) []) c.keep.new.showing c.keep.ensures.shown
     (noted (parties_in c.keep.new.showing) false (parties_in c.self.inside.showing) c.args.begin
     c.begin_in_turn-turn.result.0 c.begin_command-command.result c.said.result c.keep.ensures.parties c.begin_command-command.ensures c.said.ensures) _
-    (record { ended = c.begin_in_turn-turn.result.1; went_on = false }) c.show_if_due.new.self refl (c.begin_in_turn-turn.ensures, refl)
+    (record { ended = c.begin_in_turn-turn.result.1; went_on = false }) c.show_if_due.new.self refl _
+    (λ more. some_rouses _ c.self.inside.waiting c.begin_in_turn-turn.new.self c.self.inside.resting.resting c.rouse.new.self.resting c.rouse.ensures.rest
+    more) (c.begin_in_turn-turn.ensures, refl)
     (λ is. c.if-accepted-before.false (counted_as _ _ _ c.accepted.ensures c.manager-2.ensures ∙ is
     ∙ sym (counted_as _ _ _ c.accepted-before.ensures c.manager.ensures))) c.show_if_due.ensures.kept c.show_if_due.ensures.shown
     c.show_if_due.ensures.known)

@@ -1,3 +1,7 @@
+use Rattle.std.specs.Prelude.{ℕ, Option}
+use Rattle.gl_waiting.specs.Resting.{ActsIn, RestOn}
+use Rattle.gl_waiting.proofs.Rests.{acting_acts}
+use Rattle.gl_catalog.specs.Manager.{state_of}
 use Rattle.std.proofs.Common.{◌≡◌, ap, refl, subst, sym, ◌∙◌}
 use Rattle.gl_model.specs.Tellings.{Told}
 use Rattle.gl_c.specs.managers.Carries.{Performs}
@@ -5,7 +9,7 @@ use Rattle.gl_c.specs.managers.Guarded.{GuardedView, with_waiting}
 use Rattle.gl_c.specs.managers.Serving.{known_after}
 use Rattle.gl_c.specs.managers.Showing.{parties_in, shown_in}
 use Rattle.gl_c.specs.managers.Sound.{view_of}
-use Rattle.gl_c.proofs.serving.Serving.{counted_as, leaves_counted, leaves_idle, sound_counted, sound_idle}
+use Rattle.gl_c.proofs.serving.Serving.{counted_as, idle_rouses, leaves_counted, leaves_idle, some_rouses, sound_counted, sound_idle}
 use Rattle.gl_c.proofs.serving.Known.{command_known}
 use Rattle.gl_waiting.proofs.TurnRuns.{turn_alone, turn_run}
 use Rattle.gl_c.specs.managers.Carries.{spared_by}
@@ -21,23 +25,31 @@ same c =
 pub invariant_of-self : goal.invariant_of-self
 invariant_of-self c =
     sound_idle c.self.inside c.serve-answer.new.self (turn_run c.self.inside.waiting _ c.serve-answer.result.1 c.serve-answer.new.self c.serve-answer.ensures
-    (λ own mid h. h.run)) c.self.invariant (same c)
+    c.args.command
+    (λ own mid h. h.run)).0 c.self.invariant (same c)
 
 pub returns-then-accepted-before : goal.returns-then-accepted-before
 returns-then-accepted-before c =
     subst (λ (g : GuardedView). Performs g (command_call c.args.command) c.serve-answer.result.0 c.serve-answer.new.told.items (with_waiting
     (view_of c.self.inside) c.serve-answer.new.self)) c.self.view_is
-    (leaves_idle c.self.inside c.serve-answer.new.self (turn_run c.self.inside.waiting _ c.serve-answer.result.1 c.serve-answer.new.self c.serve-answer.ensures
-    (λ own mid h. h.run)) c.self.invariant
-    (same c) _ (spared_by c.args.command c.serve-answer.result.0 c.serve-answer.new.told.items) c.serve-answer.result.1
+    (leaves_idle c.self.inside c.serve-answer.new.self (turn_run c.self.inside.waiting _ c.serve-answer.result.1 c.serve-answer.new.self
+    c.serve-answer.ensures c.args.command
+    (λ own mid h. h.run)).0 c.self.invariant
+    (same c) _ _ c.self.inside.resting.resting refl
+    (idle_rouses _ c.self.inside.waiting c.serve-answer.new.self c.self.inside.resting.resting (same c))
+    (spared_by c.args.command c.serve-answer.result.0 c.serve-answer.new.told.items) c.serve-answer.result.1
     c.serve-answer.ensures)
 
 -- some were
 
 pub invariant_of-self-2 : goal.invariant_of-self-2
 invariant_of-self-2 c =
-    sound_counted c.self.inside c.serve-answer.new.self (turn_run c.self.inside.waiting _ c.serve-answer.result.1 c.serve-answer.new.self c.serve-answer.ensures
-    (λ own mid h. h.run)) c.self.invariant
+    sound_counted c.self.inside c.serve-answer.new.self (turn_run c.self.inside.waiting _ c.serve-answer.result.1 c.serve-answer.new.self
+    c.serve-answer.ensures c.args.command
+    (λ own mid h. h.run)).0 c.self.invariant c.rouse.new.self
+    (c.rouse.ensures.keeps (state_of c.self.inside.waiting.manager) c.args.command c.law.ensures.manager.lawful
+    (turn_run c.self.inside.waiting _ c.serve-answer.result.1 c.serve-answer.new.self c.serve-answer.ensures c.args.command (λ own mid h. h.run))
+    (subst (λ (o : Option ℕ). ActsIn o c.args.command) (sym c.acting_slot.ensures) (acting_acts c.args.command)) c.self.invariant.rests)
     c.serve-answer.result.1.went_on
     (spared_by c.args.command c.serve-answer.result.0 c.serve-answer.new.told.items) c.keep.new.showing c.keep.ensures.shown (c.keep.ensures.parties ∙ ap
     (λ (l : Told). known_after c.serve-answer.result.1.went_on (parties_in c.self.inside.showing)
@@ -52,12 +64,17 @@ returns c =
     subst (λ (g : GuardedView). Performs g
     (command_call c.args.command) c.serve-answer.result.0 c.serve-answer.new.told.items c.show_if_due.new.self) c.self.view_is
     (leaves_counted c.self.inside c.serve-answer.new.self
-    (turn_run c.self.inside.waiting _ c.serve-answer.result.1 c.serve-answer.new.self c.serve-answer.ensures
-    (λ own mid h. h.run)) c.self.invariant
+    (turn_run c.self.inside.waiting _ c.serve-answer.result.1 c.serve-answer.new.self c.serve-answer.ensures c.args.command
+    (λ own mid h. h.run)).0 c.self.invariant c.rouse.new.self
+    (c.rouse.ensures.keeps (state_of c.self.inside.waiting.manager) c.args.command c.law.ensures.manager.lawful
+    (turn_run c.self.inside.waiting _ c.serve-answer.result.1 c.serve-answer.new.self c.serve-answer.ensures c.args.command (λ own mid h. h.run))
+    (subst (λ (o : Option ℕ). ActsIn o c.args.command) (sym c.acting_slot.ensures) (acting_acts c.args.command)) c.self.invariant.rests)
     c.serve-answer.result.1.went_on
     (spared_by c.args.command c.serve-answer.result.0 c.serve-answer.new.told.items) c.keep.new.showing c.keep.ensures.shown (c.keep.ensures.parties ∙ ap
     (λ (l : Told). known_after c.serve-answer.result.1.went_on (parties_in c.self.inside.showing)
-    (spared_by c.args.command c.serve-answer.result.0 l)) c.as_slice.ensures.value) _ c.serve-answer.result.1 c.show_if_due.new.self refl
+    (spared_by c.args.command c.serve-answer.result.0 l)) c.as_slice.ensures.value) _ c.serve-answer.result.1 c.show_if_due.new.self refl _
+    (λ more. some_rouses _ c.self.inside.waiting c.serve-answer.new.self c.self.inside.resting.resting c.rouse.new.self.resting (subst (λ
+    (o : Option ℕ). RestOn o c.self.inside.resting.resting c.rouse.new.self.resting) c.acting_slot.ensures c.rouse.ensures.rest) more)
     c.serve-answer.ensures (λ is. c.if-accepted-before.false (counted_as _ _ _ c.accepted.ensures c.manager-2.ensures ∙ is
     ∙ sym (counted_as _ _ _ c.accepted-before.ensures c.manager.ensures)))
     c.show_if_due.ensures.kept c.show_if_due.ensures.shown c.show_if_due.ensures.known)

@@ -1,9 +1,12 @@
+use Rattle.gl_waiting.specs.Tries.{try_of}
+use Rattle.gl_waiting.proofs.Rests.{same_slot}
+use Rattle.gl_catalog.specs.Manager.{state_of}
 use Rattle.std.proofs.Common.{◌≡◌, refl, subst, sym, ◌∙◌}
 use Rattle.gl_c.specs.managers.Carries.{Performs}
 use Rattle.gl_c.specs.managers.Guarded.{GuardedView, with_waiting}
 use Rattle.gl_c.specs.managers.Showing.{parties_in, shown_in}
 use Rattle.gl_c.specs.managers.Sound.{view_of}
-use Rattle.gl_c.proofs.serving.Serving.{counted_as, leaves_counted, leaves_idle, sound_counted, sound_idle}
+use Rattle.gl_c.proofs.serving.Serving.{counted_as, idle_rouses, leaves_counted, leaves_idle, some_rouses, sound_counted, sound_idle}
 use Rattle.gl_c.proofs.serving.Known.{tried_knows}
 use Rattle.gl_waiting.proofs.TurnRuns.{turn_alone, turn_run}
 use Rattle.gl_slots.specs.Slots.{has_none}
@@ -19,8 +22,9 @@ same c =
 pub invariant_of-self : goal.invariant_of-self
 invariant_of-self c =
     sound_idle c.self.inside c.try_path-tried.new.self
-    (turn_run c.self.inside.waiting _ c.try_path-tried.result.1 c.try_path-tried.new.self c.try_path-tried.ensures
-    (λ own mid h. h.run)) c.self.invariant (same c)
+    (turn_run c.self.inside.waiting _ c.try_path-tried.result.1 c.try_path-tried.new.self c.try_path-tried.ensures (try_of c.args.txn
+    (c.args.node, c.args.mode))
+    (λ own mid h. h.run)).0 c.self.invariant (same c)
 
 pub returns-then-accepted-before : goal.returns-then-accepted-before
 returns-then-accepted-before c =
@@ -28,8 +32,10 @@ returns-then-accepted-before c =
     (c.args.node, c.args.mode)) c.try_path-tried.result.0 c.try_path-tried.new.told.items (with_waiting
     (view_of c.self.inside) c.try_path-tried.new.self)) c.self.view_is
     (leaves_idle c.self.inside c.try_path-tried.new.self
-    (turn_run c.self.inside.waiting _ c.try_path-tried.result.1 c.try_path-tried.new.self c.try_path-tried.ensures
-    (λ own mid h. h.run)) c.self.invariant (same c) _
+    (turn_run c.self.inside.waiting _ c.try_path-tried.result.1 c.try_path-tried.new.self c.try_path-tried.ensures (try_of c.args.txn
+    (c.args.node, c.args.mode))
+    (λ own mid h. h.run)).0 c.self.invariant (same c) _ _ c.self.inside.resting.resting refl
+    (idle_rouses _ c.self.inside.waiting c.try_path-tried.new.self c.self.inside.resting.resting (same c))
     (has_none) c.try_path-tried.result.1
     c.try_path-tried.ensures)
 
@@ -38,8 +44,13 @@ returns-then-accepted-before c =
 pub invariant_of-self-2 : goal.invariant_of-self-2
 invariant_of-self-2 c =
     sound_counted c.self.inside c.try_path-tried.new.self
-    (turn_run c.self.inside.waiting _ c.try_path-tried.result.1 c.try_path-tried.new.self c.try_path-tried.ensures
-    (λ own mid h. h.run)) c.self.invariant
+    (turn_run c.self.inside.waiting _ c.try_path-tried.result.1 c.try_path-tried.new.self c.try_path-tried.ensures (try_of c.args.txn
+    (c.args.node, c.args.mode))
+    (λ own mid h. h.run)).0 c.self.invariant c.rouse.new.self
+    (c.rouse.ensures.keeps (state_of c.self.inside.waiting.manager) (try_of c.args.txn (c.args.node, c.args.mode)) c.law.ensures.manager.lawful
+    (turn_run c.self.inside.waiting _ c.try_path-tried.result.1 c.try_path-tried.new.self c.try_path-tried.ensures (try_of c.args.txn
+    (c.args.node, c.args.mode)) (λ own mid h. h.run))
+    (λ u e. same_slot u c.args.txn e) c.self.invariant.rests)
     c.try_path-tried.result.1.went_on
     (has_none) c.keep_nobody.new.showing c.keep_nobody.ensures.shown (c.keep_nobody.ensures.parties) c.try_path-tried.result.1.ended
     (λ quiet. tried_knows c.self.inside.waiting (shown_in c.self.inside.showing)
@@ -52,10 +63,16 @@ returns c =
     subst (λ (g : GuardedView). Performs g (tried_path_call c.args.keep c.args.txn
     (c.args.node, c.args.mode)) c.try_path-tried.result.0 c.try_path-tried.new.told.items c.show_if_due.new.self) c.self.view_is
     (leaves_counted c.self.inside c.try_path-tried.new.self
-    (turn_run c.self.inside.waiting _ c.try_path-tried.result.1 c.try_path-tried.new.self c.try_path-tried.ensures
-    (λ own mid h. h.run)) c.self.invariant
+    (turn_run c.self.inside.waiting _ c.try_path-tried.result.1 c.try_path-tried.new.self c.try_path-tried.ensures (try_of c.args.txn
+    (c.args.node, c.args.mode))
+    (λ own mid h. h.run)).0 c.self.invariant c.rouse.new.self
+    (c.rouse.ensures.keeps (state_of c.self.inside.waiting.manager) (try_of c.args.txn (c.args.node, c.args.mode)) c.law.ensures.manager.lawful
+    (turn_run c.self.inside.waiting _ c.try_path-tried.result.1 c.try_path-tried.new.self c.try_path-tried.ensures (try_of c.args.txn
+    (c.args.node, c.args.mode)) (λ own mid h. h.run))
+    (λ u e. same_slot u c.args.txn e) c.self.invariant.rests)
     c.try_path-tried.result.1.went_on
-    (has_none) c.keep_nobody.new.showing c.keep_nobody.ensures.shown (c.keep_nobody.ensures.parties) _ c.try_path-tried.result.1 c.show_if_due.new.self refl
+    (has_none) c.keep_nobody.new.showing c.keep_nobody.ensures.shown (c.keep_nobody.ensures.parties) _ c.try_path-tried.result.1 c.show_if_due.new.self refl _
+    (λ more. some_rouses _ c.self.inside.waiting c.try_path-tried.new.self c.self.inside.resting.resting c.rouse.new.self.resting c.rouse.ensures.rest more)
     c.try_path-tried.ensures (λ is. c.if-accepted-before.false (counted_as _ _ _ c.accepted.ensures c.manager-2.ensures ∙ is
     ∙ sym (counted_as _ _ _ c.accepted-before.ensures c.manager.ensures)))
     c.show_if_due.ensures.kept c.show_if_due.ensures.shown c.show_if_due.ensures.known)

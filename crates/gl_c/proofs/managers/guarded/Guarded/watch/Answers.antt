@@ -30,12 +30,13 @@ invariant_of-self c = record {
       c.watch.ensures.detect;
   known = subst (λ (o : Option Slots). KnowsWaits (state_of c.self.inside.waiting.manager) (shown_in c.watch.new.showing) o)
       (sym c.watch.ensures.unknown) tt;
+  rests = c.self.invariant.rests;
 }
 
 pub returns-clause-kept : goal.returns-clause-kept
 returns-clause-kept c =
     subst (λ (v : GuardedView). OnlyShows v (view_of (record c.self.inside { showing = c.watch.new.showing }))) c.self.view_is
-    (record { waiting = refl; ended = refl; shown = c.watch.ensures.goes_on })
+    (record { waiting = refl; resting = refl; ended = refl; shown = c.watch.ensures.goes_on })
 
 pub returns-clause-watcher : goal.returns-clause-watcher
 returns-clause-watcher c =

@@ -1,0 +1,64 @@
+-- Calls about those who rest: who begins to, who is ended, and who works again.
+use Rattle.std.specs.Prelude.{◌≡◌, ◌&&◌, ℕ, Bool, false, Option, Some, None, Result}
+use Rattle.gl_modes.specs.declared.refusal.Refusal.{Refusal}
+use Rattle.gl_slots.specs.Slots.{has_bit, has_none, has_slot}
+use Rattle.gl_model.specs.State.{lives}
+use Rattle.gl_model.specs.declared.txn.TxnId.{TxnId}
+use Rattle.gl_catalog.specs.Manager.{state_of}
+use Rattle.gl_rows.specs.declared.answer.RowAnswer.{RowAnswer}
+use Rattle.gl_waiting.specs.Asking.{InTurn, KeepsLocks}
+use Rattle.gl_waiting.specs.Resting.{ChoosesSome, EndsSome, LetsRest, RestOn, slot_if}
+use Rattle.gl_waiting.specs.declared.resting.Whom.{Whom}
+use Rattle.gl_c.specs.declared.answers.found.Found.{Found}
+use Rattle.gl_c.specs.declared.answers.reply.Reply.{Reply}
+use Rattle.gl_c.specs.answers.Finding.{none_found}
+use Rattle.gl_c.specs.answers.Replies.{status_reply}
+use Rattle.gl_c.specs.Boards.{set_of}
+use Rattle.gl_c.specs.Names.{txn_of}
+use Rattle.gl_c.specs.Numbers.{done, no_manager, no_place}
+use Rattle.gl_c.specs.locks.Rows.{call_reply}
+use Rattle.gl_c.specs.locks.Savepoints.{keeping_reply}
+use Rattle.gl_c.specs.locks.Turns.{found_reply}
+use Rattle.gl_c.specs.managers.Carries.{CallOf, Declines}
+use Rattle.gl_c.specs.managers.Guarded.{GuardedView}
+
+-- the call by which a transaction commits, and another begins in its slot that keeps its first locks, and rests
+abbrev pub resting_call : TxnId → ℕ → ℕ → CallOf (Result (Option TxnId) Refusal)
+resting_call t keep since = record {
+  does = λ v result told off v'. InTurn v (λ ended mid. KeepsLocks v t keep since result told ended mid) off v';
+  spares = λ result told known. has_none known;
+  says = keeping_reply;
+  rests = λ v result v' r r'. LetsRest t.slot result v v' r r';
+}
+
+-- the reply for one who rested and was to be ended: its name, and what its commit was answered
+abbrev pub ended_reply : Option (TxnId × RowAnswer) → Reply
+ended_reply (Some x) = record (call_reply x.1) { txn = txn_of x.0 }
+ended_reply None = status_reply no_place
+
+-- the call that ends one who rests
+abbrev pub end_call : Whom → CallOf (Option (TxnId × RowAnswer))
+end_call w = record {
+  does = λ v o told off v'. EndsSome v o told off v';
+  spares = λ o told known. false;
+  says = ended_reply;
+  rests = ChoosesSome w;
+}
+
+-- a transaction works again, if it rested
+pub record WakesThere (g : GuardedView) (t : TxnId) (r : Reply) (g' : GuardedView) : Type 0 where
+  pub found : Bool
+  pub woken : found ≡ (has_slot g.resting t.slot && lives (state_of g.manager) t)
+  pub rest : g' ≡ record g { resting = g'.resting }
+  pub rests : RestOn (slot_if found t.slot) g.resting g'.resting
+  pub replied : r ≡ found_reply found
+
+-- the same, if there is a manager
+abbrev pub WakesIn : Option GuardedView → TxnId → Reply → Option GuardedView → Type 0
+WakesIn None t r s' = Declines None no_manager r s'
+WakesIn (Some g) t r s' = (g' : GuardedView) × (s' ≡ Some g') × WakesThere g t r g'
+
+-- a call that asks who rests: nothing changes
+abbrev pub FindsResting : Option GuardedView → Found → Option GuardedView → Type 0
+FindsResting None f s' = (f ≡ none_found no_manager) × (s' ≡ None)
+FindsResting (Some g) f s' = (f.status ≡ done) × ((u : ℕ) → has_bit (set_of f.slots) u ≡ has_slot g.resting u) × (s' ≡ Some g)

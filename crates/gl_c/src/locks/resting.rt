@@ -1,0 +1,87 @@
+//! Exports about those who rest: active transactions that have done nothing, and hold intentions for the next
+//! transaction of their session. After a call that left a request waiting the caller ends those who are in its
+//! way by `bs_call_clear_way`, until none is, before it releases its latch.
+
+ghost use Rattle.std.specs.Prelude.{[]};
+ghost use Rattle.gl_waiting.specs.declared.resting.Whom.TheVariants as whom;
+ghost use Rattle.gl_c.specs.answers.Notices.{Tells};
+ghost use Rattle.gl_c.specs.Numbers.{bad_number, mode_at};
+ghost use Rattle.gl_c.specs.locks.Resting.{FindsResting, WakesIn, end_call, resting_call};
+ghost use Rattle.gl_c.specs.managers.Carries.{Carries, Declines, Where};
+ghost use Rattle.gl_c.specs.managers.Handle.{guarded_in};
+ghost use Rattle.gl_c.specs.Names.{node_id, txn_id};
+
+use crate::answers::found::Found;
+use crate::answers::notices::Notices;
+use crate::answers::reply::Reply;
+use crate::managers::handle::Handle;
+use crate::names::{Node, Txn};
+use crate::numbers::{BAD_NUMBER, mode_at};
+use gl_waiting::Whom;
+
+/// As `bs_call_commit_keeping`; the transaction that begins rests.
+#[unsafe(no_mangle)]
+pub extern "C" fn bs_call_commit_and_rest(
+    manager: &mut Handle,
+    txn: Txn,
+    keep: usize,
+    since: u64,
+    told: &mut Notices,
+) -> Reply
+    ensures { Carries (guarded_in manager.old) (resting_call (txn_id txn) keep since) result told.new (guarded_in manager.new) }
+{
+    manager.commit_and_rest(txn.id(), keep, since, told)
+}
+
+/// Ends one who rests and for whom somebody waits. The reply has its name. `BS_NO_PLACE` if nobody waits for
+/// one who rests.
+#[unsafe(no_mangle)]
+pub extern "C" fn bs_call_clear_way(manager: &mut Handle, told: &mut Notices) -> Reply
+    ensures { Carries (guarded_in manager.old) (end_call whom.InTheWay) result told.new (guarded_in manager.new) }
+{
+    manager.end_resting(Whom::InTheWay, told)
+}
+
+/// Ends one who rests and holds a node in a mode that does not go with this one. The reply has its name.
+/// `BS_NO_PLACE` if nobody who rests does.
+#[unsafe(no_mangle)]
+pub extern "C" fn bs_call_clear_node(
+    manager: &mut Handle,
+    node: Node,
+    mode: u32,
+    told: &mut Notices,
+) -> Reply
+    ensures { Where (mode_at mode) (λ wanted. Carries (guarded_in manager.old) (end_call (whom.Holding (node_id node) wanted)) result told.new
+        (guarded_in manager.new)) (Declines (guarded_in manager.old) bad_number result (guarded_in manager.new) × Tells told.new []) }
+{
+    let Some(mode) = mode_at(mode) else {
+        told.clear();
+        return Reply::with_status(BAD_NUMBER);
+    };
+    let node = node.id();
+    manager.end_resting(Whom::Holding { node, mode }, told)
+}
+
+/// Ends the one that has rested longest. The reply has its name. `BS_NO_PLACE` if nobody rests.
+#[unsafe(no_mangle)]
+pub extern "C" fn bs_call_make_room(manager: &mut Handle, told: &mut Notices) -> Reply
+    ensures { Carries (guarded_in manager.old) (end_call whom.Longest) result told.new (guarded_in manager.new) }
+{
+    manager.end_resting(Whom::Longest, told)
+}
+
+/// Lets a transaction work again that rested. `BS_NO_PLACE` if it did not rest.
+#[unsafe(no_mangle)]
+pub extern "C" fn bs_call_wake(manager: &mut Handle, txn: Txn) -> Reply
+    ensures { WakesIn (guarded_in manager.old) (txn_id txn) result (guarded_in manager.new) }
+{
+    manager.wake(txn.id())
+}
+
+/// The slots of those who rest.
+#[unsafe(no_mangle)]
+pub extern "C" fn bs_call_resting(manager: &mut Handle) -> Found
+    ensures { FindsResting (guarded_in manager.old) result (guarded_in manager.new) }
+{
+    manager.resting()
+}
