@@ -1038,13 +1038,12 @@ static inline bs_reply table_path_through(bs_table *table, bs_txn txn, bs_node n
 }
 
 /* After a request of a node in this mode that was refused since it would block: ends those who rest and keep it from
- * that; whether it has ended any. Then the request is made again. */
+ * that; whether it has ended any. Then the request is made again. Nobody waits for one who rests, so that ends no wait. */
 static TABLE_APART bool table_clears_node(bs_table *table, bs_node node, bs_mode mode) {
   bs_notices more, *told = &table->told;
   bool any = false;
   told->count = 0;
   while (table_ended_resting(table, table_make_call_clear_node(table, node, mode, &more), &more, told)) any = true;
-  if (any) table_go_on(table, told);
   return any;
 }
 

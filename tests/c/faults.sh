@@ -313,7 +313,6 @@ a-session-keeps-an-x	s/^    if (lock.status != BS_DONE || (lock.mode != BS_IS .*
 what-is-not-kept-was-kept	/ table_commit_and_rest(/,/^}/s/ || reply.txn.age == 0) return reply;/) return reply;/
 one-in-the-way-alone-is-ended	/ table_clear_all(/,/^}/s/^  while (\(.*\)) any = true;/  if (\1) any = true;/
 a-try-ends-one-alone	/ table_clears_node(/,/^}/s/^  while (\(.*\)) any = true;/  if (\1) any = true;/
-nobody-goes-on-past-a-try	/ table_clears_node(/,/^}/s/^  if (any) table_go_on(table, told);//
 who-rests-ends-no-wait	/ table_ended_resting(/,/^}/s/^  table_note_ended(table, more);//
 what-rests-is-not-in-the-trace	s/^  reply = __builtin_expect(table->is_traced, 0)$/  reply = false/
 a-commit-in-lines-ends-no-wait	/ table_rest_in_lines(/,/^}/s/^  if (told->count > 0) table_note_ended(table, told);//
@@ -345,7 +344,7 @@ found() {
   mkdir -p "$there" && cp "$top"/c/*.[ch] "$there/" && sed -i "$2" "$there"/*.c || return 1
   ! diff -q "$top/c" "$there" -x out >/dev/null || { echo "faults.sh: $1 changes nothing"; return 1; }
   says "$there" shared 5 && says "$there" asks 5 100 && says "$there" waits 5 && says "$there" sessions 5 &&
-    says "$there" own_ends 5 && says "$there" running 5 && says "$there" traces 5 && says "$there" crowd 4 4
+    says "$there" own_ends 20 && says "$there" running 5 && says "$there" traces 5 && says "$there" crowd 4 4
   [ $? -eq 1 ] || { echo "faults.sh: $1 was not found"; return 1; }
   echo "$1: found: $(grep -E ': (hangs|not so|[a-z_]*: not so)' "$there/said" | tail -n 1 | sed 's/^[^ ]*\.[ch]:[0-9]*: //')"
 }

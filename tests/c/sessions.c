@@ -307,6 +307,7 @@ static void no_escalation_is_refused(void) {
 /* A path that waited goes on, to where a session rests. */
 static void a_path_goes_on_past_it(void) {
   struct heard h;
+  bs_waits waits;
   bs_txn txn, other;
   set_up(BS_AT_BLOCK);
   session = rest_after_read();
@@ -317,6 +318,8 @@ static void a_path_goes_on_past_it(void) {
   WANT(waits_for(txn, by_key) && resting(&table->manager) == 1);
   DONE(bs_table_commit(table, other, NULL));
   HEARD_BY_NOW(&h, BS_DONE);
+  DONE(bs_table_waits(table, &waits));
+  WANT(waits.waiting == 0);
   was_ended(&session);
   close_table();
 }
