@@ -35,7 +35,8 @@
 #   savepoint is the release of the records alone. Theirs has none.
 # - The lines of bs_table are calls of include/burlapslate_shared.h: a short transaction in one thread, alone, in a
 #   session that keeps its intentions, with its locks in one call (theirs has a lock_vec), and beside a thread that reads
-#   snapshots all the time, whose instructions are not counted; a wait and its grant between two
+#   snapshots all the time, whose instructions are not counted; S on the root that 126 sessions hold in IX, with two
+#   nodes below, and rest: the lock alone, which ends them; a wait and its grant between two
 #   threads, in which a commit and the next request are one bs_table_run; 1, 4 and 16 threads; and 4 and 16 with all of
 #   it in one bs_table_run, and with the four locks in one lock_vec of theirs. Theirs has DB_THREAD in all.
 # - The four threads do short transactions on records of their own; a round is one transaction of any of them. Ours has
@@ -60,10 +61,10 @@ build() {
 count() {
   local few=1000 many=3000 measured=()
   case $1 in
-    commit | back) few=2 many=6 ;;
+    commit | back | table-resting) few=2 many=6 ;;
   esac
   case $1.$2 in
-    commit.* | back.* | table.ours | table-session.ours | table-watched.ours) measured=(--toggle-collect='measured*') ;;
+    commit.* | back.* | table.ours | table-session.ours | table-watched.ours | table-resting.ours) measured=(--toggle-collect='measured*') ;;
   esac
   each "$few" "$many" "${measured[@]}" "$work/race" play "$1" "$2"
 }

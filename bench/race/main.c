@@ -80,6 +80,7 @@ static const struct line lines[] = {
     table_session, THEIRS(theirs_write), 2, { KEPT | THREADED | AT_ONCE, FRESH | THREADED | AT_ONCE } },
   { "table-watched", "bs_table: a short one beside who looks", 0, 1, 1, BEST,
     table_watched, THEIRS(theirs_write), 2, { KEPT | THREADED, FRESH | THREADED } },
+  { "table-resting", "bs_table: S on a root that 126 hold and rest", 0, 1, 200, BEST, table_resting, NULL, 0, { 0 } },
   { "table-wait", "bs_table: wait and grant, two threads", 0, 1, 4, MEDIAN,
     table_wait, THEIRS(theirs_wait_paired), 1, { THREADED } },
   { "table-1", "bs_table: one thread, DB_THREAD", 0, CREW, 1, MEDIAN,

@@ -93,6 +93,40 @@ uint64_t table_session(long rounds) {
   return taken;
 }
 
+enum { RESTING = 126 };
+
+/* A transaction that locks the inner nodes and commits: the session keeps its locks, and rests. */
+static void let_rest(bs_session *session) {
+  bs_txn txn = DONE(bs_session_begin(session, NULL)).txn;
+  DONE(bs_table_lock_path(table, txn, path[INNER_NODES - 1], BS_IX, NULL));
+  WANT(DONE(bs_session_commit(session, NULL)).count == INNER_NODES);
+}
+
+static MEASURED uint64_t measured_root(bs_txn txn) {
+  uint64_t start = now();
+  DONE(bs_table_lock(table, txn, path[0], BS_S, NULL));
+  return now() - start;
+}
+
+/* The root for reading, while many sessions rest that hold it. What leads to it is neither timed nor counted. */
+uint64_t table_resting(long rounds) {
+  bs_session resting[RESTING];
+  uint64_t taken = 0;
+  size_t i;
+  open_table();
+  for (i = 0; i < RESTING; i++) resting[i] = bs_session_of(table, INNER_NODES);
+  while (rounds-- > 0) {
+    bs_txn txn;
+    for (i = 0; i < RESTING; i++) let_rest(&resting[i]);
+    txn = DONE(bs_table_begin(table)).txn;
+    taken += measured_root(txn);
+    DONE(bs_table_commit(table, txn, NULL));
+  }
+  for (i = 0; i < RESTING; i++) DONE(bs_session_end(&resting[i]));
+  close_table();
+  return taken;
+}
+
 static pthread_mutex_t over_latch = PTHREAD_MUTEX_INITIALIZER;
 static bool is_over;
 
