@@ -7,9 +7,9 @@
 # For each piece of work and each number of threads it prints a line for ours and one for Berkeley DB: transactions a
 # second, how many times that of one thread these are, commands a second, the nanoseconds of a transaction at the median
 # and at the 99th of a hundred, and the victims of a thousand transactions. WORD names a piece of work (own, own-list,
-# own-session, hot, hot-list, nodes, nodes-list, numbers, numbers-list); all by default. CC names another compiler than
-# cc. It ends with status 1 if an answer of either side is not as it should be: each is checked. Without Berkeley DB a
-# line says so, and only ours is printed.
+# own-session, hot, hot-list, nodes, nodes-list, nodes-session, numbers, numbers-list); all by default. CC names another
+# compiler than cc. It ends with status 1 if an answer of either side is not as it should be: each is checked. Without
+# Berkeley DB a line says so, and only ours is printed.
 #
 # A turn takes SECONDS (0.3 by default) from the begin of the first thread, and ends when each thread has ended its
 # current transaction. Each figure is the median of five turns; the sides run by turns. A transaction's time is from the
@@ -22,7 +22,7 @@
 # - By nodes: four rows of 10,000, drawn at random, each read (S) or written (X) at random. A row is a node below a file
 #   and below the one interval of its index; each is locked by bs_table_lock_path. Under its lock the row is read, and
 #   written if that is drawn. A victim of a deadlock undoes its writes, aborts, and begins the same transaction again,
-#   whose time runs on. At the end each write must be there.
+#   whose time runs on. At the end each write must be there. In a session the intentions above the rows are kept.
 # - By numbers: the same by bs_table_lock_row, after a lock of the interval by its path, and for a writer one of the
 #   file.
 # - By calls each command is a call. In lists a short transaction is one bs_table_run. Of the others the begin and the

@@ -26,17 +26,18 @@ static const struct line {
   const char *word;
   const char *title;
   enum works work;
-  bool in_lists;
+  bool in_lists, in_sessions;
 } lines[] = {
-  { "own", "own record, by calls", OWN, false },
-  { "own-list", "own record, in one list", OWN, true },
-  { "own-session", "own record, in a session", SESSIONS, true },
-  { "hot", "one record for all, by calls", HOT, false },
-  { "hot-list", "one record for all, in one list", HOT, true },
-  { "nodes", "mix by nodes, by calls", NODES, false },
-  { "nodes-list", "mix by nodes, in lists", NODES, true },
-  { "numbers", "mix by numbers, by calls", NUMBERS, false },
-  { "numbers-list", "mix by numbers, in lists", NUMBERS, true },
+  { "own", "own record, by calls", OWN, false, false },
+  { "own-list", "own record, in one list", OWN, true, false },
+  { "own-session", "own record, in a session", OWN, true, true },
+  { "hot", "one record for all, by calls", HOT, false, false },
+  { "hot-list", "one record for all, in one list", HOT, true, false },
+  { "nodes", "mix by nodes, by calls", NODES, false, false },
+  { "nodes-list", "mix by nodes, in lists", NODES, true, false },
+  { "nodes-session", "mix by nodes, in a session", NODES, true, true },
+  { "numbers", "mix by numbers, by calls", NUMBERS, false, false },
+  { "numbers-list", "mix by numbers, in lists", NUMBERS, true, false },
 };
 
 enum { LINES = sizeof lines / sizeof lines[0] };
@@ -200,6 +201,7 @@ static struct turn played(const struct line *line, const struct player *player, 
   struct turn turn;
   scene.work = line->work;
   scene.in_lists = line->in_lists;
+  scene.in_sessions = line->in_sessions;
   scene.is_partitioned = player->is_partitioned;
   clear_workers(threads);
   player->side->set_up(&scene);

@@ -34,7 +34,6 @@ static void make_records(bool is_hot) {
   for (i = 0; i < MOST_TOGETHER; i++) {
     records[i] = is_hot && i > 0 ? records[0] : DONE(bs_table_insert(table, txn, path[2], NULL, 0)).node;
     fill_list(lists[i], records[i]);
-    sessions[i] = bs_session_of(table, INNER_NODES);
   }
   DONE(bs_table_commit(table, txn, NULL));
 }
@@ -61,11 +60,13 @@ static void make_rows(void) {
 
 static void set_up(const struct scene *scene) {
   bool by_numbers = scene->work == NUMBERS;
+  size_t i;
   DONE(bs_table_make(&table, NULL));
   path[0] = DONE(bs_table_add_inner(table, NULL, 0)).node;
   path[1] = DONE(bs_table_add_inner(table, &path[0], 1)).node;
   path[2] = DONE((by_numbers ? bs_table_add_row_file : bs_table_add_file)(table, &path[1], 1)).node;
-  if (scene->work == OWN || scene->work == SESSIONS || scene->work == HOT) {
+  for (i = 0; i < MOST_TOGETHER; i++) sessions[i] = bs_session_of(table, 16);
+  if (scene->work == OWN || scene->work == HOT) {
     make_records(scene->work == HOT);
   } else {
     make_index();
@@ -75,9 +76,7 @@ static void set_up(const struct scene *scene) {
 
 static void tear_down(void) {
   size_t i;
-  for (i = 0; i < MOST_TOGETHER; i++) {
-    if (sessions[i].table == table) DONE(bs_session_end(&sessions[i]));
-  }
+  for (i = 0; i < MOST_TOGETHER; i++) DONE(bs_session_end(&sessions[i]));
   WANT(bs_group(bs_table_hold(table), path[0]).mode == BS_NL);
   DONE(bs_table_let_go(table));
   DONE(bs_table_end(table));
@@ -169,15 +168,28 @@ static bool lock_node(struct worker *worker, bs_txn txn, const struct touch *tou
   return is_granted(bs_table_lock_path(table, txn, rows[touch->row], mode_of(touch), NULL));
 }
 
-static bool nodes_by_calls(struct worker *worker, const struct touch *touches) {
-  bs_txn txn = DONE(bs_table_begin(table)).txn;
+/* Whether all rows were touched; otherwise the transaction was a victim, and has ended. */
+static bool touched_nodes(struct worker *worker, bs_txn txn, const struct touch *touches) {
   size_t i;
   worker->commands++;
   for (i = 0; i < TOUCHES; i++) {
     if (!lock_node(worker, txn, &touches[i])) return ended_as_victim(worker, txn, touches, i);
     touch_row(&touches[i]);
   }
-  return committed(worker, txn);
+  return true;
+}
+
+static bool nodes_by_calls(struct worker *worker, const struct touch *touches) {
+  bs_txn txn = DONE(bs_table_begin(table)).txn;
+  return touched_nodes(worker, txn, touches) && committed(worker, txn);
+}
+
+static bool nodes_in_session(struct worker *worker, const struct touch *touches) {
+  bs_session *session = &sessions[worker->number];
+  if (!touched_nodes(worker, DONE(bs_session_begin(session, NULL)).txn, touches)) return false;
+  DONE(bs_session_commit(session, NULL));
+  worker->commands++;
+  return true;
 }
 
 /* Makes a list of a transaction to its end, and answers whether that was not chosen as victim: a wait is awaited, and
@@ -262,10 +274,10 @@ static bool numbers_in_lists(struct worker *worker, const struct touch *touches)
 }
 
 static try_one *play(const struct scene *scene) {
+  if (scene->in_sessions) return scene->work == NODES ? nodes_in_session : short_in_session;
   switch (scene->work) {
     case NODES: return scene->in_lists ? nodes_in_lists : nodes_by_calls;
     case NUMBERS: return scene->in_lists ? numbers_in_lists : numbers_by_calls;
-    case SESSIONS: return short_in_session;
     default: return scene->in_lists ? short_in_list : short_by_calls;
   }
 }

@@ -18,17 +18,17 @@ enum {
 
 /* What the threads do. */
 enum works {
-  OWN,      /* short transactions, each thread on a record of its own */
-  SESSIONS, /* the same, each thread in a session; with Berkeley DB it is the same work as the one before */
-  HOT,      /* the same, all on one record */
-  NODES,    /* rows that are read and written, each with a permanent node */
-  NUMBERS   /* the same by the rows' numbers; with Berkeley DB it is the same work as the one before */
+  OWN,    /* short transactions, each thread on a record of its own */
+  HOT,    /* the same, all on one record */
+  NODES,  /* rows that are read and written, each with a permanent node */
+  NUMBERS /* the same by the rows' numbers; with Berkeley DB it is the same work as the one before */
 };
 
 /* The settings of a turn. */
 struct scene {
   enum works work;
   bool in_lists;       /* several commands in one call, if possible */
+  bool in_sessions;    /* each thread in a session; for Berkeley DB there is no difference */
   bool is_partitioned; /* Berkeley DB has its default number of partitions; else one */
 };
 
