@@ -47,11 +47,11 @@
 #   is the median of the turns, since several threads have lucky ones. Their instructions are counted together.
 #
 # No program in C can use watchers that are told every command, the notes that sessions give them, or replies with a
-# list of notices each: they are not measured. Counted were: a round 3114 by the manager, 4047 by calls and 3699 by a
-# list, whatever waits there are elsewhere, and by calls 57 more with a watcher while nobody waits, and 454 while others
-# do (in 0.17 a snapshot after each command, which by its parts is some 92000); a snapshot 1884 alone, 12236 beside 100
-# elsewhere and 18094 beside a queue of 126; to show one, after a command by which a wait may have changed, in 0.18.0
-# 16491 and 26659 beside these; a question 221, a look 1015. In time: a round 0.41, 0.48 and 0.57 microseconds, a
+# list of notices each: they are not measured. Counted were: a round 3212 by the manager, 4197 by calls and 3875 by a
+# list, whatever waits there are elsewhere, and by calls 108 more with a watcher while nobody waits, and 487 while others
+# do (in 0.17 a snapshot after each command, which by its parts is some 92000); a snapshot 1895 alone, 12247 beside 100
+# elsewhere and 18105 beside a queue of 126; to show one, after a command by which a wait may have changed, in 0.18.0
+# 16491 and 26659 beside these; a question 260, a look 1015. In time: a round 0.41, 0.48 and 0.57 microseconds, a
 # snapshot 0.24, 1.4 and 2.0, a look 0.17.
 #
 # waits: what it costs to read a waits-for snapshot of 128 slots. What is read is compared with what it should be.
