@@ -83,13 +83,13 @@ uint64_t bs_call_now(void);
 /* Of burlapslate_shared.c: what the table notes that this thread holds with this manager; null if it is no table's. */
 bs_running *bs_call_running(const bs_manager *manager);
 
-/* How many threads sleep for a slot of that table. */
+/* How many begins wait for a slot of that table. */
 uint64_t bs_call_queued(const bs_manager *manager);
 
 /* Whether this thread may sleep in a call of a table. No latch is needed. */
 bool bs_call_may_sleep(void);
 
-/* Gives the begins that the library has handed on to the threads that sleep for them. */
+/* Gives the begins that the library has handed on to the threads that sleep for them, and to the asks. */
 void bs_call_hand_on(bs_table *table);
 
 /* Makes a condition variable whose times are by the clock that is never set. No latch is needed. */

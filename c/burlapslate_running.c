@@ -685,7 +685,7 @@ static const metrics_kind metrics_kinds[] = {
   METRICS_GAUGE("waiting", waits.waiting, "Transactions that wait now."),
   METRICS_GAUGE("transactions", living, "Transactions that live now."),
   METRICS_GAUGE("transactions_limit", most, "Transactions that may live at once."),
-  METRICS_GAUGE("begins_waiting", queued, "Threads that sleep for a slot now."),
+  METRICS_GAUGE("begins_waiting", queued, "Begins that wait for a slot now."),
   METRICS_GAUGE("nodes", nodes, "Nodes that live now."),
   METRICS_GAUGE("nodes_limit", most_nodes, "Nodes that may live at once."),
   METRICS_COUNTER("long_waits_told", told_waits, "Long waits of which the engine's function was told."),

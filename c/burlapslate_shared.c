@@ -10,8 +10,9 @@
  * command, which continues by table_go_on those whose wait is over; table_hand_on, after what may have ended a
  * transaction; table_sleep, when a lock waits; table_sleep_in_begin_queue, when a begin does; bs_table_end; and
  * table_watch_over, the thread that watches. So are the ends of asks, told by a callback: table_tell, after each
- * critical section that has some; and sessions: who rests, and that it is ended if a request waits for it, as the
- * library says, or if a begin finds no slot. All else here makes calls of the library between these.
+ * critical section that has some, and which asked begin has a word; and sessions: who rests, and that it is ended if a
+ * request waits for it, as the library says, or if a begin finds no slot. All else here makes calls of the library
+ * between these.
  * burlapslate_running.c times the waits: table_register, table_note_ended, table_gone_on and table_time_out tell it of
  * them.
  * burlapslate_trace.c makes the commands of a traced table: table_make_* ask it.
@@ -23,15 +24,22 @@
 #include <errno.h>
 #include <pthread.h>
 #include <signal.h>
+#include <stddef.h>
 #include <stdlib.h>
 #include <unistd.h>
 
-/* A thread that sleeps for a slot, in its call's frame, whose address is the name of its begin. */
+/* A begin that waits for a slot: of a thread that sleeps, or of an ask. Its address is its name. */
 typedef struct table_queued_begin {
-  uint64_t since;      /* the age since which its work was tried, or TABLE_NEW_WORK */
+  struct table_asked *ask; /* null: a thread sleeps */
+  uint64_t since;          /* the age since which its work was tried, or TABLE_NEW_WORK */
+} table_queued_begin;
+
+/* A thread that sleeps for a slot, in its call's frame. */
+typedef struct table_beginner {
+  table_queued_begin queued;
   bs_reply begun;      /* what it was answered; BS_WAITING: its turn has not come */
   pthread_cond_t came;
-} table_queued_begin;
+} table_beginner;
 
 /* What a call was left waiting for. */
 typedef struct table_wait {
@@ -83,11 +91,13 @@ typedef struct table_waiter {
 typedef struct table_asked {
   struct table_asked *next; /* in its list */
   bs_table *table;
-  bs_txn txn;
+  bs_txn txn;               /* of a begin, none before it has begun */
   void *word;
   table_waiter waiter;
   bool has_time;            /* its wait has a time at which it ends */
   bool is_inside;           /* its call has not returned: so that answers its end */
+  table_queued_begin begin; /* of a begin alone, as all after it */
+  uint64_t begin_time;      /* that time */
 } table_asked;
 
 /* Asks in order. */
@@ -100,6 +110,7 @@ typedef struct table_asks {
   void (*on_end)(void *context, bs_txn txn, bs_reply end, void *word);
   void *context;
   table_asked_list over;     /* those whose wait ended in this hold */
+  table_asked_list begins;   /* those that wait for a slot */
   table_asked *spare;
 } table_asks;
 
@@ -114,7 +125,7 @@ struct bs_table {
   table_stage stage;
   bool is_due;                    /* this hold has ended waits: waiters are woken or told as it ends */
   bool is_traced;                 /* it has a trace */
-  size_t queued;                  /* how many threads sleep for a slot */
+  size_t queued;                  /* how many begins wait for a slot */
   bs_notices told;                /* by the last command whose caller wanted no list */
   table_asks *asks;               /* null if nobody can ask without a sleep */
   size_t sleepers;                /* how many threads sleep, for a lock or for a slot */
@@ -141,8 +152,10 @@ struct bs_table {
   bs_trace *trace;                /* null if it has none */
 };
 
-/* Rare code is not inlined, so that the path of each call is short. */
+/* Rare code is not inlined, so that the path of each call is short. What each caller gives another constant is: so a
+ * lock that stays pays nothing for those for an instant. */
 #define TABLE_APART __attribute__((noinline))
+#define TABLE_IN_LINE inline __attribute__((always_inline))
 
 /* Each command of the manager is made by a function table_make_*: by the manager's call of that name, or, of a traced
  * table, by that of the trace, which makes the call and says it. */
@@ -321,11 +334,24 @@ static bool table_is_same_node(bs_node one, bs_node other) {
   return one.key == other.key && one.birth == other.birth;
 }
 
+static inline void table_append(table_asked_list *list, table_asked *ask) {
+  ask->next = NULL;
+  if (list->first == NULL) list->first = ask;
+  else list->last->next = ask;
+  list->last = ask;
+}
+
+/* The end of this ask must be told. */
+static inline void table_has_to_tell(bs_table *table, table_asked *ask) {
+  table_append(&table->asks->over, ask);
+  table->to_tell++;
+  table->is_due = true;
+}
+
 /* The request of this waiter has ended: wakes its thread as the hold ends; an ask is answered by its call, or else its
  * end must be told. */
 static void table_end(bs_table *table, table_waiter *waiter, uint32_t slot, bs_reply end) {
   table_asked *ask = waiter->ask;
-  table_asked_list *over;
   table->waiters[slot] = NULL;
   waiter->end = end;
   waiter->end.txn = bs_call_only(BS_DONE).txn;
@@ -335,13 +361,7 @@ static void table_end(bs_table *table, table_waiter *waiter, uint32_t slot, bs_r
     table->to_wake.words[slot / 64] |= (uint64_t)1 << slot % 64;
     table->is_due = true;
   } else if (!ask->is_inside) {
-    over = &table->asks->over;
-    ask->next = NULL;
-    if (over->first == NULL) over->first = ask;
-    else over->last->next = ask;
-    over->last = ask;
-    table->to_tell++;
-    table->is_due = true;
+    table_has_to_tell(table, ask);
   }
 }
 
@@ -590,28 +610,62 @@ static TABLE_APART bs_reply table_sleep(bs_table *table, bs_txn txn, table_waite
 }
 
 /* ------------------------------------------------------------------------------------------------
- * The begin queue: the threads that sleep for a slot.
+ * The begin queue: the threads that sleep for a slot, and the asks that wait for one.
  */
 
 /* Of a begin for new work, which no earlier begin has tried. */
 #define TABLE_NEW_WORK UINT64_MAX
 
-/* The begin of this name. */
+/* The name of a begin, and the begin of a name. */
+static inline uint64_t table_name_of(const table_queued_begin *begin) {
+  return (uint64_t)(uintptr_t)begin;
+}
+
 static table_queued_begin *table_begin_named(uint64_t name) {
   return (table_queued_begin *)(uintptr_t)name;
 }
 
-/* Gives the begins that the library has handed on to the threads that sleep for them. So no critical section leaves one
- * untaken. No turn can be lost: a thread whose time is over has begun by then, or is in the queue still. */
+/* Takes an ask out of the list that it is in. */
+static void table_unlist(table_asked_list *list, table_asked *ask) {
+  table_asked *before = NULL, **at = &list->first;
+  while (*at != ask) {
+    before = *at;
+    at = &before->next;
+  }
+  *at = ask->next;
+  if (list->last == ask) list->last = before;
+}
+
+/* The begin of an ask has left the begin queue, and came to this. */
+static void table_end_asked_begin(bs_table *table, table_asked *ask, bs_reply came) {
+  table_unlist(&table->asks->begins, ask);
+  ask->txn = came.txn;
+  ask->waiter.end = came;
+  table_has_to_tell(table, ask);
+}
+
+/* A begin has left the begin queue, and came to this: wakes its thread, or has its end told. */
+static void table_end_begin(bs_table *table, table_queued_begin *begin, bs_reply came) {
+  table_beginner *own = (table_beginner *)(void *)begin;
+  table->queued--;
+  if (begin->ask != NULL) {
+    table_end_asked_begin(table, begin->ask, came);
+    return;
+  }
+  own->begun = came;
+  pthread_cond_signal(&own->came);
+}
+
+/* Gives the begins that the library has handed on to the threads that sleep for them, and to the asks. So no critical
+ * section leaves one untaken. No turn can be lost: a begin whose time is over has begun by then, or is still in the
+ * queue. */
 static TABLE_APART void table_take_all_begun(bs_table *table) {
   bs_reply begun = bs_call_take_begun(&table->manager);
   for (; begun.count != 0; begun = bs_call_take_begun(&table->manager)) {
-    table_queued_begin *own = table_begin_named(begun.count);
-    own->begun = begun;
-    own->begun.count = 0;
-    if (table->is_traced) bs_traced_begun(table->trace, own->begun, own->since);
-    table->queued--;
-    pthread_cond_signal(&own->came);
+    table_queued_begin *next = table_begin_named(begun.count);
+    begun.count = 0;
+    if (table->is_traced) bs_traced_begun(table->trace, begun, next->since);
+    table_end_begin(table, next, begun);
   }
 }
 
@@ -620,20 +674,31 @@ static inline void table_hand_on(bs_table *table) {
   if (table->queued > 0) table_take_all_begun(table);
 }
 
+/* Ends each begin of the queue whose time is over by now, with this status. A thread that sleeps has no time there. */
+static void table_end_late_begins(bs_table *table, uint64_t now, bs_status status) {
+  bs_reply late;
+  if (table->queued == 0) return;
+  late = bs_call_take_late_begin(&table->manager, now);
+  for (; late.count != 0; late = bs_call_take_late_begin(&table->manager, now)) {
+    table_end_begin(table, table_begin_named(late.count), bs_call_only(status));
+  }
+}
+
 /* Sleeps for a slot, with the latch held before and after, until the library has begun for this thread, or the time is
  * over, or the table ends. It asks whether it has begun before it looks at the clock. */
-static TABLE_APART bs_reply table_sleep_in_begin_queue(bs_table *table, table_queued_begin *own,
+static TABLE_APART bs_reply table_sleep_in_begin_queue(bs_table *table, table_beginner *own, uint64_t since,
                                                        const struct timespec *until) {
   int late = 0;
+  own->queued.ask = NULL;
+  own->queued.since = since;
   own->begun = bs_call_only(BS_WAITING);
   bs_call_make_steady(&own->came);
-  table->queued++;
   table->sleepers++;
-  while (own->begun.status == BS_WAITING && late != ETIMEDOUT && table->stage == TABLE_OPEN) {
+  while (own->begun.status == BS_WAITING && late != ETIMEDOUT) {
     late = table_doze(table, &own->came, until);
   }
   if (own->begun.status == BS_WAITING) {
-    bs_call_withdraw_begin(&table->manager, (uint64_t)(uintptr_t)own);
+    bs_call_withdraw_begin(&table->manager, table_name_of(&own->queued));
     table->queued--;
     own->begun.status = BS_TIMED_OUT;
   }
@@ -793,24 +858,20 @@ bs_reply bs_call_table_make(bs_table **table, const bs_options *options, size_t 
   return reply;
 }
 
-/* Wakes all who sleep for a slot of a table that ends, and its threads. */
+/* Wakes the threads of a table that ends. */
 static void table_wake_all(bs_table *table) {
-  bs_reply queued;
-  do {
-    queued = bs_call_take_late_begin(&table->manager, UINT64_MAX);
-    if (queued.count != 0) pthread_cond_signal(&table_begin_named(queued.count)->came);
-  } while (queued.count != 0);
   pthread_cond_broadcast(&table->began);
   pthread_cond_broadcast(&table->over);
   bs_call_run_out(&table->running);
 }
 
-/* Ends each wait that is awaited in a table that ends. */
+/* Ends each wait that is awaited in a table that ends, and each begin that waits for a slot. */
 static void table_end_waits(bs_table *table) {
   uint32_t slot;
   for (slot = 0; slot < BS_SLOTS; slot++) {
     if (table->waiters[slot] != NULL) table_end(table, table->waiters[slot], slot, bs_call_only(BS_NO_MANAGER));
   }
+  table_end_late_begins(table, UINT64_MAX, BS_NO_MANAGER);
 }
 
 /* Takes the trace from a table; null if it has none. */
@@ -891,17 +952,24 @@ bs_reply bs_table_begin_again(bs_table *table, uint64_t since) {
   TABLE_ASK(table, table_begin_again_now(table, since));
 }
 
-/* Begins, or sleeps for a slot, with the latch held before and after. Nobody sleeps for one while somebody rests. */
-static bs_reply table_begin_or_sleep(bs_table *table, uint64_t since, const struct timespec *until) {
-  table_queued_begin own;
+/* Begins, or enters the begin queue, with the latch held. Nobody waits for a slot while somebody rests. */
+static TABLE_IN_LINE bs_reply table_begin_or_wait(bs_table *table, uint64_t since, const table_queued_begin *own,
+                                                  uint64_t until) {
   bs_reply reply;
   if (table->has_rested) {
     reply = table_begin_again_now(table, since);
     if (reply.status != BS_TOO_MANY_TXNS) return reply;
   }
-  own.since = since;
-  reply = table_make_call_begin_in_turn(table, since, (uint64_t)(uintptr_t)&own, UINT64_MAX);
-  return reply.status == BS_WAITING ? table_sleep_in_begin_queue(table, &own, until) : reply;
+  reply = table_make_call_begin_in_turn(table, since, table_name_of(own), until);
+  if (reply.status == BS_WAITING) table->queued++;
+  return reply;
+}
+
+/* Begins, or sleeps for a slot, with the latch held before and after. The thread looks at the clock itself. */
+static bs_reply table_begin_or_sleep(bs_table *table, uint64_t since, const struct timespec *until) {
+  table_beginner own;
+  bs_reply reply = table_begin_or_wait(table, since, &own.queued, TABLE_NO_TIME);
+  return reply.status == BS_WAITING ? table_sleep_in_begin_queue(table, &own, since, until) : reply;
 }
 
 bs_reply bs_table_begin_again_in_turn(bs_table *table, uint64_t since, const struct timespec *until) {
@@ -962,9 +1030,6 @@ static inline void table_sleeper(table_waiter *waiter, const struct timespec *un
   waiter->until = until;
   waiter->has_ended = false;
 }
-
-/* Inlined, with a constant, so that a lock that stays pays nothing for those for an instant. */
-#define TABLE_IN_LINE inline __attribute__((always_inline))
 
 /* Makes the call bs_lock with the latch held, for this waiter, or for a list if that is null. */
 static TABLE_IN_LINE bs_reply table_lock_by(bs_table *table, bs_txn txn, bs_node node, bs_mode mode, bool is_instant,
@@ -1408,7 +1473,7 @@ static table_asked *table_enter_to_ask(bs_table *table, bs_txn txn, const struct
     *why = table_leave(table, table->asks == NULL ? bs_call_null() : bs_call_only(BS_NO_MEMORY));
     return NULL;
   }
-  memset(own, 0, sizeof *own);
+  memset(own, 0, offsetof(table_asked, begin));
   own->table = table;
   own->txn = txn;
   own->word = word;
@@ -1474,6 +1539,40 @@ bs_reply bs_table_ask_row(bs_table *table, bs_txn txn, bs_node file, uint64_t nu
   return table_leave_asked(table, own, table_row_by(table, &request, &own->waiter));
 }
 
+/* Makes the ask of a begin, which waits behind all that wait for a slot already. */
+bs_reply bs_table_ask_begin_again(bs_table *table, uint64_t since, const struct timespec *until, void *word) {
+  bs_reply reply;
+  table_asked *own = table_enter_to_ask(table, bs_call_only(BS_DONE).txn, until, word, &reply);
+  if (own == NULL) return reply;
+  own->begin.ask = own;
+  own->begin.since = since;
+  own->begin_time = table_time_of(until);
+  reply = table_begin_or_wait(table, since, &own->begin, own->begin_time);
+  if (reply.status == BS_WAITING) table_append(&table->asks->begins, own);
+  return table_leave_asked(table, own, reply);
+}
+
+bs_reply bs_table_ask_begin(bs_table *table, const struct timespec *until, void *word) {
+  return bs_table_ask_begin_again(table, TABLE_NEW_WORK, until, word);
+}
+
+/* The first begin that was asked for with this word and waits for a slot; null if there is none. */
+static table_asked *table_asked_by(const bs_table *table, const void *word) {
+  table_asked *ask = table->asks == NULL ? NULL : table->asks->begins.first;
+  while (ask != NULL && ask->word != word) ask = ask->next;
+  return ask;
+}
+
+bs_reply bs_table_cancel_begin(bs_table *table, const void *word) {
+  table_asked *ask;
+  if (!table_enter(table)) return table_no_table(table);
+  ask = table_asked_by(table, word);
+  if (ask == NULL) return table_leave(table, bs_call_only(BS_NOT_WAITING));
+  bs_call_withdraw_begin(&table->manager, table_name_of(&ask->begin));
+  table_end_begin(table, &ask->begin, bs_call_only(BS_NOT_WAITING));
+  return table_leave(table, bs_call_only(BS_DONE));
+}
+
 /* Cancels the wait of each ask whose time is over. What one of them grants to others is theirs, before the call looks
  * whether their time is over. */
 static void table_end_late(bs_table *table, uint64_t now) {
@@ -1485,7 +1584,7 @@ static void table_end_late(bs_table *table, uint64_t now) {
   }
 }
 
-/* How many asks wait to a time. */
+/* How many asks wait for a lock to a time. */
 static uint64_t table_count_timed(const bs_table *table) {
   uint64_t count = 0;
   uint32_t slot;
@@ -1496,14 +1595,30 @@ static uint64_t table_count_timed(const bs_table *table) {
   return count;
 }
 
+/* How many asks wait for a slot to a time, and the earliest of these times. */
+static uint64_t table_count_timed_begins(const bs_table *table, uint64_t *earliest) {
+  const table_asked *ask = table->asks == NULL ? NULL : table->asks->begins.first;
+  uint64_t count = 0;
+  *earliest = TABLE_NO_TIME;
+  for (; ask != NULL; ask = ask->next) {
+    count += ask->begin_time != TABLE_NO_TIME;
+    if (ask->begin_time < *earliest) *earliest = ask->begin_time;
+  }
+  return count;
+}
+
 bs_reply bs_table_expire(bs_table *table, struct timespec *next) {
-  bs_reply reply = bs_call_only(BS_DONE);
+  bs_reply reply = bs_call_only(BS_DONE), first;
+  uint64_t earliest;
   struct timespec now;
   if (!table_enter(table)) return table_no_table(table);
   now = table_ahead(0, 0);
   table_end_late(table, table_time_of(&now));
-  reply.count = table_count_timed(table);
-  if (reply.count > 0 && next != NULL) *next = table_timespec_of(bs_call_earliest_wait(&table->manager).count);
+  table_end_late_begins(table, table_time_of(&now), BS_TIMED_OUT);
+  reply.count = table_count_timed(table) + table_count_timed_begins(table, &earliest);
+  first = bs_call_earliest_wait(&table->manager);
+  if (first.status == BS_DONE && first.count < earliest) earliest = first.count;
+  if (reply.count > 0 && next != NULL) *next = table_timespec_of(earliest);
   return table_leave(table, reply);
 }
 
@@ -1592,7 +1707,7 @@ static TABLE_APART bs_reply table_rest_in_lines(bs_table *table, bs_txn txn, uin
   return reply;
 }
 
-/* Commits a session's transaction, and lets the next one rest. While others sleep for a slot nobody rests. */
+/* Commits a session's transaction, and lets the next one rest. While others wait for a slot nobody rests. */
 static bs_reply table_commit_and_rest(bs_table *table, bs_session *session, bs_notices *told) {
   uint32_t keep = table->queued > 0 ? 0 : table_first_intentions(table, session);
   bs_reply reply;

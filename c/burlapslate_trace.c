@@ -288,7 +288,7 @@ static uint64_t trace_say_forgotten(bs_trace *trace, uint64_t most) {
   return found;
 }
 
-/* A call was made, and has its lines: says what else it did. That is begins for those that sleep for a slot, and rows
+/* A call was made, and has its lines: says what else it did. That is begins for those that wait for a slot, and rows
  * that lost their nodes. */
 static bs_reply trace_end_call(bs_trace *trace, bs_reply reply) {
   uint64_t accepted;

@@ -4,7 +4,7 @@
  *
  * A table times each wait by CLOCK_MONOTONIC, always: from the command that leaves a lock waiting to the command that
  * ends the wait, whatever its thread does meanwhile. A lock that does not wait reads no clock. A path or a row that
- * waits several times has several waits. A thread that sleeps for a slot has none.
+ * waits several times has several waits. A begin that waits for a slot has none.
  *
  * All times are in nanoseconds. What burlapslate_shared.h requires of callers holds here too, and so does what it says
  * of a null table, one that was ended, and one that this thread holds. Probes for bpftrace and SystemTap are in the
@@ -157,8 +157,8 @@ bs_reply bs_table_metrics(bs_table *table, bool (*write)(void *context, const ch
  * the same; the trace says with which words. `file` is a descriptor to write to. The table makes a copy of it, so the
  * caller may close it.
  *   - All commands are there, whoever made them: each lock of a path, the request of a row after its grant, the cancel
- *     of a wait whose time is over, the begin of a thread that slept for a slot. Nodes that were made before come
- *     first. Refused commands and questions are not there.
+ *     of a wait whose time is over, a begin that waited for a slot. Nodes that were made before come first. Refused
+ *     commands and questions are not there.
  *   - A thread of the table's own writes; it takes no signals. If it is late by more than eight megabytes, further
  *     lines are dropped until there is room, and a comment says how many. Only bs_table_trace_end and bs_table_end
  *     await it.

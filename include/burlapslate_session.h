@@ -1,7 +1,8 @@
 /*
- * burlapslate_session.h: sessions, for C and C++: transactions one after the other, each of which keeps the intentions
- * of the one before it, since most need the same again. What burlapslate_shared.h requires of callers holds here too,
- * and so does what it says of a null table, one that was ended, and one that this thread holds.
+ * burlapslate_session.h: how a table's transactions follow each other, for C and C++: sessions, whose transactions keep
+ * the intentions of the one before, since most need the same again; and begins that wait for a slot without a sleeping
+ * thread. What burlapslate_shared.h requires of callers holds here too, and so does what it says of a null table, one
+ * that was ended, and one that this thread holds.
  */
 #ifndef BURLAPSLATE_SESSION_H
 #define BURLAPSLATE_SESSION_H
@@ -60,6 +61,33 @@ bs_reply bs_session_commit(bs_session *session, bs_notices *told);
 /* Releases what the session keeps. Refused with BS_IN_USE if its transaction lives and does not rest: commit or abort it
  * first. The session may begin again. A session that is not ended keeps its locks until they are in the way. */
 bs_reply bs_session_end(bs_session *session);
+
+/* ------------------------------------------------------------------------------------------------
+ * Begins of an event loop: asks, as in burlapslate_shared.h.
+ */
+
+/* As bs_table_begin_in_turn, but if the begin waits for a slot, it answers BS_WAITING, and its end comes by a call of
+ * the table's callback (bs_table_on_end) with `word`. An ask waits in one queue with the threads that sleep for a slot,
+ * after all that came before it. The call that frees a slot begins the transaction, and then tells that end: BS_DONE,
+ * whose transaction is the first argument and `txn` of the reply. It lives from then on, so the engine must use it or
+ * abort it. Other ends have no transaction:
+ *   - BS_TIMED_OUT: bs_table_expire was called at `until` or later, and nothing has begun;
+ *   - BS_NOT_WAITING: bs_table_cancel_begin named the word;
+ *   - BS_NO_MANAGER: bs_table_end was called;
+ *   - BS_NO_MEMORY, BS_WORN_OUT: the begin was refused so in its turn, and the next one has the slot.
+ * If one command ends waits for locks and begins too, the locks are told first, then the begins by their order in the
+ * queue. An ask that does not wait has no call. It ends a session that rests before it waits, and while it waits none
+ * rests. Refused with BS_NULL_POINTER also if the table has no callback, and as bs_begin. BS_NO_MEMORY may come before
+ * all other refusals but BS_NULL_POINTER, BS_BAD_NUMBER of the time, BS_NO_MANAGER and BS_IN_USE. */
+bs_reply bs_table_ask_begin(bs_table *table, const struct timespec *until, void *word);
+
+/* The same for work that has been tried since an earlier begin, as bs_table_begin_again_in_turn. */
+bs_reply bs_table_ask_begin_again(bs_table *table, uint64_t since, const struct timespec *until, void *word);
+
+/* Takes a begin back: ends the first that was asked for with this word and waits for a slot, and tells that end,
+ * BS_NOT_WAITING, before it returns, or in a callback after it. BS_NOT_WAITING: none waits; it may have begun, and its
+ * callback may be under way. Costs a step for each begin that waits before it. */
+bs_reply bs_table_cancel_begin(bs_table *table, const void *word);
 
 #ifdef __cplusplus
 }

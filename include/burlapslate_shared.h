@@ -58,6 +58,7 @@
  *     latch, before it sleeps and before it returns. That may be any thread: also one that sleeps for a lock, the one
  *     that watches, or the one that ends the table. If one command ended several waits, their ends are told by rising
  *     slots. Two threads may call the callback at once.
+ *   - A begin that waits for a slot is an ask too (bs_table_ask_begin in burlapslate_session.h).
  *   - An ask whose wait ends before it releases the latch for the last time is answered with that end, and has no call.
  *     So the call is never made within the ask itself. But what the caller writes after its ask may not be there yet:
  *     the word must give all that the callback needs.
@@ -130,16 +131,17 @@ bs_reply bs_table_add_index(bs_table *table, const bs_node *parents, size_t coun
 /* The time that is so many milliseconds from now, for `until`. */
 struct timespec bs_after(uint64_t milliseconds);
 
-/* As bs_begin, at once. While a thread sleeps in bs_table_begin_in_turn no slot is free, and this is refused with
- * BS_TOO_MANY_TXNS. */
+/* As bs_begin, at once. While a begin waits for a slot, in bs_table_begin_in_turn or as an ask, no slot is free, and
+ * this is refused with BS_TOO_MANY_TXNS. */
 bs_reply bs_table_begin(bs_table *table);
 
 /* As bs_begin, but never answers BS_TOO_MANY_TXNS: if all slots are taken, it sleeps until it has one. Threads that
- * sleep for a slot are served in order of arrival. The call that ends a transaction begins the next for the first of
- * them, in the same critical section: so no thread that came later is served before. If a slot is free before the
- * sleeper has acquired the latch again, it begins, even if its time is over by then. A sleeper has no transaction, so
- * it is on no cycle of waits. A thread that still has one, and sleeps for another, may wait for itself, and nothing
- * detects that. BS_TIMED_OUT: its time came first, and nothing has begun. BS_NO_MEMORY may also come after a sleep. */
+ * sleep for a slot, and begins that are asked for, are served in order of arrival. The call that ends a transaction
+ * begins the next for the first of them, in the same critical section: so none that came later is served before. If a
+ * slot is free before the sleeper has acquired the latch again, it begins, even if its time is over by then. A sleeper
+ * has no transaction, so it is on no cycle of waits. A thread that still has one, and sleeps for another, may wait for
+ * itself, and nothing detects that. BS_TIMED_OUT: its time came first, and nothing has begun. BS_NO_MEMORY may also
+ * come after a sleep. */
 bs_reply bs_table_begin_in_turn(bs_table *table, const struct timespec *until);
 
 /* As these two, for a transaction whose work has been tried since an earlier begin, as in bs_begin_again. That gives it
@@ -291,11 +293,12 @@ bs_reply bs_table_ask_row(bs_table *table, bs_txn txn, bs_node file, uint64_t nu
 bs_reply bs_table_ask_await(bs_table *table, bs_txn txn, bs_node node, bs_mode mode, const struct timespec *until,
                             void *word);
 
-/* Cancels the wait of each ask whose time is over by CLOCK_MONOTONIC, which ends with BS_TIMED_OUT. `count` says how
- * many still wait to a time; if it is not 0, the earliest of these times is written into `next`, which may be null. It
- * is for a loop that has a timer of its own: the loop makes this call after each alarm, and sets the timer to `next`;
- * the time of an ask that comes meanwhile may be earlier. An ask whose time is over waits until some thread makes this
- * call. Costs a step for each slot. */
+/* Cancels the wait of each ask, for a lock or a slot, whose time is over by CLOCK_MONOTONIC; it ends with BS_TIMED_OUT.
+ * `count` says how many still wait to a time; if it is not 0, the earliest of these times is written into `next`, which
+ * may be null. It is for a loop that has a timer of its own: the loop makes this call after each alarm, and sets the
+ * timer to `next`; the time of an ask that comes meanwhile may be earlier. An ask whose time is over waits until some
+ * thread makes this call. Costs a step for each slot and for each begin that waits for one; the latter again for each of
+ * these whose time is over. */
 bs_reply bs_table_expire(bs_table *table, struct timespec *next);
 
 /* ------------------------------------------------------------------------------------------------
@@ -374,8 +377,8 @@ static inline bs_txn bs_begun(void) {
  * name. A path continues if others became victims for a lock above, and is never BS_ON_THE_WAY: its `told` has the
  * notices of all its locks. After each command, whether it is the first or the last, those go on whose wait it ended. An
  * unknown kind is refused with BS_BAD_NUMBER. If the table is refused, so is the first command; a null list has no
- * commands. A begin is refused with BS_TOO_MANY_TXNS while a thread sleeps in bs_table_begin_in_turn: the first of these
- * gets the slot that a command of the list frees. */
+ * commands. A begin is refused with BS_TOO_MANY_TXNS while others wait for a slot: the first of these gets the one that
+ * a command of the list frees. */
 size_t bs_table_run(bs_table *table, bs_command *commands, size_t count);
 
 /* Makes tries in order, in one critical section, each BS_DO_TRY, BS_DO_TRY_PATH or BS_DO_TRY_ROW, up to the first that

@@ -8,9 +8,9 @@
  *
  * Each call that the table makes with its manager is logged with its answer, under the latch. In the end a manager of
  * one thread is asked the same in the same order, and must answer the same. The answer of each thread must be the
- * logged one, or, if it slept, the end of its wait. A transaction that holds BS_X on an account, or on a row that it
- * inserts or deletes, adds to it; only the lock protects that, and no addition may be lost. Listings of one moment
- * agree with each other.
+ * logged one, or, if it slept or asked, the end of its wait. A transaction that holds BS_X on an account, or on a row
+ * that it inserts or deletes, adds to it; only the lock protects that, and no addition may be lost. Listings of one
+ * moment agree with each other.
  *
  * With a folder each table is traced, for traces.sh. Its calls are then made by the trace, and not logged.
  */
@@ -505,6 +505,42 @@ static void begin_trace(void) {
   fclose(file);
 }
 
+/* A begin that was asked for, whose thread waits for its end without the table. */
+struct asked_begin {
+  pthread_mutex_t latch;
+  pthread_cond_t came;
+  bool has_come;
+  bs_reply end;
+};
+
+static void hear_begin(void *context, bs_txn txn, bs_reply end, void *word) {
+  struct asked_begin *own = (struct asked_begin *)word;
+  WANT(context == NULL && same_txn(txn, end.txn));
+  pthread_mutex_lock(&own->latch);
+  WANT(!own->has_come);
+  own->has_come = true;
+  own->end = end;
+  pthread_cond_signal(&own->came);
+  pthread_mutex_unlock(&own->latch);
+}
+
+static bs_reply ask_begin(uint64_t since) {
+  struct asked_begin own;
+  bs_reply reply;
+  pthread_mutex_init(&own.latch, NULL);
+  pthread_cond_init(&own.came, NULL);
+  own.has_come = false;
+  reply = bs_table_ask_begin_again(table, since, NULL, &own);
+  pthread_mutex_lock(&own.latch);
+  WANT(reply.status == BS_WAITING || !own.has_come);
+  while (reply.status == BS_WAITING && !own.has_come) pthread_cond_wait(&own.came, &own.latch);
+  if (own.has_come) reply = own.end;
+  pthread_mutex_unlock(&own.latch);
+  pthread_cond_destroy(&own.came);
+  pthread_mutex_destroy(&own.latch);
+  return reply;
+}
+
 static void set_up(uint32_t detect, uint32_t victims, uint32_t most) {
   size_t i;
   log_count = 0;
@@ -513,6 +549,7 @@ static void set_up(uint32_t detect, uint32_t victims, uint32_t most) {
   memset(free_game, 0, sizeof free_game);
   is_over = false;
   DONE(make_table(&table, detect, victims, most));
+  DONE(bs_table_on_end(table, hear_begin, NULL));
   if (folder != NULL) begin_trace();
   root = DONE(bs_table_add_inner(table, NULL, 0)).node;
   for (i = 0; i < AREAS; i++) areas[i] = DONE(bs_table_add_inner(table, &root, 1)).node;
@@ -898,8 +935,9 @@ static void name_game(struct session *s, bool is_game) {
   pthread_mutex_unlock(&names);
 }
 
-/* Work whose transaction was a victim begins again, and keeps its turn. */
-static bs_txn begin_work(const struct session *s) {
+/* Work whose transaction was a victim begins again, and keeps its turn. Some ask for their begins. */
+static bs_txn begin_work(struct session *s) {
+  if (pick(s, 3) == 0) return as_begun(DONE(ask_begin(s->since == 0 ? UINT64_MAX : s->since))).txn;
   if (s->since == 0) return as_begun(DONE(bs_table_begin_in_turn(table, NULL))).txn;
   return as_begun(DONE(bs_table_begin_again_in_turn(table, s->since, NULL))).txn;
 }

@@ -96,9 +96,26 @@ run-keeps-the-slot	/^size_t bs_table_run(/,/^}/s/^  table_hand_on(table);$//
 section-keeps-the-slot	/^bs_reply bs_table_let_go(/,/^}/s/^  table_hand_on(table);$//
 one-slot-is-handed-on	s/  for (; begun.count != 0; begun = .*/  if (begun.count != 0) {/
 time-before-queued-begin	s/  if (own->begun.status == BS_WAITING) {/  if (late == ETIMEDOUT) {/
-queued-begin-wakes-nobody	s/    pthread_cond_signal(&own->came);//
+queued-begin-wakes-nobody	s/^  pthread_cond_signal(&own->came);//
 late-begin-stays-in-the-queue	s/^    bs_call_withdraw_begin(.*//
-who-began-is-still-counted	s/^    table->queued--;$//
+who-began-is-still-counted	/^static void table_end_begin(/,/^}/s/^  table->queued--;$//
+who-was-late-is-still-counted	s/^    table->queued--;$//
+who-waits-for-a-slot-is-not-counted	s/^  if (reply.status == BS_WAITING) table->queued++;//
+asked-begin-has-no-transaction	/^static void table_end_asked_begin(/,/^}/s/^  ask->txn = came.txn;//
+asked-begin-is-not-told	/^static void table_end_asked_begin(/,/^}/s/^  table_has_to_tell(.*//
+asked-work-is-new	/^bs_reply bs_table_ask_begin_again(/,/^}/s/table_begin_or_wait(table, since, /table_begin_or_wait(table, TABLE_NEW_WORK, /
+asked-work-is-new-in-the-trace	/^bs_reply bs_table_ask_begin_again(/,/^}/s/own->begin.since = since;/own->begin.since = TABLE_NEW_WORK;/
+asked-begin-has-no-time	/^bs_reply bs_table_ask_begin_again(/,/^}/s/&own->begin, own->begin_time)/\&own->begin, TABLE_NO_TIME)/
+asked-begins-are-not-late	/^bs_reply bs_table_expire(/,/^}/s/^  table_end_late_begins(.*//
+all-begins-are-late	/^bs_reply bs_table_expire(/,/^}/s/table_end_late_begins(table, table_time_of(&now)/table_end_late_begins(table, UINT64_MAX/
+begins-are-late-once	/^static void table_end_late_begins(/,/^}/s/^  for (; late.count != 0; .*/  if (late.count != 0) {/
+all-asked-begins-have-a-time	/^static uint64_t table_count_timed_begins(/,/^}/s/count += ask->begin_time != TABLE_NO_TIME;/count++;/
+next-time-is-of-no-begin	/^static uint64_t table_count_timed_begins(/,/^}/s/^    if (ask->begin_time < .*//
+next-time-is-of-the-last-begin	/^static uint64_t table_count_timed_begins(/,/^}/s/^    if (ask->begin_time < \*earliest) /    if (ask->begin_time != TABLE_NO_TIME) /
+next-time-is-of-begins-alone	s/^  if (first.status == BS_DONE \&\& first.count < earliest) .*//
+any-begin-is-taken-back	/^static table_asked \*table_asked_by(/,/^}/s/^  while (ask != NULL .*//
+begin-taken-back-is-not-told	/^bs_reply bs_table_cancel_begin(/,/^}/s/^  table_end_begin(.*//
+last-begin-stays-the-last	/^static void table_unlist(/,/^}/s/^  if (list->last == ask) .*//
 ahead-by-a-second-less	s/    time.tv_sec++;//
 asks-are-told-under-the-latch	/table_release_and_tell(bs_table \*table) {/,/^}/s/^  pthread_mutex_unlock(&table->latch);$//; /table_release_and_tell(bs_table \*table) {/,/^}/s/^  if (over.first != NULL) table_tell(&over);/&\n  pthread_mutex_unlock(\&table->latch);/
 one-of-two-is-told	s/^    over->first = next->next;/    over->first = next->next == NULL ? NULL : next->next->next;/
@@ -118,7 +135,7 @@ a-list-tells-nobody	/^size_t bs_table_run(/,/^}/s/  table_release(table);/  pthr
 a-call-tells-nobody	s/  table_release(table);                                         \\/  pthread_mutex_unlock(\&(table)->latch); \\/
 on-end-is-given-twice	s/  if (table->asks != NULL) return table_leave(table, bs_call_only(BS_IN_USE));//
 spare-asks-are-kept	s/  while (table->asks != NULL \&\& table->asks->spare != NULL) {/  while (false) {/
-end-leaves-the-queue	s/    if (queued.count != 0) pthread_cond_signal(.*//
+end-leaves-the-queue	/^static void table_end_waits(/,/^}/s/^  table_end_late_begins(.*//
 watch-takes-an-old-board	s/^    if (board.epoch < seen) bs_read_board(.*//
 watch-reads-no-board-of-now	s/^    if (board.epoch < seen) bs_read_board(.*/    if (board.epoch < seen) board.epoch = seen;/
 caller-keeps-signals-blocked	s/^  pthread_sigmask(SIG_SETMASK, &before, NULL);//
@@ -207,7 +224,7 @@ trace-plays-on-after-a-gap	/^static void trace_cut(/,/^}/s/^  trace->is_cut = tr
 trace-waits-for-its-writer	/^static void trace_put(/,/^}/s/^  if (trace->next + count - .*/  while (trace->next + count - __atomic_load_n(\&trace->tail, __ATOMIC_ACQUIRE) > TRACE_WORDS) continue;/
 trace-does-not-hand-on	s/^  bs_call_hand_on(trace->table);//
 trace-says-no-begin-in-turn	s/^    if (table->is_traced) bs_traced_begun(.*//
-trace-forgets-since-when	s/^  own.since = since;//
+trace-forgets-since-when	s/^  own->queued.since = since;//
 trace-says-no-forgotten-rows	s/^  if (trace->said < accepted) trace_say_forgotten(.*//
 trace-says-no-adopted-rows	/^static void trace_say_row(/,/^}/s/^    trace_say(trace, &adopted, .*//
 trace-hides-what-it-does-not-know	/^static bs_reply trace_end_call(/,/^}/s/^  if (trace->said == accepted) return reply;/  trace->said = accepted;\n&/
@@ -249,7 +266,7 @@ nobody-is-to-wake	/^    table->to_wake.words/{n;s/.*//}
 an-end-wakes-in-the-first-word	s/table->to_wake.words\[slot \/ 64\] |= /table->to_wake.words[0] |= /
 last-end-alone-wakes	s/table->to_wake.words\[slot \/ 64\] |= /table->to_wake.words[slot \/ 64] = /
 an-end-is-told-within-the-ask	s/^  } else if (!ask->is_inside) {/  } else {/
-an-end-is-not-to-be-told	/^    table->to_tell++;$/{n;s/.*//}
+an-end-is-not-to-be-told	/ table_has_to_tell(bs_table/,/^}/s/^  table->is_due = true;//
 listed-instant-stays-held	/^static void table_leave_waiting(/,/^}/s/^  bs_call_await_node(.*//
 listed-instant-is-of-nobody	/^static void table_leave_waiting(/,/^}/s/^  own->txn = request->txn;//
 path-is-awaited-as-a-node	/^static bs_reply table_await(/,/^}/s/  switch (request->kind) {/  switch (TABLE_NODE) {/
@@ -304,7 +321,7 @@ a-try-of-a-path-is-refused-for-who-rests	/ table_path_tried(/,/^}/s/^  if (!tabl
 an-escalation-is-refused-for-who-rests	/ table_do_escalate(/,/^}/s/^  if (!table_may_clear(table, reply) .*/  return reply;/
 who-rests-tells-nobody	/ table_ended_resting(/,/^}/s/^  table_tell_too(told, more);//
 a-begin-finds-no-slot	s/^  return __builtin_expect(reply.status == BS_TOO_MANY_TXNS, 0) \&\& table->has_rested .*/  return false;/
-a-begin-sleeps-while-one-rests	/ table_begin_or_sleep(/,/^}/s/^  if (table->has_rested) {/  if (false) {/
+a-begin-waits-while-one-rests	/ table_begin_or_wait(bs_table/,/^}/s/^  if (table->has_rested) {/  if (false) {/
 a-list-begins-without-a-slot	s/^    case BS_DO_BEGIN: return table_begin_now(table);/    case BS_DO_BEGIN: return table_make_begin(table);/
 one-rests-while-others-sleep	s/^  uint32_t keep = table->queued > 0 ? 0 : /  uint32_t keep = /
 a-session-keeps-more	/ table_first_intentions(/,/^}/s/count < session->most; count++/; count++/
@@ -343,7 +360,7 @@ found() {
   local there=$work/$1
   mkdir -p "$there" && cp "$top"/c/*.[ch] "$there/" && sed -i "$2" "$there"/*.c || return 1
   ! diff -q "$top/c" "$there" -x out >/dev/null || { echo "faults.sh: $1 changes nothing"; return 1; }
-  says "$there" shared 5 && says "$there" asks 5 100 && says "$there" waits 5 && says "$there" sessions 5 &&
+  says "$there" shared 5 && says "$there" asks 5 100 && says "$there" begins 5 && says "$there" waits 5 && says "$there" sessions 5 &&
     says "$there" own_ends 20 && says "$there" running 5 && says "$there" traces 5 && says "$there" crowd 4 4
   [ $? -eq 1 ] || { echo "faults.sh: $1 was not found"; return 1; }
   echo "$1: found: $(grep -E ': (hangs|not so|[a-z_]*: not so)' "$there/said" | tail -n 1 | sed 's/^[^ ]*\.[ch]:[0-9]*: //')"

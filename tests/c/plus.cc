@@ -97,6 +97,9 @@ static bool runs() {
 static bool keeps() {
   if (bs_table_make(&table, NULL).status != BS_DONE) return false;
   root = bs_table_add_inner(table, NULL, 0).node;
+  if (bs_table_ask_begin(table, NULL, NULL).status != BS_NULL_POINTER) return false;
+  if (bs_table_ask_begin_again(table, 1, NULL, NULL).status != BS_NULL_POINTER) return false;
+  if (bs_table_cancel_begin(table, NULL).status != BS_NOT_WAITING) return false;
   bs_session session = bs_session_of(table, 1);
   bs_txn first = bs_session_begin(&session, NULL).txn;
   if (bs_table_lock(table, first, root, BS_IX, NULL).status != BS_DONE) return false;

@@ -50,8 +50,9 @@ for tool in "$@"; do
     short)
       if compile shared-tsan shared -fsanitize=thread 2>/dev/null; then
         quiet "tsan, the stories" "$work/shared-tsan" 60 256 || status=1
-        compile asks-tsan asks -fsanitize=thread || exit 1
+        compile asks-tsan asks -fsanitize=thread && compile begins-tsan begins -fsanitize=thread || exit 1
         quiet "tsan, the asks" "$work/asks-tsan" 60 60 || status=1
+        quiet "tsan, asked begins" "$work/begins-tsan" 60 60 || status=1
         compile waits-tsan waits -fsanitize=thread && compile own_ends-tsan own_ends -fsanitize=thread &&
           compile running-tsan running -fsanitize=thread && compile traces-tsan traces -fsanitize=thread || exit 1
         quiet "tsan, the waits" "$work/waits-tsan" 60 || status=1
@@ -59,11 +60,12 @@ for tool in "$@"; do
         quiet "tsan, times" "$work/running-tsan" 60 || status=1
         quiet "tsan, traces" "$work/traces-tsan" 60 || status=1
       elif command -v valgrind >/dev/null; then
-        compile shared shared && compile asks asks && compile waits waits && compile own_ends own_ends &&
-          compile running running || exit 1
+        compile shared shared && compile asks asks && compile begins begins && compile waits waits &&
+          compile own_ends own_ends && compile running running || exit 1
         watched[1]=--tool=helgrind
         quiet "helgrind, the stories" "${watched[@]}" "$work/shared" 300 256 || status=1
         quiet "helgrind, the asks" "${watched[@]}" "$work/asks" 300 20 || status=1
+        quiet "helgrind, asked begins" "${watched[@]}" "$work/begins" 300 20 || status=1
         quiet "helgrind, the waits" "${watched[@]}" "$work/waits" 300 || status=1
         quiet "helgrind, own ends" "${watched[@]}" "$work/own_ends" 300 || status=1
         quiet "helgrind, times" "${watched[@]}" "$work/running" 300 || status=1
@@ -74,14 +76,16 @@ for tool in "$@"; do
       ;;
     tsan)
       if ! compile shared-tsan shared -fsanitize=thread || ! compile asks-tsan asks -fsanitize=thread ||
-        ! compile waits-tsan waits -fsanitize=thread || ! compile own_ends-tsan own_ends -fsanitize=thread ||
-        ! compile running-tsan running -fsanitize=thread || ! compile traces-tsan traces -fsanitize=thread ||
+        ! compile begins-tsan begins -fsanitize=thread || ! compile waits-tsan waits -fsanitize=thread ||
+        ! compile own_ends-tsan own_ends -fsanitize=thread || ! compile running-tsan running -fsanitize=thread ||
+        ! compile traces-tsan traces -fsanitize=thread ||
         ! compile crowd-tsan crowd -fsanitize=thread; then
         echo "tsan: this compiler has none, so nothing was tried"
         continue
       fi
       quiet "tsan, the stories" "$work/shared-tsan" 300 || status=1
       quiet "tsan, the asks" "$work/asks-tsan" 300 || status=1
+      quiet "tsan, asked begins" "$work/begins-tsan" 300 || status=1
       quiet "tsan, the waits" "$work/waits-tsan" 300 || status=1
       quiet "tsan, own ends" "$work/own_ends-tsan" 300 || status=1
       quiet "tsan, times" "$work/running-tsan" 300 || status=1
@@ -93,10 +97,11 @@ for tool in "$@"; do
         echo "$tool: valgrind is not found, so nothing was tried"
         continue
       fi
-      compile shared shared && compile asks asks && compile waits waits && compile own_ends own_ends &&
-        compile running running && compile crowd crowd || exit 1
+      compile shared shared && compile asks asks && compile begins begins && compile waits waits &&
+        compile own_ends own_ends && compile running running && compile crowd crowd || exit 1
       quiet "$tool, the stories" "${watched[@]}" "$work/shared" 900 256 || status=1
       quiet "$tool, the asks" "${watched[@]}" "$work/asks" 900 20 || status=1
+      quiet "$tool, asked begins" "${watched[@]}" "$work/begins" 900 20 || status=1
       quiet "$tool, the waits" "${watched[@]}" "$work/waits" 900 || status=1
       quiet "$tool, own ends" "${watched[@]}" "$work/own_ends" 900 || status=1
       quiet "$tool, times" "${watched[@]}" "$work/running" 900 || status=1

@@ -30,7 +30,7 @@ mapfile -t libraries < <("$top/tools/c_library.sh" --slots "$slots" 2>"$work/log
 compile() {
   local with=("${libraries[@]}")
   case $1 in
-    shared | crowd | asks | waits | sessions | own_ends) with=(-I"$top/c" "$top"/c/burlapslate_{running,trace}.c "${libraries[@]:1}") ;;
+    shared | crowd | asks | begins | waits | sessions | own_ends) with=(-I"$top/c" "$top"/c/burlapslate_{running,trace}.c "${libraries[@]:1}") ;;
     running) with=(-I"$top/c" "$top/c/burlapslate_trace.c" "${libraries[@]:1}") ;;
     traces) with=(-I"$top/c" "$top/c/burlapslate_running.c" "${libraries[@]:1}") ;;
     schemas | twins | scenarios) with=("$top/tests/c/naive.c" "${libraries[@]}") ;;
@@ -92,6 +92,8 @@ compile shared -Wl,--wrap=malloc,--wrap=realloc,--wrap=free || exit 1
 timeout 60 "$work/shared" || exit 1
 compile asks -Wl,--wrap=malloc,--wrap=realloc,--wrap=free || exit 1
 timeout 120 "$work/asks" || exit 1
+compile begins -Wl,--wrap=malloc,--wrap=realloc,--wrap=free || exit 1
+timeout 60 "$work/begins" || exit 1
 compile waits -Wl,--wrap=malloc,--wrap=realloc,--wrap=free || exit 1
 timeout 60 "$work/waits" || exit 1
 compile sessions -Wl,--wrap=malloc,--wrap=realloc,--wrap=free || exit 1

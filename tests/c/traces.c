@@ -382,14 +382,17 @@ static void *begin_in_turn_again(void *arg) {
   return NULL;
 }
 
-/* More threads than slots: each begins in its turn, within the call that frees a slot, before the list continues. */
+/* More threads and asks than slots: each begins in its turn, within the call that frees a slot, before the list
+ * continues. */
 static void begins_in_turn(void) {
   struct sleeper s[2];
+  struct heard h[2];
   bs_txn txns[BS_SLOTS];
   bs_command list[3];
   size_t i;
   open_file();
   DONE(make_table(&table, BS_AT_BLOCK, BS_YOUNGEST, 4));
+  DONE(bs_table_on_end(table, hear, &context_word));
   DONE(bs_table_trace(table, traced_into));
   for (i = 0; i < 4; i++) txns[i] = begin();
   for (i = 0; i < 2; i++) {
@@ -397,13 +400,23 @@ static void begins_in_turn(void) {
     start(&s[i].thread, i == 0 ? fall_asleep : begin_in_turn_again, &s[i]);
     await_sleepers(i + 1);
   }
+  for (i = 0; i < 2; i++) {
+    begin_asking(&h[i], bs_call_only(BS_DONE).txn, NULL);
+    h[i].begins = true;
+    WAITS(i == 0 ? bs_table_ask_begin(table, NULL, &h[i]) : bs_table_ask_begin_again(table, 2, NULL, &h[i]));
+  }
+  asking = NULL;
   list[0] = bs_do(BS_DO_COMMIT, txns[3]);
   list[1] = bs_do(BS_DO_ADD_INNER, bs_begun());
   list[2] = bs_do(BS_DO_ABORT, txns[1]);
   WANT(bs_table_run(table, list, 3) == 3);
   for (i = 0; i < 2; i++) WANT(BACK(&s[i], BS_DONE).txn.age == 5 + i);
   WANT(s[0].reply.txn.slot == 3 && s[1].reply.txn.slot == 1);
-  end_trace_with("commit t3\n= ok\nbegin t3\n= ok\ninner n1\n= ok\nabort t1\n= ok\nbegin t1 again 1\n= ok\n");
+  DONE(bs_table_commit(table, txns[0], NULL));
+  DONE(bs_table_abort(table, txns[2], NULL));
+  for (i = 0; i < 2; i++) WANT(HEARD_BY_NOW(&h[i], BS_DONE).txn.age == 7 + i);
+  end_trace_with("commit t3\n= ok\nbegin t3\n= ok\ninner n1\n= ok\nabort t1\n= ok\nbegin t1 again 1\n= ok\n"
+                 "commit t0\n= ok\nbegin t0\n= ok\nabort t2\n= ok\nbegin t2 again 2\n= ok\n");
 }
 
 /* What was told and written is what the calls answered: threads jostle for a few nodes. */

@@ -69,6 +69,7 @@ static inline bs_txn begin_writer(void) {
 /* What is heard of an ask: it is the word of the ask. */
 struct heard {
   bs_txn txn;
+  bool begins; /* it is an ask of a begin, which has its transaction at its end */
   int calls;
   int place; /* its call was the how manieth of the story, from 0 on */
   bs_reply end;
@@ -96,8 +97,9 @@ static inline void hear(void *context, bs_txn txn, bs_reply end, void *word) {
   if (lent != NULL) DONE(bs_table_let_go(table));
   pthread_mutex_lock(&ear);
   WANT(is_ending || (lent == NULL) == (end.status == BS_NO_MANAGER));
-  WANT(same_txn(h->txn, txn));
+  WANT(same_txn(h->begins ? end.txn : h->txn, txn));
   WANT(h->calls == 0);
+  h->txn = txn;
   h->place = calls++;
   h->end = end;
   h->by = pthread_self();

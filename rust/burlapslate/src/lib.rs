@@ -29,8 +29,8 @@
 //! Threads share a [`Table`]. Each begins a [`Session`], whose lock calls sleep until the lock is
 //! granted, and which is aborted if it is dropped without a commit. If there are more threads than slots
 //! they [begin in turn](Table::begin_in_turn). A thread keeps its intentions from one transaction to the next
-//! ([`Session::rest`]). A task of a runtime awaits its locks, and no thread sleeps
-//! ([`Session::lock_async`]). A [`Watcher`] reads who waits for whom without the mutex. A table says how long waits last and
+//! ([`Session::rest`]). A task of a runtime awaits its begin and its locks, and no thread sleeps
+//! ([`Table::begin_async`], [`Session::lock_async`]). A [`Watcher`] reads who waits for whom without the mutex. A table says how long waits last and
 //! where ([`Table::waits`], [`Table::awaited`], [`Table::metrics`]), and tells of long ones ([`Table::on_long_wait`]). What it
 //! does can be written as a script ([`Table::trace`]).
 //!
@@ -80,7 +80,7 @@
 //! [`rekey`](Manager::rekey), [`escalate`](Manager::escalate), of nodes and of rows. The others are
 //! refused with [`Refusal::NoMemory`] if the allocator refuses, and can be made again. Beside the library's
 //! memory a manager takes 40 bytes for each slot when it is made, for the notices, and a table 56, for the waits of
-//! futures; and none afterwards. But a list of tries takes some for the list, a function of [`Table::on_long_wait`] for itself and
+//! futures; and none afterwards. But a list of tries takes some for the list, a begin of a future that waits for itself, a function of [`Table::on_long_wait`] for itself and
 //! its thread, and a try of a path that keeps nothing for
 //! the nodes that it acquires.
 //!

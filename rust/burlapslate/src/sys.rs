@@ -23,6 +23,7 @@ use std::panic::UnwindSafe;
 use std::ptr::NonNull;
 
 pub(crate) mod awaited;
+pub(crate) mod begun;
 pub(crate) mod running;
 pub(crate) mod shared;
 

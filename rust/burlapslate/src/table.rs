@@ -15,6 +15,7 @@ use std::sync::{Arc, Condvar, Mutex, MutexGuard, PoisonError};
 use std::time::{Duration, Instant};
 
 pub(crate) use asks::{Locking, Sought};
+use begins::Beginning;
 pub use running::{Awaited, AwaitedNode, Blocker, Histogram, LongWait, Told, WaitEnd, Waits};
 
 /// A table of granular locks that threads share: a [`Manager`] behind one mutex, its latch, with a
@@ -78,9 +79,9 @@ impl Table {
         })
     }
 
-    /// A new transaction, for this thread. While a thread sleeps for a slot
-    /// ([`begin_in_turn`](Table::begin_in_turn)) no slot is free, and the call is refused with
-    /// [`TooManyTxns`](Refusal::TooManyTxns).
+    /// A new transaction, for this thread. While others wait for a slot
+    /// ([`begin_in_turn`](Table::begin_in_turn), [`begin_async`](Table::begin_async)) no slot is free, and the call
+    /// is refused with [`TooManyTxns`](Refusal::TooManyTxns).
     ///
     /// Refused as [`Manager::begin`].
     pub fn begin(&self) -> Result<Session<'_>, Refusal> {
@@ -88,8 +89,8 @@ impl Table {
     }
 
     /// As [`begin`](Table::begin), but if all slots are taken the thread sleeps until it has one. Threads
-    /// that sleep for a slot are served in the order of their arrival: the thread that ends a transaction
-    /// begins the next one for the first of them.
+    /// and tasks that wait for a slot are served in the order of their arrival: the thread that ends a
+    /// transaction begins the next one for the first of them.
     ///
     /// A thread that sleeps for a slot has no transaction there, so it is on no cycle of waits. If it has
     /// another session open it may wait for itself, and no detection finds that.
@@ -159,6 +160,48 @@ impl Table {
         }
     }
 
+    /// As [`begin_in_turn`](Table::begin_in_turn), for a task: if all slots are taken, it waits in the same queue
+    /// as the threads that sleep, and no thread sleeps for it. The thread that ends a transaction begins the next
+    /// one and wakes the task. A task that polls rarely keeps its slot from others meanwhile.
+    ///
+    /// A future that is dropped while it waits takes its begin back; a transaction that has begun by then is
+    /// aborted. A leaked future waits on, and keeps the slot that it gets.
+    ///
+    /// Refused as [`Manager::begin`], but never with [`TooManyTxns`](Refusal::TooManyTxns); and with
+    /// [`InUse`](Refusal::InUse) while the thread holds this table ([`with`](Table::with)).
+    ///
+    /// ```
+    /// # use burlapslate::{Detect, Table};
+    /// # use std::future::Future;
+    /// # use std::pin::pin;
+    /// # use std::task::{Context, Poll, Wake, Waker};
+    /// # use std::sync::Arc;
+    /// # struct Nobody;
+    /// # impl Wake for Nobody {
+    /// #     fn wake(self: Arc<Nobody>) {}
+    /// # }
+    /// # let waker = Waker::from(Arc::new(Nobody));
+    /// # let mut context = Context::from_waker(&waker);
+    /// let table = Table::new(Detect::AtBlock, 1)?;
+    /// let first = table.begin()?;
+    /// let mut begin = pin!(table.begin_async()); // As a runtime polls it:
+    /// assert!(begin.as_mut().poll(&mut context).is_pending());
+    /// first.commit()?; // It wakes the task.
+    /// let Poll::Ready(second) = begin.as_mut().poll(&mut context) else { unreachable!() };
+    /// second?.commit()?;
+    /// # Ok::<(), burlapslate::Refusal>(())
+    /// ```
+    pub async fn begin_async(&self) -> Result<Session<'_>, Refusal> {
+        self.begin_again_async(u64::MAX).await
+    }
+
+    /// As [`begin_async`](Table::begin_async), for work that an earlier transaction began. It gives no earlier
+    /// place in the queue.
+    pub async fn begin_again_async(&self, since: u64) -> Result<Session<'_>, Refusal> {
+        let begun = Beginning::new(self, since).await;
+        self.begun(begun)
+    }
+
     /// As [`begin`](Table::begin), for a session that is one of the table's owners: what stores the session,
     /// such as a connection, need not store the table.
     ///
@@ -200,6 +243,19 @@ impl Table {
         since: u64,
     ) -> Result<Session<'static>, Refusal> {
         Ok(Session::shared(self, self.begin_again_in_turn(since)?))
+    }
+
+    /// As [`begin_async`](Table::begin_async), for a session that is one of the table's owners.
+    pub async fn begin_shared_async(self: &Arc<Table>) -> Result<Session<'static>, Refusal> {
+        Ok(Session::shared(self, self.begin_async().await?))
+    }
+
+    /// As [`begin_again_async`](Table::begin_again_async), for a session that is one of the table's owners.
+    pub async fn begin_shared_again_async(
+        self: &Arc<Table>,
+        since: u64,
+    ) -> Result<Session<'static>, Refusal> {
+        Ok(Session::shared(self, self.begin_again_async(since).await?))
     }
 
     /// As [`begin_timeout`](Table::begin_timeout), for a session that is one of the table's owners.
@@ -406,4 +462,5 @@ impl fmt::Debug for Table {
 }
 
 mod asks;
+mod begins;
 mod running;

@@ -1,8 +1,10 @@
 //! Asks of futures, and the ends of their waits, as `include/burlapslate_shared.h` declares the calls of both.
 //!
 //! A slot has one ask that waits at most. So each slot of a table has one place for a waker and for the end of a wait, and
-//! the word of an ask is a number: by that a late end, of an ask that nobody awaits any more, is told from the next one's.
+//! the word of an ask is an even number: by that a late end, of an ask that nobody awaits any more, is told from the next
+//! one's, and from that of a [`begun`].
 
+use super::begun;
 use super::shared::{Shared, Until};
 use super::{numbers, Reply, NO_MANAGER, WAITING};
 use crate::names::{Node, Row, Txn};
@@ -59,7 +61,7 @@ pub(super) struct Waits([Mutex<Wait>; SLOTS]);
 
 /// The wait of a slot's last ask.
 struct Wait {
-    /// That of the ask: each has another.
+    /// That of the ask: each has another even one.
     number: usize,
     waker: Option<Waker>,
     /// How it ended, after that.
@@ -126,7 +128,7 @@ impl Waits {
     /// told yet: then that task is woken here, since its end finds another number.
     fn begin(&self, txn: Txn, waker: Waker) -> usize {
         let mut wait = self.of(txn);
-        wait.number += 1;
+        wait.number = wait.number.wrapping_add(2);
         wait.end = None;
         let before = wait.waker.replace(waker);
         let number = wait.number;
@@ -239,7 +241,7 @@ fn resume() {
 }
 
 /// Wakes a task, and keeps the panic of its waker.
-fn wake(waker: Waker) {
+pub(super) fn wake(waker: Waker) {
     let was_waking = IS_WAKING.replace(true);
     let woken = catch_unwind(AssertUnwindSafe(|| waker.wake()));
     IS_WAKING.set(was_waking);
@@ -249,12 +251,16 @@ fn wake(waker: Waker) {
     }
 }
 
-/// The callback of all tables: stores how a wait ended, and wakes the task after that.
+/// The callback of all tables: stores how a wait or a begin ended, and wakes the task after that.
 ///
 /// # Safety
 ///
 /// The context is the table's [`Waits`], which are there until the table has ended.
 unsafe extern "C" fn on_end(context: *const c_void, txn: Txn, end: Reply, word: usize) {
+    // SAFETY: each ask of a table of this crate is a future's.
+    if unsafe { begun::ends(word, end) } {
+        return;
+    }
     // SAFETY: the table has not ended.
     let waits = unsafe { &*context.cast::<Waits>() };
     let end = match end.status {

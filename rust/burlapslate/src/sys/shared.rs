@@ -5,6 +5,7 @@
 //! no thread is in a call then, because each call borrows it.
 
 use super::awaited::{self, Sought, Waits};
+use super::begun::{Asked, Begin};
 use super::running::{Listener, Telling};
 use super::{assert_fits, nodes, numbers, Notice, Notices, Options, Pinned, Place, Reply};
 use super::{WatcherPlace, DONE, IN_USE};
@@ -403,6 +404,11 @@ impl Table {
     pub(crate) fn cancels(&self, txn: Txn, number: usize) -> bool {
         let waits = self.waits().forget_waker(txn, number);
         waits && bs_table_cancel(&self.call(), txn, None).status == DONE
+    }
+
+    /// Makes the ask of a begin, whose end wakes this waker if it waits. It is a call of its caller.
+    pub(crate) fn ask_begin(&self, since: u64, waker: &Waker) -> Asked<'_> {
+        Begin::ask(self.shared(), since, waker)
     }
 
     /// Gives a listener of long waits and deadlocks, or takes it back.
