@@ -155,8 +155,8 @@ bs_reply bs_traced_lock_row(bs_trace *trace, bs_txn txn, bs_node file, uint64_t 
 bs_reply bs_traced_call_try_row(bs_trace *trace, bs_txn txn, bs_node file, uint64_t number, const uint64_t *keys,
                                 size_t count, bs_mode mode, bs_notices *told);
 bs_reply bs_traced_call_commit_and_rest(bs_trace *trace, bs_txn txn, size_t keep, uint64_t since, bs_notices *told);
-bs_reply bs_traced_call_clear_way(bs_trace *trace, bs_notices *told);
-bs_reply bs_traced_call_clear_node(bs_trace *trace, bs_node node, bs_mode mode, bs_notices *told);
+bs_reply bs_traced_call_clear_way(bs_trace *trace, uint32_t one, bs_notices *told);
+bs_reply bs_traced_call_clear_node(bs_trace *trace, bs_node node, bs_mode mode, uint32_t one, bs_notices *told);
 bs_reply bs_traced_call_make_room(bs_trace *trace, bs_notices *told);
 bs_reply bs_traced_call_go_on(bs_trace *trace, bs_notices *told);
 bs_reply bs_traced_call_time_out(bs_trace *trace, bs_txn txn, bs_notices *told);

@@ -157,6 +157,9 @@ struct bs_table {
 #define TABLE_APART __attribute__((noinline))
 #define TABLE_IN_LINE inline __attribute__((always_inline))
 
+/* Of those who rest, a call ends all who are to be ended, and not one alone. */
+#define TABLE_ALL 0
+
 /* Each command of the manager is made by a function table_make_*: by the manager's call of that name, or, of a traced
  * table, by that of the trace, which makes the call and says it. */
 #define TABLE_MAKES(call, parameters, ...)                                                          \
@@ -204,8 +207,8 @@ TABLE_MAKES(call_try_row, (bs_table *table, bs_txn txn, bs_node file, uint64_t n
             size_t count, bs_mode mode, bs_notices *told), txn, file, number, keys, count, mode, told)
 TABLE_MAKES(call_commit_and_rest, (bs_table *table, bs_txn txn, size_t keep, uint64_t since, bs_notices *told),
             txn, keep, since, told)
-TABLE_MAKES(call_clear_way, (bs_table *table, bs_notices *told), told)
-TABLE_MAKES(call_clear_node, (bs_table *table, bs_node node, bs_mode mode, bs_notices *told), node, mode, told)
+TABLE_MAKES(call_clear_way, (bs_table *table, bs_notices *told), TABLE_ALL, told)
+TABLE_MAKES(call_clear_node, (bs_table *table, bs_node node, bs_mode mode, bs_notices *told), node, mode, TABLE_ALL, told)
 TABLE_MAKES(call_make_room, (bs_table *table, bs_notices *told), told)
 TABLE_MAKES(call_go_on, (bs_table *table, bs_notices *told), told)
 TABLE_MAKES(call_time_out, (bs_table *table, bs_txn txn, bs_notices *told), txn, told)
@@ -394,7 +397,7 @@ static void table_gone_on(bs_table *table, bs_reply came) {
   else table_end(table, waiter, came.txn.slot, came);
 }
 
-/* Whether a call has ended one who rested. Adds what that told. */
+/* Whether a call has ended some who rested. Adds what that told. */
 static TABLE_APART bool table_ended_resting(bs_table *table, bs_reply reply, const bs_notices *more, bs_notices *told) {
   if (reply.status != BS_DONE) return false;
   table_note_ended(table, more);

@@ -750,19 +750,21 @@ bs_reply bs_traced_call_commit_and_rest(bs_trace *trace, bs_txn txn, size_t keep
   return trace_end(trace, &line, reply, NULL);
 }
 
-/* The end of one who rested is its commit. */
+/* The end of one who rested is its commit, and a line. So a traced table ends one at a time. */
 static bs_reply trace_end_resting(bs_trace *trace, bs_reply reply, const bs_notices *told) {
   trace_line line = trace_line_of(TRACE_COMMIT, reply.txn, BS_NL);
   if (reply.status == BS_DONE) trace_say(trace, &line, bs_call_only(BS_DONE), told);
   return trace_end_call(trace, reply);
 }
 
-bs_reply bs_traced_call_clear_way(bs_trace *trace, bs_notices *told) {
-  return trace_end_resting(trace, bs_call_clear_way(trace->manager, told), told);
+bs_reply bs_traced_call_clear_way(bs_trace *trace, uint32_t one, bs_notices *told) {
+  (void)one;
+  return trace_end_resting(trace, bs_call_clear_way(trace->manager, 1, told), told);
 }
 
-bs_reply bs_traced_call_clear_node(bs_trace *trace, bs_node node, bs_mode mode, bs_notices *told) {
-  return trace_end_resting(trace, bs_call_clear_node(trace->manager, node, mode, told), told);
+bs_reply bs_traced_call_clear_node(bs_trace *trace, bs_node node, bs_mode mode, uint32_t one, bs_notices *told) {
+  (void)one;
+  return trace_end_resting(trace, bs_call_clear_node(trace->manager, node, mode, 1, told), told);
 }
 
 bs_reply bs_traced_call_make_room(bs_trace *trace, bs_notices *told) {

@@ -5,6 +5,7 @@ pub mod Beginning
 pub mod Commands
 pub mod Counting
 pub mod Delivered
+pub mod EndedRests
 pub mod Paths
 pub mod Renewed
 pub mod Rests

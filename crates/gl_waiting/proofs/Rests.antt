@@ -23,17 +23,10 @@ use Rattle.gl_steps.specs.Promises.{names, same_txn}
 use Rattle.gl_fairness.specs.Aside.{IsActive, StaysAside, is_left_waiting, some_left_waiting}
 use Rattle.gl_fairness.proofs.Aside.{leaves_aside}
 use Rattle.gl_rows.specs.Locking.{Line}
-use Rattle.gl_catalog.specs.Manager.{state_of}
 use Rattle.gl_table.specs.Table.{living_in, named_in}
-use Rattle.gl_model.specs.Tellings.{Told}
-use Rattle.gl_rows.specs.declared.answer.RowAnswer.{RowAnswer}
 use Rattle.gl_slots.specs.declared.slots.Slots.{Slots}
-use Rattle.gl_waiting.specs.Going.{IsRun, IsRunOf}
-use Rattle.gl_waiting.specs.Waiting.{WaitingView}
-use Rattle.gl_waiting.specs.declared.resting.Whom.{Whom}
-use Rattle.gl_waiting.specs.declared.set_off.SetOff.{SetOff}
-use Rattle.gl_waiting.proofs.TurnRuns.{same_run, turn_run}
-use Rattle.gl_waiting.specs.Resting.{ActsIn, ChoosesSome, EndsSome, NobodyWaitsForThem, acting_in, RestOn, RestingView, RestsWell, is_slot}
+use Rattle.gl_waiting.specs.Going.{IsRunOf}
+use Rattle.gl_waiting.specs.Resting.{ActsIn, NobodyWaitsForThem, RestOn, RestingView, RestsWell, acting_in, is_slot}
 use Rattle.gl_waiting.proofs.Runs.{commands}
 
 -- who waits for somebody waits
@@ -123,19 +116,7 @@ acting_acts (command.Drop u n) t h = same_slot t u h
 acting_acts (command.IndexBy u ps f bs) t h = same_slot t u h
 acting_acts c t h = absurd (no h)
 
--- one who rests is ended by its own commands
-pub ends_run : (v : WaitingView) (o : Option (TxnId × RowAnswer)) (told : Told) (off : SetOff) (v' : WaitingView) → EndsSome v o told off v'
-    → IsRun (state_of v.manager) (state_of v'.manager)
-ends_run v (Some x) told off v' h = (turn_run v _ off v' h (command.Commit x.0) (λ own mid k. k.run)).0
-ends_run v None told off v' h = (same_run command.Begin v v' h.2).0
-
--- nobody stops resting if nothing was counted
-pub chosen_idle : (w : Whom) (v : WaitingView) (o : Option (TxnId × RowAnswer)) (v' : WaitingView) (r r' : Slots) → ChoosesSome w v o v' r r'
-    → v'.manager.accepted ≡ v.manager.accepted → r' ≡ r
-chosen_idle w v (Some x) v' r r' h same = h.rouses.uncounted same
-chosen_idle w v None v' r r' h same = h.1
-
-and_true : (b : Bool) → (b && true) ≡ b
+pub and_true : (b : Bool) → (b && true) ≡ b
 and_true true = refl
 and_true false = refl
 

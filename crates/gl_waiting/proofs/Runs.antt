@@ -25,12 +25,12 @@ use Rattle.gl_waiting.specs.Delivering.{Carries, DeliveryView}
 use Rattle.gl_waiting.specs.Ends.{CallWith}
 use Rattle.gl_waiting.specs.Going.{Call, IsRunOf}
 
-lines_then : (s mid s' : State) (xs ys : List Line) → Runs s xs mid → Runs mid ys s' → Runs s (xs ++ ys) s'
+pub lines_then : (s mid s' : State) (xs ys : List Line) → Runs s xs mid → Runs mid ys s' → Runs s (xs ++ ys) s'
 lines_then s mid s' [] ys run next = subst (λ (x : State). Runs x ys s') run next
 lines_then s mid s' (x ∷ xs) ys run next = (run.0, run.1, lines_then run.0 mid s' xs ys run.2 next)
 
 -- a run counts no fewer commands than were counted before it
-run_low : (lines : List Line) (s s' : State) → Runs s lines s' → s.accepted ≤ s'.accepted
+pub run_low : (lines : List Line) (s s' : State) → Runs s lines s' → s.accepted ≤ s'.accepted
 run_low [] s s' run = let same : s'.accepted ≡ s.accepted = ap (λ (x : State). x.accepted) run in omega (arith, same)
 run_low (l ∷ lines) s s' run =
     let counts = step_counts s l.0 l.1.0 l.1.1 run.0 run.1 in

@@ -1,5 +1,6 @@
 -- Transactions that rest: active ones that have done nothing, and hold intentions for what their session begins next.
-use Rattle.std.specs.Prelude.{◌≡◌, ◌||◌, ◌&&◌, ◌==◌, ◌≤◌, ℕ, Bool, true, false, not, [], Option, Some, None, Result, Ok, Err}
+use Rattle.std.specs.Prelude.{◌≡◌, ◌||◌, ◌&&◌, ◌==◌, ◌≤◌, ℕ, Bool, true, false, not, List, [], ◌∷◌, Option, Some, None, Result, Ok, Err}
+use Rattle.std.specs.List.{list_any}
 use Rattle.gl_modes.specs.declared.mode.Mode.TheVariants.{IX}
 use Rattle.gl_modes.specs.declared.node.NodeId.{NodeId}
 use Rattle.gl_modes.specs.declared.refusal.Refusal.{Refusal}
@@ -20,6 +21,9 @@ use Rattle.gl_rows.specs.declared.call.RowCall.TheVariants as call
 use Rattle.gl_waiting.specs.Asking.{InTurn, IsNothing, ServesRow}
 use Rattle.gl_waiting.specs.Going.{IsRunOf}
 use Rattle.gl_waiting.specs.Waiting.{WaitingView}
+use Rattle.gl_waiting.specs.declared.resting.Ended.{Ended}
+use Rattle.gl_waiting.specs.declared.resting.Number.{Number}
+use Rattle.gl_waiting.specs.declared.resting.Number.TheVariants as number
 use Rattle.gl_waiting.specs.declared.resting.Whom.{Whom}
 use Rattle.gl_waiting.specs.declared.resting.Whom.TheVariants as whom
 use Rattle.gl_waiting.specs.declared.set_off.SetOff.{SetOff}
@@ -91,21 +95,60 @@ NoneIsChosen whom.InTheWay s r = NobodyWaitsForThem s r
 NoneIsChosen (whom.Holding n m) s r = (u : ℕ) → has_slot r u ≡ true → are_compatible m (s.held u n) ≡ true
 NoneIsChosen whom.Longest s r = HasNoSlot r
 
--- one who rests commits, if one was chosen; else nothing changes
-abbrev pub EndsSome : WaitingView → Option (TxnId × RowAnswer) → Told → SetOff → WaitingView → Type 0
-EndsSome v (Some x) told off v' = InTurn v (λ ended mid. ServesRow v (call.Commit x.0) x.1 told ended mid) off v'
-EndsSome v None told off v' = (told ≡ []) × IsNothing off × (v' ≡ v)
+-- a command was counted
+abbrev pub is_counted : WaitingView → WaitingView → Bool
+is_counted v v' = not (v'.manager.accepted == v.manager.accepted)
 
--- the one who was chosen lived and rested, and rests no more if its commit was counted
-pub record ChoosesOne (w : Whom) (v : WaitingView) (t : TxnId) (v' : WaitingView) (r r' : Slots) : Type 0 where
-  pub rested : has_slot r t.slot ≡ true
+-- a living transaction commits
+pub record Commits (v : WaitingView) (t : TxnId) (a : RowAnswer) (told : Told) (off : SetOff) (v' : WaitingView) : Type 0 where
   pub alive : lives (state_of v.manager) t ≡ true
-  pub chosen : IsChosen w (state_of v.manager) r t.slot
-  pub rouses : Rouses (Some t.slot) v r v' r'
+  pub serves : InTurn v (λ ended mid. ServesRow v (call.Commit t) a told ended mid) off v'
 
--- one is chosen, if one is to be
-abbrev pub ChoosesSome : Whom → WaitingView → Option (TxnId × RowAnswer) → WaitingView → Slots → Slots → Type 0
-ChoosesSome w v (Some x) v' r r' = ChoosesOne w v x.0 v' r r'
+-- the same, which is counted, tells nobody and sets nothing off
+pub record CommitsQuietly (v : WaitingView) (t : TxnId) (v' : WaitingView) : Type 0 where
+  pub answer : RowAnswer
+  pub off : SetOff
+  pub commits : Commits v t answer [] off v'
+  pub nothing : IsNothing off
+  pub counted : is_counted v v' ≡ true
+
+-- these commit so, one after the other
+abbrev pub EachCommitsQuietly : WaitingView → List TxnId → WaitingView → Type 0
+EachCommitsQuietly v [] v' = v' ≡ v
+EachCommitsQuietly v (t ∷ ts) v' = (mid : WaitingView) × CommitsQuietly v t mid × EachCommitsQuietly mid ts v'
+
+-- the last commit was counted, told nobody and set nothing off
+pub record IsQuiet (e : Ended) (told : Told) (off : SetOff) : Type 0 where
+  pub counted : has_slot e.slots e.last.slot ≡ true
+  pub untold : told ≡ []
+  pub nothing : IsNothing off
+
+-- some commit quietly, none of them if one alone is to be ended, and then the last one, which may tell others; the set has the slots of those whose commit
+-- was counted
+pub record EndsEach (n : Number) (v : WaitingView) (e : Ended) (told : Told) (off : SetOff) (v' : WaitingView) : Type 0 where
+  pub before : List TxnId
+  pub mid : WaitingView
+  pub quietly : EachCommitsQuietly v before mid
+  pub alone : n ≡ number.One → before ≡ []
+  pub last : Commits mid e.last e.answer told off v'
+  pub slots : (u : ℕ) → has_slot e.slots u ≡ (list_any (λ (t : TxnId). u == t.slot) before || (is_counted mid v' && (u == e.last.slot)))
+  pub counted : has_slot e.slots e.last.slot ≡ is_counted mid v'
+
+-- those who were chosen commit, if there are any; else nothing changes
+abbrev pub EndsSome : Number → WaitingView → Option Ended → Told → SetOff → WaitingView → Type 0
+EndsSome n v (Some e) told off v' = EndsEach n v e told off v'
+EndsSome n v None told off v' = (told ≡ []) × IsNothing off × (v' ≡ v)
+
+-- those who were ended had rested and were to be ended, as it was before the first of them was, and rest no more
+pub record ChoosesEach (w : Whom) (v : WaitingView) (e : Ended) (v' : WaitingView) (r r' : Slots) : Type 0 where
+  pub chosen : (u : ℕ) → has_slot e.slots u ≡ true → (has_slot r u ≡ true) × IsChosen w (state_of v.manager) r u
+  pub last : (has_slot r e.last.slot ≡ true) × IsChosen w (state_of v.manager) r e.last.slot
+  pub rests : (u : ℕ) → has_slot r' u ≡ (has_slot r u && not (has_slot e.slots u))
+  pub uncounted : v'.manager.accepted ≡ v.manager.accepted → r' ≡ r
+
+-- some are chosen, if any is to be
+abbrev pub ChoosesSome : Whom → WaitingView → Option Ended → WaitingView → Slots → Slots → Type 0
+ChoosesSome w v (Some e) v' r r' = ChoosesEach w v e v' r r'
 ChoosesSome w v None v' r r' = NoneIsChosen w (state_of v.manager) r × (r' ≡ r)
 
 -- a transaction began

@@ -18,7 +18,7 @@ mod waiting;
 pub use begins::{QueuedBegin, Turn, begin_command};
 pub use delivery::Delivery;
 pub use keys::RowKeys;
-pub use resting::{Resting, Whom, acting_slot};
+pub use resting::{Ended, Number, Resting, Whom, acting_slot};
 pub use set_off::SetOff;
 pub use tries::{Keep, RowTried, Tried};
 pub use waiter::{Came, Next, Outcome, Request, Waiter};

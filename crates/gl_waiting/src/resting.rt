@@ -2,13 +2,14 @@
 
 ghost use Rattle.gl_slots.specs.Limit.{most_slots};
 ghost use Rattle.gl_slots.specs.Slots.{HasNoSlot, has_slot, no_slots};
-ghost use Rattle.std.specs.Prelude.{◌≡◌, ◌≤◌, ◌<◌, ◌&&◌, ◌==◌, ℕ, [], IfNone, IfSome, false, not, true};
+ghost use Rattle.std.specs.Prelude.{◌≡◌, ◌≤◌, ◌<◌, ◌&&◌, ◌||◌, ◌==◌, ◌↔◌, ℕ, [], IfNone, IfSome, IsTrue, Some, false, not, true};
 ghost use Rattle.gl_modes.specs.Modes.{are_compatible};
 ghost use Rattle.gl_model.specs.State.{age_of, is_wait, lives, status_of, waits_for};
 ghost use Rattle.gl_catalog.specs.Manager.{IsLawfulManager, state_of};
 ghost use Rattle.gl_waiting.specs.Asking.{InTurn, KeepsLocks};
-ghost use Rattle.gl_waiting.specs.Resting.{ChoosesSome, EndsSome, IsChosen, KeepsRest, LetsRest, NoneIsChosen, RestOn};
-ghost use Rattle.gl_waiting.specs.Resting.{RestsWell, acting_in, has_begun, slot_if};
+ghost use Rattle.gl_waiting.specs.Resting.{ChoosesSome, Commits, EndsSome, IsChosen, IsQuiet, KeepsRest, LetsRest, NoneIsChosen, RestOn, Rouses};
+ghost use Rattle.gl_waiting.specs.Resting.{RestsWell, acting_in, has_begun, is_counted, slot_if};
+ghost use Rattle.gl_waiting.specs.declared.resting.Number.TheVariants.{One as one};
 ghost use Rattle.gl_waiting.specs.declared.resting.Whom.TheVariants.{InTheWay as in_the_way};
 
 use crate::set_off::SetOff;
@@ -29,6 +30,23 @@ pub enum Whom {
     Holding { node: NodeId, mode: Mode },
     /// The one that has rested longest.
     Longest,
+}
+
+/// How many of them to end.
+#[derive(Clone, Copy, PartialEq, Eq, Debug)]
+pub enum Number {
+    One,
+    All,
+}
+
+/// Who was ended by one call, one after the other.
+#[derive(Clone, Copy, PartialEq, Eq, Debug)]
+pub struct Ended {
+    /// The slots of those whose commit was counted.
+    pub slots: Slots,
+    /// The last of them, and what its commit was answered.
+    pub last: TxnId,
+    pub answer: RowAnswer,
 }
 
 /// Who of a table's transactions rest. They are active, have done nothing since they began, and hold intentions that the
@@ -111,34 +129,78 @@ impl Resting {
         true
     }
 
-    /// Ends one who rests, by its commit, with its notices put into an empty list. Answers its name, and what its commit was
-    /// answered; `None` if nobody is to be ended.
+    /// Ends those who rest and are to be ended, or one of them, each by its commit, with the notices put into an empty list.
+    /// No other is ended after a commit that tells somebody or sets something off: the caller first continues those whose
+    /// wait that ends. `None` if nobody is to be ended.
     pub fn end(
         &mut self,
         waiting: &mut Waiting,
         whom: Whom,
+        number: Number,
         told: &mut Told,
-    ) -> (Option<(TxnId, RowAnswer)>, SetOff)
+    ) -> (Option<Ended>, SetOff)
         requires empty { told.old.items ≡ [] }
         requires law { RestsWell (state_of waiting.old.manager) self.old }
-        ensures ends { EndsSome waiting.old result.0 told.new.items result.1 waiting.new }
+        ensures ends { EndsSome number waiting.old result.0 told.new.items result.1 waiting.new }
         ensures chooses { ChoosesSome whom waiting.old result.0 waiting.new self.old.resting self.new.resting }
         ensures keeps { RestsWell (state_of waiting.new.manager) self.new }
     {
         waiting.law();
-        let Some(txn) = self.choose(waiting.manager(), whom) else {
-            let nothing = SetOff {
-                ended: Slots::empty(),
-                went_on: false,
-            };
-            return (None, nothing);
+        let mut chosen = self.choose(waiting.manager(), whom);
+        let Some(first) = chosen.take_lowest() else {
+            return (None, SetOff::nothing());
         };
-        let before = waiting.manager().accepted();
-        let (answer, off) = waiting.serve_row(RowCall::Commit { txn }, told);
-        if waiting.manager().accepted() != before {
-            self.rouse(waiting, Some(txn.slot));
+        let mut left = beside_one(chosen, number);
+        let (mut ended, mut off) = self.end_one(waiting, Slots::empty(), first, told);
+        'each: while ended.is_quiet(told, off) {
+            let Some(slot) = left.take_lowest() else {
+                return (Some(ended), off);
+            };
+            (ended, off) = self.end_one(waiting, ended.slots, slot, told);
         }
-        (Some((txn, answer)), off)
+        (Some(ended), off)
+    }
+
+    /// Ends the one who rests in this slot. Adds the slot to those of others that were ended before, if its commit is
+    /// counted.
+    fn end_one(
+        &mut self,
+        waiting: &mut Waiting,
+        before: Slots,
+        slot: Slot,
+        told: &mut Told,
+    ) -> (Ended, SetOff)
+        requires empty { told.old.items ≡ [] }
+        requires law { RestsWell (state_of waiting.old.manager) self.old }
+        requires rests { has_slot self.old.resting slot ≡ true }
+        requires fresh { has_slot before slot ≡ false }
+        ensures commits { Commits waiting.old result.0.last result.0.answer told.new.items result.1 waiting.new }
+        ensures last { result.0.last.slot ≡ slot }
+        ensures slots { (u : ℕ) → has_slot result.0.slots u ≡ (has_slot before u || (is_counted waiting.old waiting.new && (u == slot))) }
+        ensures rouses { Rouses (Some slot) waiting.old self.old.resting waiting.new self.new.resting }
+        ensures keeps { RestsWell (state_of waiting.new.manager) self.new }
+    {
+        waiting.law();
+        let Some((txn, _)) = waiting.manager().living(slot) else {
+            unreachable!()
+        };
+        let count = waiting.manager().accepted();
+        let (answer, off) = waiting.serve_row(RowCall::Commit { txn }, told);
+        let mut slots = before;
+        if waiting.manager().accepted() != count {
+            self.slots.law();
+            self.rouse(waiting, Some(slot));
+            slots.insert(slot);
+        }
+        let last = txn;
+        (
+            Ended {
+                slots,
+                last,
+                answer,
+            },
+            off,
+        )
     }
 
     /// Commits a transaction and begins another in its slot that keeps its first `keep` locks, as
@@ -171,42 +233,57 @@ impl Resting {
         (next, off)
     }
 
-    /// The transaction of those who rest that is to be ended.
-    fn choose(&mut self, manager: &Manager, whom: Whom) -> Option<TxnId>
-        requires law { IsLawfulManager manager.now }
+    /// The slots of those who rest and are to be ended.
+    fn choose(&mut self, manager: &Manager, whom: Whom) -> Slots
         requires rest { RestsWell (state_of manager.now) self.old }
-        ensures some { IfSome result (λ t. (has_slot self.old.resting t.slot ≡ true) × (lives (state_of manager.now) t ≡ true)
-            × IsChosen whom (state_of manager.now) self.old.resting t.slot) }
-        ensures none { IfNone result (NoneIsChosen whom (state_of manager.now) self.old.resting) }
+        ensures some { (u : ℕ) → has_slot result u ≡ true → (has_slot self.old.resting u ≡ true)
+            × IsChosen whom (state_of manager.now) self.old.resting u }
+        ensures none { HasNoSlot result → NoneIsChosen whom (state_of manager.now) self.old.resting }
         ensures same { self.new.resting ≡ self.old.resting }
         ensures keeps { RestsWell (state_of manager.now) self.new }
     {
-        let slot = match whom {
+        match whom {
             Whom::InTheWay => self.in_the_way(manager),
-            Whom::Holding { node, mode } => first_holding(manager, self.slots, node, mode),
+            Whom::Holding { node, mode } => holding(manager, self.slots, node, mode),
             Whom::Longest => longest(manager, self.slots),
-        };
-        let (txn, _status) = manager.living(slot?)?;
-        Some(txn)
+        }
     }
 
-    /// The lowest slot of those who rest for whom one of the crossed waits. Those who wait for none of them are crossed no
-    /// more.
-    fn in_the_way(&mut self, manager: &Manager) -> Option<Slot>
+    /// The slots of those who rest and for whom one of the crossed waits. If there are none, nobody is crossed any more.
+    fn in_the_way(&mut self, manager: &Manager) -> Slots
         requires rest { RestsWell (state_of manager.now) self.old }
-        ensures some { IfSome result (λ u. (has_slot self.old.resting u ≡ true) × IsChosen in_the_way (state_of manager.now) self.old.resting u) }
-        ensures none { IfNone result (NoneIsChosen in_the_way (state_of manager.now) self.old.resting) }
+        ensures some { (u : ℕ) → has_slot result u ≡ true → (has_slot self.old.resting u ≡ true)
+            × IsChosen in_the_way (state_of manager.now) self.old.resting u }
+        ensures none { HasNoSlot result → NoneIsChosen in_the_way (state_of manager.now) self.old.resting }
         ensures same { self.new.resting ≡ self.old.resting }
         ensures keeps { RestsWell (state_of manager.now) self.new }
     {
-        'crossed: while let Some(slot) = self.crossed.lowest() {
-            let in_the_way = waited_for(manager, slot).intersection(self.slots);
-            if let Some(found) = in_the_way.lowest() {
-                return Some(found);
-            }
-            self.crossed.remove(slot);
+        let found = waited_for_by(manager, self.crossed).intersection(self.slots);
+        if !found.is_empty() {
+            return found;
         }
-        None
+        self.crossed = Slots::empty();
+        found
+    }
+}
+
+impl Ended {
+    /// Whether the last commit was counted, told nobody and set nothing off.
+    fn is_quiet(&self, told: &Told, off: SetOff) -> bool
+        ensures { IsTrue result ↔ IsQuiet self.now told.now.items off }
+    {
+        self.slots.contains(self.last.slot) && told.as_slice().is_empty() && off.is_nothing()
+    }
+}
+
+/// Those to be ended beside one of them.
+fn beside_one(others: Slots, number: Number) -> Slots
+    ensures among { (u : ℕ) → has_slot result u ≡ true → has_slot others u ≡ true }
+    ensures alone { number ≡ one → HasNoSlot result }
+{
+    match number {
+        Number::One => Slots::empty(),
+        Number::All => others,
     }
 }
 
@@ -240,22 +317,49 @@ fn waited_for(manager: &Manager, slot: Slot) -> Slots
     }
 }
 
-/// The lowest of these slots that holds a node in a mode that does not go with this one.
-fn first_holding(manager: &Manager, among: Slots, node: NodeId, mode: Mode) -> Option<Slot>
-    ensures some { IfSome result (λ u. (has_slot among u ≡ true) × (are_compatible mode ((state_of manager.now).held u node) ≡ false)) }
-    ensures none { IfNone result ((u : ℕ) → has_slot among u ≡ true → are_compatible mode ((state_of manager.now).held u node) ≡ true) }
+/// The slots of those for whom some of these wait.
+fn waited_for_by(manager: &Manager, waiters: Slots) -> Slots
+    ensures some { (u : ℕ) → has_slot result u ≡ true → (t : ℕ) × (has_slot waiters t ≡ true) × (waits_for (state_of manager.now) t u ≡ true) }
+    ensures all { (t u : ℕ) → has_slot waiters t ≡ true → waits_for (state_of manager.now) t u ≡ true → has_slot result u ≡ true }
 {
+    let mut found = Slots::empty();
+    let mut left = waiters;
+    'waiters: while let Some(slot) = left.take_lowest() {
+        found = found.union(waited_for(manager, slot));
+    }
+    found
+}
+
+/// Those of these slots that hold a node in a mode that does not go with this one.
+fn holding(manager: &Manager, among: Slots, node: NodeId, mode: Mode) -> Slots
+    ensures { (u : ℕ) → has_slot result u ≡ (has_slot among u && not (are_compatible mode ((state_of manager.now).held u node))) }
+{
+    let mut found = among;
     let mut left = among;
     'slots: while let Some(slot) = left.take_lowest() {
-        if !compatible(mode, manager.mode_at(slot, node)) {
-            return Some(slot);
+        if compatible(mode, manager.mode_at(slot, node)) {
+            found.remove(slot);
         }
     }
-    None
+    found
+}
+
+/// The slot of these whose transaction has the lowest age; none of no slots.
+fn longest(manager: &Manager, among: Slots) -> Slots
+    ensures some { (u : ℕ) → has_slot result u ≡ true → (has_slot among u ≡ true)
+        × ((v : ℕ) → has_slot among v ≡ true → age_of (state_of manager.now) u ≤ age_of (state_of manager.now) v) }
+    ensures none { HasNoSlot result → HasNoSlot among }
+{
+    among.law();
+    let mut found = Slots::empty();
+    if let Some(slot) = oldest(manager, among) {
+        found.insert(slot);
+    }
+    found
 }
 
 /// The slot of these whose transaction has the lowest age.
-fn longest(manager: &Manager, among: Slots) -> Option<Slot>
+fn oldest(manager: &Manager, among: Slots) -> Option<Slot>
     ensures some { IfSome result (λ u. (has_slot among u ≡ true)
         × ((v : ℕ) → has_slot among v ≡ true → age_of (state_of manager.now) u ≤ age_of (state_of manager.now) v)) }
     ensures none { IfNone result (HasNoSlot among) }

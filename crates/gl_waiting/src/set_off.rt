@@ -1,5 +1,8 @@
 //! What a call set off.
 
+ghost use Rattle.std.specs.Prelude.{IsTrue, ◌↔◌};
+ghost use Rattle.gl_waiting.specs.Asking.{IsNothing};
+
 use gl_slots::Slots;
 
 /// What a call set off.
@@ -9,4 +12,23 @@ pub struct SetOff {
     pub ended: Slots,
     /// Whether begins were handed on after it.
     pub went_on: bool,
+}
+
+impl SetOff {
+    /// Nothing was set off.
+    pub(crate) fn nothing() -> SetOff
+        ensures { IsNothing result }
+    {
+        SetOff {
+            ended: Slots::empty(),
+            went_on: false,
+        }
+    }
+
+    /// Whether nothing was set off.
+    pub(crate) fn is_nothing(self) -> bool
+        ensures { IsTrue result ↔ IsNothing self }
+    {
+        self.ended.is_empty() && !self.went_on
+    }
 }

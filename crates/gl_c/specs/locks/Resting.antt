@@ -1,13 +1,15 @@
 -- Calls about those who rest: who begins to, who is ended, and who works again.
-use Rattle.std.specs.Prelude.{◌≡◌, ◌&&◌, ℕ, Bool, false, Option, Some, None, Result}
+use Rattle.std.specs.Prelude.{◌≡◌, ◌&&◌, ℕ, zero, suc, Bool, false, Option, Some, None, Result}
 use Rattle.gl_modes.specs.declared.refusal.Refusal.{Refusal}
 use Rattle.gl_slots.specs.Slots.{has_bit, has_none, has_slot}
 use Rattle.gl_model.specs.State.{lives}
 use Rattle.gl_model.specs.declared.txn.TxnId.{TxnId}
 use Rattle.gl_catalog.specs.Manager.{state_of}
-use Rattle.gl_rows.specs.declared.answer.RowAnswer.{RowAnswer}
 use Rattle.gl_waiting.specs.Asking.{InTurn, KeepsLocks}
 use Rattle.gl_waiting.specs.Resting.{ChoosesSome, EndsSome, LetsRest, RestOn, slot_if}
+use Rattle.gl_waiting.specs.declared.resting.Ended.{Ended}
+use Rattle.gl_waiting.specs.declared.resting.Number.{Number}
+use Rattle.gl_waiting.specs.declared.resting.Number.TheVariants as number
 use Rattle.gl_waiting.specs.declared.resting.Whom.{Whom}
 use Rattle.gl_c.specs.declared.answers.found.Found.{Found}
 use Rattle.gl_c.specs.declared.answers.reply.Reply.{Reply}
@@ -31,15 +33,20 @@ resting_call t keep since = record {
   rests = λ v result v' r r'. LetsRest t.slot result v v' r r';
 }
 
--- the reply for one who rested and was to be ended: its name, and what its commit was answered
-abbrev pub ended_reply : Option (TxnId × RowAnswer) → Reply
-ended_reply (Some x) = record (call_reply x.1) { txn = txn_of x.0 }
+-- the reply for those who rested and were to be ended: the name of the last, and what its commit was answered
+abbrev pub ended_reply : Option Ended → Reply
+ended_reply (Some e) = record (call_reply e.answer) { txn = txn_of e.last }
 ended_reply None = status_reply no_place
 
--- the call that ends one who rests
-abbrev pub end_call : Whom → CallOf (Option (TxnId × RowAnswer))
-end_call w = record {
-  does = λ v o told off v'. EndsSome v o told off v';
+-- the number of those to be ended: one alone, or, by 0, all
+abbrev pub number_of_ends : ℕ → Number
+number_of_ends zero = number.All
+number_of_ends (suc n) = number.One
+
+-- the call that ends those who rest
+abbrev pub end_call : Whom → Number → CallOf (Option Ended)
+end_call w n = record {
+  does = λ v o told off v'. EndsSome n v o told off v';
   spares = λ o told known. false;
   says = ended_reply;
   rests = ChoosesSome w;

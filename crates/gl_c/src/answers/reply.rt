@@ -23,7 +23,7 @@ use gl_catalog::{Answer, Reached};
 use gl_modes::{Mode, NodeId, Refusal};
 use gl_rows::RowAnswer;
 use gl_table::{Locked, TxnId};
-use gl_waiting::{Came, Next, Outcome, QueuedBegin, RowTried, Tried, Turn, Waiter};
+use gl_waiting::{Came, Ended, Next, Outcome, QueuedBegin, RowTried, Tried, Turn, Waiter};
 use gl_wakes::{Grant, Stop};
 
 /// The answer of a call: a status, what the call answers, and zero in all other fields.
@@ -186,14 +186,14 @@ impl Reply {
         }
     }
 
-    /// The reply for one who rested and was to be ended; `None` if nobody was.
-    pub(crate) fn of_ended(ended: Option<(TxnId, RowAnswer)>) -> Reply
+    /// The reply for those who rested and were to be ended; `None` if nobody was.
+    pub(crate) fn of_ended(ended: Option<Ended>) -> Reply
         ensures { result ≡ ended_reply ended }
     {
         match ended {
-            Some((txn, answer)) => Reply {
-                txn: Txn::of(txn),
-                ..Reply::of_row_call(answer)
+            Some(ended) => Reply {
+                txn: Txn::of(ended.last),
+                ..Reply::of_row_call(ended.answer)
             },
             None => Reply::with_status(NO_PLACE),
         }

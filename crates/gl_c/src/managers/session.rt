@@ -35,7 +35,7 @@ use gl_modes::{Mode, NodeId, Refusal};
 use gl_rows::{Row, RowCall};
 use gl_slots::Slots;
 use gl_table::{Detect, Told, TxnId};
-use gl_waiting::{Keep, QueuedBegin, Waiter, Whom};
+use gl_waiting::{Keep, Number, QueuedBegin, Waiter, Whom};
 use gl_waits::Victims;
 use gl_window::{WatchFault, Watcher};
 use std::alloc::Global;
@@ -157,11 +157,11 @@ impl Session {
         Reply::of_keeping(next)
     }
 
-    /// Ends one who rests, and writes the notices.
-    pub(crate) fn end_resting(&mut self, whom: Whom, notices: &mut Notices) -> Reply
-        ensures { Replies self.old (end_call whom) result notices.new self.new }
+    /// Ends those who rest, or one of them, and writes the notices.
+    pub(crate) fn end_resting(&mut self, whom: Whom, number: Number, notices: &mut Notices) -> Reply
+        ensures { Replies self.old (end_call whom number) result notices.new self.new }
     {
-        let ended = self.guarded.end_resting(whom, &mut self.told);
+        let ended = self.guarded.end_resting(whom, number, &mut self.told);
         notices.put(self.told.as_slice());
         self.told.clear();
         Reply::of_ended(ended)

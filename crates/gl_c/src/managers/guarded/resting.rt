@@ -11,10 +11,9 @@ ghost use Rattle.gl_c.specs.managers.Carries.{Performs};
 use super::Guarded;
 use crate::managers::showing::keep_nobody;
 use gl_modes::Refusal;
-use gl_rows::RowAnswer;
 use gl_slots::Slots;
 use gl_table::{Told, TxnId};
-use gl_waiting::Whom;
+use gl_waiting::{Ended, Number, Whom};
 
 impl Guarded {
     /// Commits a transaction and begins another in its slot that keeps its first `keep` locks and rests,
@@ -42,14 +41,19 @@ impl Guarded {
         next
     }
 
-    /// Ends one who rests, and puts the notices into an empty list. Answers its name, and what its commit
-    /// was answered; `None` if nobody is to be ended.
-    pub(crate) fn end_resting(&mut self, whom: Whom, told: &mut Told) -> Option<(TxnId, RowAnswer)>
+    /// Ends those who rest and are to be ended, or one of them, and puts the notices into an empty list.
+    /// `None` if nobody is to be ended.
+    pub(crate) fn end_resting(
+        &mut self,
+        whom: Whom,
+        number: Number,
+        told: &mut Told,
+    ) -> Option<Ended>
         requires empty { told.old.items ≡ [] }
-        ensures { Performs self.old (end_call whom) result told.new.items self.new }
+        ensures { Performs self.old (end_call whom number) result told.new.items self.new }
     {
         let before = self.waiting.manager().accepted();
-        let (came, off) = self.resting.end(&mut self.waiting, whom, told);
+        let (came, off) = self.resting.end(&mut self.waiting, whom, number, told);
         if self.waiting.manager().accepted() == before {
             return came;
         }

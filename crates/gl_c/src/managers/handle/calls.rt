@@ -43,7 +43,7 @@ use gl_catalog::Command;
 use gl_modes::{Mode, NodeId};
 use gl_rows::{Row, RowCall};
 use gl_table::TxnId;
-use gl_waiting::{Keep, QueuedBegin, Waiter, Whom};
+use gl_waiting::{Keep, Number, QueuedBegin, Waiter, Whom};
 use gl_window::{WatchFault, Watcher};
 use std::alloc::Global;
 use std::mem::replace;
@@ -188,15 +188,15 @@ impl Handle {
         reply
     }
 
-    /// Ends one who rests, and writes the notices.
-    pub(crate) fn end_resting(&mut self, whom: Whom, told: &mut Notices) -> Reply
-        ensures { Carries (guarded_in self.old) (end_call whom) result told.new (guarded_in self.new) }
+    /// Ends those who rest, or one of them, and writes the notices.
+    pub(crate) fn end_resting(&mut self, whom: Whom, number: Number, told: &mut Notices) -> Reply
+        ensures { Carries (guarded_in self.old) (end_call whom number) result told.new (guarded_in self.new) }
     {
         let alloc = self.alloc;
         let Some(mut session) = self.take() else {
             return declined(told);
         };
-        let reply = session.end_resting(whom, told);
+        let reply = session.end_resting(whom, number, told);
         *self = Handle::of(alloc, session);
         reply
     }

@@ -9,7 +9,7 @@ returns c =
     record {
       answer = c.end_resting-ended.result;
       told = c.end_resting-ended.new.told.items;
-      performs = subst (λ (g : GuardedView). Performs g (end_call c.args.whom) c.end_resting-ended.result c.end_resting-ended.new.told.items
+      performs = subst (λ (g : GuardedView). Performs g (end_call c.args.whom c.args.number) c.end_resting-ended.result c.end_resting-ended.new.told.items
           c.end_resting-ended.new.self) c.self.view_is
           c.end_resting-ended.ensures;
       replied = c.of_ended.ensures;

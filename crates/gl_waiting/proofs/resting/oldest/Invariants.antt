@@ -2,7 +2,7 @@ use Rattle.std.specs.Prelude.{◌≡◌, ◌≤◌, ℕ, true, false}
 use Rattle.gl_slots.specs.Slots.{has_slot, number_of}
 use Rattle.gl_model.specs.State.{age_of}
 use Rattle.gl_catalog.specs.Manager.{state_of}
-use Rattle.gl_waiting.proofs.resting.longest.Given as goal
+use Rattle.gl_waiting.proofs.resting.oldest.Given as goal
 
 -- none that was looked at has a lower age than the first, and it and those that are left are of these
 abbrev pub invariant-slots : goal.invariant-slots

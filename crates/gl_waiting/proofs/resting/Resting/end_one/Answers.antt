@@ -1,0 +1,41 @@
+use Rattle.std.specs.Prelude.{◌==◌, ◌&&◌, ◌||◌, Bool, not, true}
+use Rattle.std.proofs.Common.{◌≡◌, ap, arith, rules, subst, sym, ◌∙◌}
+use Rattle.gl_modes.proofs.Words.{same_number, split}
+use Rattle.gl_slots.specs.Slots.{has_slot}
+use Rattle.gl_model.specs.State.{State}
+use Rattle.gl_steps.specs.declared.command.Command.TheVariants as command
+use Rattle.gl_catalog.specs.Manager.{state_of}
+use Rattle.gl_waiting.specs.Resting.{RestsWell, is_counted}
+use Rattle.gl_waiting.proofs.Rests.{same_slot}
+use Rattle.gl_waiting.proofs.Runs.{run_idle}
+use Rattle.gl_waiting.proofs.TurnRuns.{turn_run}
+use Rattle.gl_waiting.proofs.resting.Resting.end_one.Goals as goal
+
+-- it is counted
+
+pub returns-then-accepted-count-clause-slots : goal.returns-then-accepted-count-clause-slots
+returns-then-accepted-count-clause-slots c =
+    let counted : is_counted c.args.waiting.now c.serve_row-answer.new.self ≡ true =
+    split (c.serve_row-answer.new.self.manager.accepted == c.args.waiting.now.manager.accepted)
+    (λ e. let same : c.serve_row-answer.new.self.manager.accepted ≡ c.args.waiting.now.manager.accepted = same_number _ _ e in
+    let counts : c.accepted.result ≡ c.accepted-count.result = search (rules, same) in absurd (c.if-accepted-count.true counts))
+    (λ e. ap not e) in
+    λ u. c.insert.ensures u ∙ ap (λ (b : Bool). has_slot c.args.before u || (b && (u == c.args.slot))) (sym counted)
+
+pub returns-then-accepted-count-clause-keeps : goal.returns-then-accepted-count-clause-keeps
+returns-then-accepted-count-clause-keeps c =
+    let same : c.in-Some.txn.slot ≡ c.args.slot = search rules in
+    c.rouse.ensures.keeps (state_of c.args.waiting.now.manager) (command.Commit c.in-Some.txn) c.law.ensures.manager.lawful
+    (turn_run c.args.waiting.now _ c.serve_row-answer.result.1 c.serve_row-answer.new.self c.serve_row-answer.ensures (command.Commit c.in-Some.txn)
+    (λ own mid h. h.run)) (λ u e. subst (λ x. (u.slot == x) ≡ true) same (same_slot u c.in-Some.txn e)) c.requires.law
+
+-- or not
+
+pub returns-else-accepted-count-clause-keeps : goal.returns-else-accepted-count-clause-keeps
+returns-else-accepted-count-clause-keeps c =
+    let run = (turn_run c.args.waiting.now _ c.serve_row-answer.result.1 c.serve_row-answer.new.self c.serve_row-answer.ensures
+    (command.Commit c.in-Some.txn) (λ own mid h. h.run)).0 in
+    let low : c.serve_row-answer.new.self.manager.accepted ≡ c.args.waiting.now.manager.accepted = search rules in
+    subst (λ (s : State). RestsWell s c.args.self.now)
+    (sym (run_idle run.0 (state_of c.args.waiting.now.manager) (state_of c.serve_row-answer.new.self.manager) run.1 (omega (arith, low))))
+    c.requires.law
