@@ -31,11 +31,12 @@ use Rattle.gl_model.proofs.law.Tests.{raised-lawful, shed-less}
 use Rattle.gl_steps.specs.declared.command.Answer.{Answer}
 use Rattle.gl_steps.specs.declared.command.Command.{Command}
 use Rattle.gl_steps.specs.declared.command.Command.TheVariants as command
-use Rattle.gl_steps.specs.Step.{Accepts}
 use Rattle.gl_steps.specs.Tests.{refusal_of, tests_of, worn}
+use Rattle.gl_steps.proofs.Changes.{Change, change_of}
+use Rattle.gl_steps.proofs.Changes as change
 use Rattle.gl_steps.proofs.EachStep.{each_step}
 use Rattle.gl_steps.proofs.NotRefused.{active_is, nodes_live}
-use Rattle.gl_steps.proofs.OneStep.{AllNone, all_none}
+use Rattle.gl_steps.proofs.OneStep.{all_none}
 use Rattle.gl_catalog.specs.Savepoints.{KeepsModes, StepsKeepModes}
 
 -- all hold at least what they held
@@ -116,7 +117,7 @@ grows_new : (s : State) (g : Graph) (x : NodeId) (u : ℕ) → Grows s (with_gra
 grows_new s g x u = grows_then s (with_graph s g) (with_grant (with_graph s g) u x X) (grows_same s (with_graph s g) (λ v n. refl))
     (grows_granted (with_graph s g) u x X (most (s.held u x)))
 
-module _ (s : State) (law : IsLawful s) (a : Answer) (list : Told) (next : State) where
+module _ (s : State) (law : IsLawful s) (a : Answer) (next : State) where
   made_is : (made : State) → next ≡ made → KeepsModes s made → KeepsModes s next
   made_is made e f = subst (KeepsModes s) (sym e) f
 
@@ -130,45 +131,34 @@ module _ (s : State) (law : IsLawful s) (a : Answer) (list : Told) (next : State
       keeps s next (grows_then s x next (grows_same s x (λ v n. refl)) (grows_wait s.detect s.victims x next u.slot
       (waiting-lawful s law u q mode (may_lock s u q mode (worn s) [] free).0 e) (locks.waits e))))
 
-  accepted : (c : Command) → refusal_of s c ≡ None → AllNone (tests_of s c) → Accepts s c a list next → KeepsModes s next
-  accepted (command.Inner ps) free passed acc = same_is _ acc.4 (λ u n. refl)
-  accepted (command.File ps) free passed acc = same_is _ acc.4 (λ u n. refl)
-  accepted (command.Index ps f bs) free passed acc = same_is _ acc.4 (λ u n. refl)
-  accepted (command.Insert u f ks) free passed acc = made_is _ acc.4 (keeps s _ (grows_new s next.graph acc.0 u.slot))
-  accepted command.Begin free passed acc = same_is _ acc.4 (λ u n. refl)
-  accepted (command.BeginAgain since) free passed acc = same_is _ acc.4 (λ u n. refl)
-  accepted (command.Lock u q mode) free passed acc = locked u q mode free acc.0
-  accepted (command.Try u q mode) free passed acc =
-      made_is _ acc.2 (keeps s _ (grows_granted s u.slot q (wanted s u.slot q mode) (supremum-above (s.held u.slot q) mode)))
-  accepted (command.Unlock u q) free passed acc =
-      made_is _ acc.2 (keeps_taken s law _ _ _ (same_node q)
+  changed : Change s a next → KeepsModes s next
+  changed (change.Regraphed g is) = same_is _ is (λ u n. refl)
+  changed (change.Born u x g active birth is) = made_is _ is (keeps s _ (grows_new s g x u.slot))
+  changed (change.Begun u since is) = same_is _ is (λ v n. refl)
+  changed (change.Locked u q mode free locks is) = locked u q mode free locks
+  changed (change.Granted u q mode free is) =
+      made_is _ is (keeps s _ (grows_granted s u.slot q (wanted s u.slot q mode) (supremum-above (s.held u.slot q) mode)))
+  changed (change.Unlocked u q free is) =
+      let passed = all_none (tests_of s (command.Unlock u q)) free in
+      made_is _ is (keeps_taken s law _ _ _ (same_node q)
       (unlocked-less s law u.slot q (active_is s u passed.1.0 passed.1.1.0 passed.1.1.1.0) passed.1.1.1.1.1.1.0))
-  accepted (command.Escalate u q) free passed acc =
+  changed (change.Shed u q free is) =
+      let passed = all_none (tests_of s (command.Escalate u q)) free in
       let up : State = raised s u.slot q in
       let active = active_is s u passed.1.0 passed.1.1.0 passed.1.1.1.0 in
       let held : holds (members s q) u.slot ≡ true = not_false _ (test_fails _ no.NotHeld passed.1.1.1.1.1.1.0) in
       let up_law = raised-lawful s law u.slot q active (and_both _ _ (nodes_live s (q ∷ []) passed.1.1.1.1.0)).0
       (test_fails _ no.BadParents passed.1.1.1.1.1.0) held (not_false _ (test_fails _ no.WouldBlock passed.1.1.1.1.1.1.1.0)) in
-      made_is _ acc.2 (grows_keeps s up _
+      made_is _ is (grows_keeps s up _
       (grows_granted s u.slot q (wanted s u.slot q (asked_by_escalation s u.slot q)) (supremum-above (s.held u.slot q) _))
       (keeps_taken up up_law _ _ _ (is_covered up u.slot q) (shed-less up up_law u.slot q active)))
-  accepted (command.Cancel u) free passed acc = made_is _ acc.2 (keeps s _ (grows_withdrawn s law u.slot Active (λ q v e. cc)))
-  accepted (command.Commit u) free passed acc = made_is _ acc.2 (keeps_taken s law _ _ _ (at_all s u.slot) (released-less s law u.slot))
-  accepted (command.Renew u since) free passed acc = same_is _ acc.2 (λ v n. refl)
-  accepted (command.Abort u) free passed acc = made_is _ acc.2 (keeps_taken s law _ _ _ (at_all s u.slot) (released-less s law u.slot))
-  accepted (command.Settle u) free passed acc = keeps s next (grows_settled s.victims acc.2.0 s next u.slot law acc.2.1)
-  accepted (command.Delete u r) free passed acc = made_is _ acc.2 (keeps_departed s _ _)
-  accepted (command.Rekey u r i k) free passed acc = same_is _ acc.2 (λ v n. refl)
-  accepted (command.Move u x ps) free passed acc = same_is _ acc.2 (λ v n. refl)
-  accepted (command.Group q) free passed acc = absurd acc
-  accepted (command.Held u q) free passed acc = absurd acc
-  accepted (command.Effective u q) free passed acc = absurd acc
-  accepted (command.Adopt f ks) free passed acc = same_is _ acc.4 (λ u n. refl)
-  accepted (command.Forget r) free passed acc = same_is _ acc.2 (λ u n. refl)
-  accepted (command.Drop u x) free passed acc = made_is _ acc.2 (keeps_departed s _ _)
-  accepted (command.IndexBy u ps f bs) free passed acc = made_is _ acc.4 (keeps s _ (grows_new s next.graph acc.0 u.slot))
+  changed (change.Cancelled u is) = made_is _ is (keeps s _ (grows_withdrawn s law u.slot Active (λ q v e. cc)))
+  changed (change.Released u is) = made_is _ is (keeps_taken s law _ _ _ (at_all s u.slot) (released-less s law u.slot))
+  changed (change.Settles u is) = keeps s next (grows_settled s.victims is.0 s next u.slot law is.1)
+  changed (change.Departed goes g is) = made_is _ is (keeps_departed s goes g)
+  changed (change.Moved x ps g is) = same_is _ is (λ v n. refl)
 
 pub steps_keep_modes : StepsKeepModes
 steps_keep_modes s s' c a told law step =
     each_step (KeepsModes s) s c a told s' (keeps s s (grows_same s s (λ u n. refl))) (λ next k. record { no_less = k.no_less })
-    (λ free next acc. accepted s law a told next c free (all_none (tests_of s c) free) acc) step
+    (λ free next acc. changed s law a next (change_of s c a told next free acc)) step

@@ -34,12 +34,14 @@ use Rattle.gl_steps.specs.declared.command.Answer.{Answer}
 use Rattle.gl_steps.specs.declared.command.Command.{Command}
 use Rattle.gl_steps.specs.declared.command.Command.TheVariants as command
 use Rattle.gl_steps.specs.Promises.{waits_on}
-use Rattle.gl_steps.specs.Step.{Accepts, Step}
+use Rattle.gl_steps.specs.Step.{Step}
 use Rattle.gl_steps.specs.Tests.{refusal_of, tests_of, worn}
+use Rattle.gl_steps.proofs.Changes.{Change, change_of}
+use Rattle.gl_steps.proofs.Changes as change
 use Rattle.gl_steps.proofs.EachStep.{each_step}
 use Rattle.gl_steps.proofs.LivesOn.{settled_goes_on}
 use Rattle.gl_steps.proofs.NotRefused.{active_is, nodes_live}
-use Rattle.gl_steps.proofs.OneStep.{AllNone, all_none}
+use Rattle.gl_steps.proofs.OneStep.{all_none}
 use Rattle.gl_fairness.proofs.Before.{KeepsBefore, before_enqueued, before_filtered, before_granted, before_same, before_taken, before_trans, stands_in}
 
 -- a wait that continues while others are settled
@@ -110,7 +112,7 @@ module _ (s : State) (law : IsLawful s) (t : ℕ) (n : NodeId) (m : Mode) (waits
           let same : n.birth ≡ x.birth = ap (λ (p : NodeId). p.birth) (same_node-equal n x e) in
           absurd (omega arith)
 
-module _ (s : State) (law : IsLawful s) (t : TxnId) (n : NodeId) (m : Mode) (waits : status_of s t.slot ≡ Some (Waiting n m)) (a : Answer) (list : Told)
+module _ (s : State) (law : IsLawful s) (t : TxnId) (n : NodeId) (m : Mode) (waits : status_of s t.slot ≡ Some (Waiting n m)) (a : Answer)
     (next : State) (w : Mode) (still : status_of next t.slot ≡ Some (Waiting n w)) where
   abbrev Kept : Type 0
   Kept = KeepsBefore s next t.slot n
@@ -131,46 +133,34 @@ module _ (s : State) (law : IsLawful s) (t : TxnId) (n : NodeId) (m : Mode) (wai
       (wait_settles_before s.detect s.victims x next u.slot t.slot n w (waiting-lawful s law u q mode (may_lock s u q mode (worn s) [] free).0 e) still
       (locks.waits e)))
 
-  accepted : (c : Command) → refusal_of s c ≡ None → AllNone (tests_of s c) → Accepts s c a list next → Kept
-  accepted (command.Inner ps) free passed acc = made_is _ acc.4 (λ _. before_same s _ t.slot n (λ v. refl) refl refl)
-  accepted (command.File ps) free passed acc = made_is _ acc.4 (λ _. before_same s _ t.slot n (λ v. refl) refl refl)
-  accepted (command.Index ps f bs) free passed acc = made_is _ acc.4 (λ _. before_same s _ t.slot n (λ v. refl) refl refl)
-  accepted (command.Insert u f ks) free passed acc = made_is _ acc.4 (λ _. before_new s law t.slot n m waits next.graph acc.0 acc.1.birth u.slot)
-  accepted command.Begin free passed acc = made_is _ acc.4 (λ _. before_same s _ t.slot n (λ v. refl) refl refl)
-  accepted (command.BeginAgain since) free passed acc = made_is _ acc.4 (λ _. before_same s _ t.slot n (λ v. refl) refl refl)
-  accepted (command.Lock u q mode) free passed acc = locked u q mode free acc.0
-  accepted (command.Try u q mode) free passed acc =
-      made_is _ acc.2 (λ _. before_at_once s law t.slot n m waits u.slot q mode (not_false _ (test_fails _ no.WouldBlock passed.1.1.1.1.1.1.1.0)))
-  accepted (command.Unlock u q) free passed acc =
-      made_is _ acc.2 (before_taken s law _ _ _ (same_node q)
+  changed : Change s a next → Kept
+  changed (change.Regraphed g is) = made_is _ is (λ _. before_same s _ t.slot n (λ v. refl) refl refl)
+  changed (change.Born u x g active birth is) = made_is _ is (λ _. before_new s law t.slot n m waits g x birth u.slot)
+  changed (change.Begun u since is) = made_is _ is (λ _. before_same s _ t.slot n (λ v. refl) refl refl)
+  changed (change.Locked u q mode free locks is) = locked u q mode free locks
+  changed (change.Granted u q mode free is) =
+      let passed = all_none (tests_of s (command.Try u q mode)) free in
+      made_is _ is (λ _. before_at_once s law t.slot n m waits u.slot q mode (not_false _ (test_fails _ no.WouldBlock passed.1.1.1.1.1.1.1.0)))
+  changed (change.Unlocked u q free is) =
+      let passed = all_none (tests_of s (command.Unlock u q)) free in
+      made_is _ is (before_taken s law _ _ _ (same_node q)
       (unlocked-less s law u.slot q (active_is s u passed.1.0 passed.1.1.0 passed.1.1.1.0) passed.1.1.1.1.1.1.0) t.slot n w)
-  accepted (command.Escalate u q) free passed acc =
+  changed (change.Shed u q free is) =
+      let passed = all_none (tests_of s (command.Escalate u q)) free in
       let up : State = raised s u.slot q in
       let active = active_is s u passed.1.0 passed.1.1.0 passed.1.1.1.0 in
       let held : holds (members s q) u.slot ≡ true = not_false _ (test_fails _ no.NotHeld passed.1.1.1.1.1.1.0) in
       let up_law = raised-lawful s law u.slot q active (and_both _ _ (nodes_live s (q ∷ []) passed.1.1.1.1.0)).0
       (test_fails _ no.BadParents passed.1.1.1.1.1.0) held (not_false _ (test_fails _ no.WouldBlock passed.1.1.1.1.1.1.1.0)) in
-      made_is _ acc.2 (λ l. before_trans s up _ t.slot n
+      made_is _ is (λ l. before_trans s up _ t.slot n
       (before_granted s u.slot q (wanted s u.slot q (asked_by_escalation s u.slot q)) t.slot n (λ _. held) (λ _. supremum-above (s.held u.slot q) _))
       (before_taken up up_law _ _ _ (is_covered up u.slot q) (shed-less up up_law u.slot q active) t.slot n w l))
-  accepted (command.Cancel u) free passed acc =
-      made_is _ acc.2 (before_taken s law _ _ _ (is_waiting_at s u.slot) (without_wait-less s law u.slot Active (λ q v e. cc)) t.slot n w)
-  accepted (command.Commit u) free passed acc =
-      made_is _ acc.2 (before_taken s law _ _ _ (at_all s u.slot) (released-less s law u.slot) t.slot n w)
-  accepted (command.Renew u since) free passed acc = made_is _ acc.2 (λ _. before_same s _ t.slot n (λ v. refl) refl refl)
-  accepted (command.Abort u) free passed acc = made_is _ acc.2 (before_taken s law _ _ _ (at_all s u.slot) (released-less s law u.slot) t.slot n w)
-  accepted (command.Settle u) free passed acc = settled_before s.victims s next u.slot t.slot n w law still acc.2
-  accepted (command.Delete u r) free passed acc = made_is _ acc.2 (before_departed s (λ q. same_node q r) (without_node s.graph r) t.slot n w)
-  accepted (command.Rekey u r i k) free passed acc =
-      made_is _ acc.2 (λ _. before_moved s law r (rekeyed_parents s.graph r i k) (rekeyed s.graph r i k) t.slot n m waits)
-  accepted (command.Move u x ps) free passed acc = made_is _ acc.2 (λ _. before_moved s law x ps.now (with_parents s.graph x ps.now) t.slot n m waits)
-  accepted (command.Group q) free passed acc = absurd acc
-  accepted (command.Held u q) free passed acc = absurd acc
-  accepted (command.Effective u q) free passed acc = absurd acc
-  accepted (command.Adopt f ks) free passed acc = made_is _ acc.4 (λ _. before_same s _ t.slot n (λ v. refl) refl refl)
-  accepted (command.Forget r) free passed acc = made_is _ acc.2 (λ _. before_same s _ t.slot n (λ v. refl) refl refl)
-  accepted (command.Drop u x) free passed acc = made_is _ acc.2 (before_departed s (goes_with s.graph x) (without_branch s.graph x) t.slot n w)
-  accepted (command.IndexBy u ps f bs) free passed acc = made_is _ acc.4 (λ _. before_new s law t.slot n m waits next.graph acc.0 acc.1.birth u.slot)
+  changed (change.Cancelled u is) =
+      made_is _ is (before_taken s law _ _ _ (is_waiting_at s u.slot) (without_wait-less s law u.slot Active (λ q v e. cc)) t.slot n w)
+  changed (change.Released u is) = made_is _ is (before_taken s law _ _ _ (at_all s u.slot) (released-less s law u.slot) t.slot n w)
+  changed (change.Settles u is) = settled_before s.victims s next u.slot t.slot n w law still is
+  changed (change.Departed goes g is) = made_is _ is (before_departed s goes g t.slot n w)
+  changed (change.Moved x ps g is) = made_is _ is (λ _. before_moved s law x ps g t.slot n m waits)
 
 -- over a step with t waiting on n before and after
 pub step_before : (s s' : State) (c : Command) (a : Answer) (told : Told) (t : TxnId) (n : NodeId) → IsLawful s → Step s c a told s' → waits_on s t n ≡ true
@@ -180,4 +170,4 @@ step_before s s' c a told t n law step begin end =
     each_step (λ (x : State). waits_on x t n ≡ true → KeepsBefore s x t.slot n) s c a told s' (λ h. before_same s s t.slot n (λ v. refl) refl refl)
     (λ next k h. let kept = k h in record { stood = kept.stood; no_less = kept.no_less; most = kept.most })
     (λ free next acc h. let e = waiting_is (status_of next t.slot) n (and_both _ _ h).1 in
-    accepted s law t n b.0 b.1 a told next e.0 e.1 c free (all_none (tests_of s c) free) acc) step end
+    changed s law t n b.0 b.1 a next e.0 e.1 (change_of s c a told next free acc)) step end

@@ -25,6 +25,8 @@ use Rattle.gl_steps.specs.Tests.{refusal_of}
 use Rattle.gl_steps.proofs.LockCommands.{may_renew}
 use Rattle.gl_fairness.specs.Turns.{begins_ahead}
 use Rattle.gl_steps.proofs.Beginning.{Begins}
+use Rattle.gl_steps.proofs.Changes.{Change, change_of}
+use Rattle.gl_steps.proofs.Changes as change
 use Rattle.gl_steps.proofs.EachStep.{each_step}
 use Rattle.gl_steps.proofs.LivesOn.{GoesOn, SameTurn, restatus_turn, turn_same, turn_trans, freed_among_on, freed_on, over_goes_on, pumped_goes_on}
 use Rattle.gl_steps.proofs.LivesOn.{settled_goes_on, unless_on, wait_settles_goes_on, woken_on}
@@ -109,42 +111,37 @@ module _ (s : State) (v : ℕ) (a : Answer) (list : Told) (next : State) where
       let may = may_renew s u n free in
       record { active = ap (status_of s) e ∙ may.active; rests = ap (λ w. list_any (hinders_at s w) (nodes s.graph)) e ∙ may.rests }
 
-  still : {c : Command} → Kept → HasTurn s v c (next.txns v)
-  still kept k = inl (kept k)
+  -- a change by which none begins
+  abbrev KeptIf : Change s a next → Type 0
+  KeptIf (change.Begun u since is) = Unit {0}
+  KeptIf x = Kept
+
+  changed : (x : Change s a next) → KeptIf x
+  changed (change.Regraphed g is) = unmoved _ is refl
+  changed (change.Born u q g active birth is) = unmoved _ is refl
+  changed (change.Begun u since is) = tt
+  changed (change.Locked u q w free locks is) = locked_case u.slot q w locks
+  changed (change.Granted u q w free is) = unmoved _ is refl
+  changed (change.Unlocked u q free is) = on _ is (pumped_goes_on (with_grant s u.slot q NL) (same_node q) v)
+  changed (change.Shed u q free is) =
+      let up : State = raised s u.slot q in
+      on _ is (pumped_goes_on (record up { held = λ x c. if (x == u.slot) && is_covered up u.slot q c then NL else up.held x c }) (is_covered up u.slot q) v)
+  changed (change.Cancelled u is) = on _ is (over_goes_on s u.slot Active (λ q w h. cc) v)
+  changed (change.Released u is) = released_case u.slot is
+  changed (change.Settles u is) = λ k. (settled_goes_on s.victims s next u.slot v is).turn
+  changed (change.Departed goes g is) = on _ is (freed_among_on goes (s.txns v))
+  changed (change.Moved x ps g is) = on _ is (unless_on (λ y. is_among_waiters y (filter (stays s ps) (s.queue x))) x v (s.txns v))
 
   accepted : (c : Command) → refusal_of s c ≡ None → Accepts s c a list next → HasTurn s v c (next.txns v)
-  accepted (command.Inner ps) free acc = still (unmoved _ acc.4 refl)
-  accepted (command.File ps) free acc = still (unmoved _ acc.4 refl)
-  accepted (command.Index ps f bs) free acc = still (unmoved _ acc.4 refl)
-  accepted (command.Insert u f ks) free acc = still (unmoved _ acc.4 refl)
   accepted command.Begin free acc = begins command.Begin (s.begins + 1) (omega arith) (λ bound few h. omega arith) acc
   accepted (command.BeginAgain n) free acc = begins (command.BeginAgain n) (min n (s.begins + 1)) (omega arith) (again_behind s.begins n) acc
-  accepted (command.Lock u q w) free acc = still (locked_case u.slot q w acc.0)
-  accepted (command.Try u q w) free acc = still (unmoved _ acc.2 refl)
-  accepted (command.Unlock u q) free acc = still (on _ acc.2 (pumped_goes_on (with_grant s u.slot q NL) (same_node q) v))
-  accepted (command.Escalate u q) free acc =
-      let up : State = raised s u.slot q in
-      still (on _ acc.2 (pumped_goes_on (record up { held = λ x c. if (x == u.slot) && is_covered up u.slot q c then NL else up.held x c })
-      (is_covered up u.slot q) v))
-  accepted (command.Cancel u) free acc = still (on _ acc.2 (over_goes_on s u.slot Active (λ q w h. cc) v))
-  accepted (command.Commit u) free acc = still (released_case u.slot acc.2)
   accepted (command.Renew u n) free acc =
       begins_in (command.Renew u n) u.slot (min n (s.begins + 1)) (λ e. inr (renews u n free e)) (omega arith)
       (again_behind s.begins n) acc.2
-  accepted (command.Abort u) free acc = still (released_case u.slot acc.2)
-  accepted (command.Settle u) free acc = still (λ k. (settled_goes_on s.victims s next u.slot v acc.2).turn)
-  accepted (command.Delete u r) free acc = still (on _ acc.2 (freed_on r (s.txns v)))
-  accepted (command.Rekey u r i k) free acc =
-      let ps = rekeyed_parents s.graph r i k in
-      still (on _ acc.2 (unless_on (λ x. is_among_waiters x (filter (stays s ps) (s.queue r))) r v (s.txns v)))
-  accepted (command.Move u x ps) free acc = still (on _ acc.2 (unless_on (λ y. is_among_waiters y (filter (stays s ps.now) (s.queue x))) x v (s.txns v)))
   accepted (command.Group q) free acc = absurd acc
   accepted (command.Held u q) free acc = absurd acc
   accepted (command.Effective u q) free acc = absurd acc
-  accepted (command.Adopt f ks) free acc = still (unmoved _ acc.4 refl)
-  accepted (command.Forget r) free acc = still (unmoved _ acc.2 refl)
-  accepted (command.Drop u x) free acc = still (on _ acc.2 (freed_among_on (goes_with s.graph x) (s.txns v)))
-  accepted (command.IndexBy u ps f bs) free acc = still (unmoved _ acc.4 refl)
+  accepted c free acc = λ k. inl (changed (change_of s c a list next free acc) k)
 
 pub step_turn : (s s' : State) (c : Command) (a : Answer) (told : Told) (v : ℕ) → Step s c a told s' → HasTurn s v c (s'.txns v)
 step_turn s s' c a told v =

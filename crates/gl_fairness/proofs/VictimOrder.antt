@@ -36,7 +36,8 @@ use Rattle.gl_steps.specs.declared.command.Command.{Command}
 use Rattle.gl_steps.specs.declared.command.Command.TheVariants as command
 use Rattle.gl_steps.specs.Step.{Accepts}
 use Rattle.gl_steps.specs.Tests.{refusal_of, worn}
-use Rattle.gl_steps.proofs.Beginning.{Begins}
+use Rattle.gl_steps.proofs.Changes.{Change, change_of}
+use Rattle.gl_steps.proofs.Changes as change
 use Rattle.gl_steps.proofs.EachStep.{each_step}
 use Rattle.gl_steps.proofs.LivesOn.{SameTurn, over_goes_on}
 use Rattle.gl_fairness.specs.Turns.{VictimAfterALiving, VictimAfterOthers, VictimAfterSomebody, comes_before}
@@ -145,7 +146,7 @@ wait_settles_victim ByWatcher s s' t v law h e = inl (ap (λ (x : State). status
 
 -- Each command.
 
-module _ (s : State) (law : IsLawful s) (young : s.victims ≡ Youngest) (v : ℕ) (a : Answer) (list : Told) (next : State) where
+module _ (s : State) (law : IsLawful s) (young : s.victims ≡ Youngest) (v : ℕ) (a : Answer) (next : State) where
   abbrev Well : Type 0
   Well = IsFairVictim s v next
 
@@ -180,39 +181,22 @@ module _ (s : State) (law : IsLawful s) (young : s.victims ≡ Youngest) (v : �
       new : Option Txn
       new = Some (record { age = s.begins + 1; since = since; status = Active })
 
-  begins : (since : ℕ) → Begins since s a list next → Well
-  begins since acc = begins_in acc.0 since acc.4
-
-  accepted : (c : Command) → refusal_of s c ≡ None → Accepts s c a list next → Well
-  accepted (command.Inner ps) free acc = unmoved _ acc.4 refl
-  accepted (command.File ps) free acc = unmoved _ acc.4 refl
-  accepted (command.Index ps f bs) free acc = unmoved _ acc.4 refl
-  accepted (command.Insert u f ks) free acc = unmoved _ acc.4 refl
-  accepted command.Begin free acc = begins (s.begins + 1) acc
-  accepted (command.BeginAgain since) free acc = begins (min since (s.begins + 1)) acc
-  accepted (command.Lock u q w) free acc = locked_case u q w free acc.0
-  accepted (command.Try u q w) free acc = unmoved _ acc.2 refl
-  accepted (command.Unlock u q) free acc = calm _ acc.2 (woken_calm _ v (s.txns v))
-  accepted (command.Escalate u q) free acc = calm _ acc.2 (woken_calm _ v (s.txns v))
-  accepted (command.Cancel u) free acc = calm _ acc.2 (λ h. restatus_calm Active (λ f. cc f) s u.slot v (woken_calm _ v _ h))
-  accepted (command.Commit u) free acc = released_case u.slot acc.2
-  accepted (command.Renew u since) free acc = begins_in u.slot (min since (s.begins + 1)) acc.2
-  accepted (command.Abort u) free acc = released_case u.slot acc.2
-  accepted (command.Settle u) free acc = let settled = subst (λ c. Settled c s u.slot next) young acc.2 in
-      settled_victim settled.0 s next u.slot v law settled.1
-  accepted (command.Delete u r) free acc = calm _ acc.2 (freed_calm (λ q. same_node q r) (s.txns v))
-  accepted (command.Rekey u r i k) free acc =
-      let ps = rekeyed_parents s.graph r i k in calm _ acc.2 (unless_calm (λ x. is_among_waiters x (filter (stays s ps) (s.queue r))) r v (s.txns v))
-  accepted (command.Move u x ps) free acc = calm _ acc.2 (unless_calm (λ y. is_among_waiters y (filter (stays s ps.now) (s.queue x))) x v (s.txns v))
-  accepted (command.Group q) free acc = absurd acc
-  accepted (command.Held u q) free acc = absurd acc
-  accepted (command.Effective u q) free acc = absurd acc
-  accepted (command.Adopt f ks) free acc = unmoved _ acc.4 refl
-  accepted (command.Forget r) free acc = unmoved _ acc.2 refl
-  accepted (command.Drop u x) free acc = calm _ acc.2 (freed_calm (goes_with s.graph x) (s.txns v))
-  accepted (command.IndexBy u ps f bs) free acc = unmoved _ acc.4 refl
+  changed : Change s a next → Well
+  changed (change.Regraphed g is) = unmoved _ is refl
+  changed (change.Born u q g active birth is) = unmoved _ is refl
+  changed (change.Begun u since is) = begins_in u since is
+  changed (change.Locked u q w free locks is) = locked_case u q w free locks
+  changed (change.Granted u q w free is) = unmoved _ is refl
+  changed (change.Unlocked u q free is) = calm _ is (woken_calm _ v (s.txns v))
+  changed (change.Shed u q free is) = calm _ is (woken_calm _ v (s.txns v))
+  changed (change.Cancelled u is) = calm _ is (λ h. restatus_calm Active (λ f. cc f) s u.slot v (woken_calm _ v _ h))
+  changed (change.Released u is) = released_case u.slot is
+  changed (change.Settles u is) = let settled = subst (λ c. Settled c s u.slot next) young is in settled_victim settled.0 s next u.slot v law settled.1
+  changed (change.Departed goes g is) = calm _ is (freed_calm goes (s.txns v))
+  changed (change.Moved x ps g is) = calm _ is (unless_calm (λ y. is_among_waiters y (filter (stays s ps) (s.queue x))) x v (s.txns v))
 
 pub victim_after_a_living : VictimAfterALiving
 victim_after_a_living s s' c a told v law young step becomes =
     ⊎_elim (λ was. absurd (becomes.not_before was)) (λ b. b)
-    (each_step (IsFairVictim s v) s c a told s' (λ h. inl h) (λ next h. h) (λ free next acc. accepted s law young v a told next c free acc) step becomes.after)
+    (each_step (IsFairVictim s v) s c a told s' (λ h. inl h) (λ next h. h) 
+    (λ free next acc. changed s law young v a next (change_of s c a told next free acc)) step becomes.after)

@@ -15,7 +15,7 @@ use gl_catalog::{Answer, Command};
 use gl_modes::{Mode, NodeId, Refusal};
 use gl_slots::Slots;
 use gl_table::{Told, TxnId};
-use gl_wakes::{Grant, Stop, ended_by};
+use gl_wakes::{Grant, Stop};
 use std::alloc::Global;
 use std::sync::{MutexGuard, Wait};
 
@@ -50,8 +50,8 @@ fn serve_all<N: Naming>(
     let mut ended = Slots::empty();
     for command in commands {
         told.clear();
-        let answer = guarded.serve_telling(share, *command, told);
-        ended = ended.union(ended_by(command, told.as_slice()));
+        let (answer, more) = guarded.serve_telling(share, *command, told);
+        ended = ended.union(more);
         let last = !goes_on(&answer);
         answers.push_reserved(answer);
         if last {

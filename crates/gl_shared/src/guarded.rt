@@ -14,10 +14,12 @@ ghost use Rattle.gl_steps.specs.Promises.{KeepsCaller};
 ghost use Rattle.gl_wakes.specs.Boxes.{verdict_of};
 ghost use Rattle.gl_steps.specs.Served.{accepts};
 ghost use Rattle.gl_wakes.specs.Notices.{RisingTo};
+ghost use Rattle.gl_wakes.specs.Wakes.{HasEnded};
 ghost use Rattle.gl_window.specs.Tellings.{is_due};
 ghost use Rattle.gl_wakes.specs.declared.grant.Grant.{Grant};
 ghost use Rattle.gl_window.specs.Boards.{last_epoch, IsLawful};
 ghost use Rattle.gl_shared.specs.Batches.{ServesOne, one_if};
+ghost use Rattle.gl_shared.specs.Sessions.{AreWoken};
 ghost use Rattle.gl_shared.specs.State.{Remembers, StaysUntold, Told};
 
 use crate::naming::Naming;
@@ -26,6 +28,7 @@ use crate::publisher::Publisher;
 use crate::share::Share;
 use gl_catalog::{Answer, Command, Counters, Manager, Reply};
 use gl_modes::{Mode, NodeId};
+use gl_slots::Slots;
 use gl_steps::{is_accepted, leaves_waiting};
 use gl_table::{Told, TxnId};
 use gl_wakes::{Boxes, Grant, Stop};
@@ -200,35 +203,38 @@ impl<N: Naming> Guarded<N> {
         ensures calm { N.detect ≡ AtBlock → HasNoCycle (state_of self.new.manager) }
     {
         let mut told = Told::new();
-        let answer = self.serve_telling(share, command, &mut told);
+        let (answer, _) = self.serve_telling(share, command, &mut told);
         self.law();
         Reply { answer, told }
     }
 
-    /// As `serve`, with the notices put into an empty list, which the caller may use again.
+    /// As `serve`, with the notices put into an empty list, which the caller may use again. Also answers the slots whose
+    /// wait the command may have ended.
     pub fn serve_telling(
         &mut self,
         share: &mut Share<N>,
         command: Command<'_>,
         told: &mut Told,
-    ) -> Answer
+    ) -> (Answer, Slots)
         requires empty { told.old.items ≡ [] }
-        ensures serves { ServesOne self.old command.entry result told.new.items self.new }
-        ensures share { share.new ≡ share.old + one_if (accepts command.entry result) }
+        ensures serves { ServesOne self.old command.entry result.0 told.new.items self.new }
+        ensures share { share.new ≡ share.old + one_if (accepts command.entry result.0) }
         ensures caller { KeepsCaller command.entry (state_of self.old.manager) (state_of self.new.manager) }
         ensures rising { RisingTo 0 told.new.items most_slots }
+        ensures ended { HasEnded (state_of self.old.manager) (state_of self.new.manager) result.1 }
+        ensures woken { accepts command.entry result.0 ≡ true → AreWoken command.entry told.new.items result.1 }
     {
         self.manager.law();
         let answer = self.manager.apply_telling(command, told);
         let _counted = self.manager.accepted();
         if !is_accepted(&command, &answer) {
-            return answer;
+            return (answer, Slots::empty());
         }
         self.book.add(&mut share.token, 1);
         self.served += 1;
         self.waited |= leaves_waiting(&answer);
-        self.boxes.deliver(&command, told.as_slice());
-        answer
+        let ended = self.boxes.deliver(&command, told);
+        (answer, ended)
     }
 
     /// As `serve_telling`, for a lock.
@@ -239,12 +245,13 @@ impl<N: Naming> Guarded<N> {
         node: NodeId,
         mode: Mode,
         told: &mut Told,
-    ) -> Answer
+    ) -> (Answer, Slots)
         requires empty { told.old.items ≡ [] }
-        ensures serves { ServesOne self.old (Lock txn node mode) result told.new.items self.new }
-        ensures share { share.new ≡ share.old + one_if (accepts (Lock txn node mode) result) }
+        ensures serves { ServesOne self.old (Lock txn node mode) result.0 told.new.items self.new }
+        ensures share { share.new ≡ share.old + one_if (accepts (Lock txn node mode) result.0) }
         ensures rising { RisingTo 0 told.new.items most_slots }
-        ensures covers { (held : AMode) → result ≡ Granted held → is_at_least held mode ≡ true }
+        ensures covers { (held : AMode) → result.0 ≡ Granted held → is_at_least held mode ≡ true }
+        ensures woken { accepts (Lock txn node mode) result.0 ≡ true → AreWoken (Lock txn node mode) told.new.items result.1 }
     {
         self.law();
         self.serve_telling(share, Command::Lock { txn, node, mode }, told)

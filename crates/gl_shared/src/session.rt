@@ -100,12 +100,11 @@ impl<'a, N: Naming> Session<'a, N> {
     {
         let mut guard = self.shared.latch.lock(rt);
         guard.law();
-        let answer = guard.serve_telling(&mut self.share, command, told);
+        let (answer, ended) = guard.serve_telling(&mut self.share, command, told);
         self.served_at = guard.accepted_beside(&mut self.share);
         if is_accepted(&command, &answer) {
             let _ = guard.tell_if_due(rt);
-            let told = told.as_slice();
-            self.woken = self.shared.wakes.wake_ended(&command, told);
+            self.woken = self.shared.wakes.wake(ended);
         }
         MutexGuard::unlock(guard);
         answer
@@ -156,16 +155,15 @@ impl<'a, N: Naming> Session<'a, N> {
         self.notices.clear();
         let mut guard = self.shared.latch.lock(rt);
         guard.law();
-        let answer = guard.serve_lock(&mut self.share, txn, node, mode, &mut self.notices);
+        let (answer, ended) =
+            guard.serve_lock(&mut self.share, txn, node, mode, &mut self.notices);
         self.served_at = guard.accepted_beside(&mut self.share);
         if let Answer::Refused(refusal) = answer {
             MutexGuard::unlock(guard);
             return Err(Stop::Refused(refusal));
         }
         let _ = guard.tell_if_due(rt);
-        let asked = Command::Lock { txn, node, mode };
-        let told = self.notices.as_slice();
-        self.woken = self.shared.wakes.wake_ended(&asked, told);
+        self.woken = self.shared.wakes.wake(ended);
         match answer {
             Answer::Granted(held) => {
                 MutexGuard::unlock(guard);

@@ -3,13 +3,8 @@
 ghost use Rattle.gl_slots.specs.Limit.{most_slots};
 ghost use Rattle.std.specs.Prelude.{◌≡◌, ◌<◌};
 ghost use Rattle.gl_slots.specs.Slots.{no_slots};
-ghost use Rattle.gl_wakes.specs.Notices.{RisingTo};
-ghost use Rattle.gl_shared.specs.Sessions.{AreWoken};
 
-use gl_catalog::Command;
 use gl_slots::{SLOTS, Slot, Slots};
-use gl_table::{Notice, TxnId};
-use gl_wakes::ended_by;
 use std::array;
 use std::marker::Model;
 use std::snapshot::Snapshot;
@@ -60,14 +55,6 @@ impl Wakes {
         slot: Slot,
     ) -> MutexGuard<'b, T> {
         self.slots[place_of(slot)].wait(rt, guard)
-    }
-
-    /// Wakes the sessions whose wait a command with these notices may have ended.
-    pub(crate) fn wake_ended(&self, command: &Command<'_>, told: &[(TxnId, Notice)]) -> Woken
-        requires { RisingTo 0 told.now most_slots }
-        ensures { AreWoken command.now told.now result }
-    {
-        self.wake(ended_by(command, told))
     }
 
     /// Wakes the sessions that sleep in these slots. Only tests show that each is notified.

@@ -121,25 +121,14 @@ module _ (s : State) (law : IsLawful s) where
   goes command.Begin None e = (_, (_, begins e, refl, refl, refl), refl)
   goes (command.BeginAgain since) None e = (_, (_, begins e, refl, refl, refl), refl)
   goes (command.Lock t n m) None e = (_, (locks_some s law t n m (may_lock s t n m (worn s) [] e).0, refl, refl), refl)
-  goes (command.Try t n m) None e = (_, (refl, refl, refl), refl)
-  goes (command.Unlock t n) None e = (_, (refl, refl, refl), refl)
-  goes (command.Escalate t n) None e = (_, (refl, refl, refl), refl)
-  goes (command.Cancel t) None e = (_, (refl, refl, refl), refl)
-  goes (command.Commit t) None e = (_, (refl, refl, refl), refl)
-  goes (command.Renew t since) None e = (_, (refl, refl, refl), refl)
-  goes (command.Abort t) None e = (_, (refl, refl, refl), refl)
   goes (command.Settle t) None e = (_, (refl, refl, settles s.victims s law t.slot), refl)
   goes (command.Insert t f keys) None e = (_, (_, record { key_free = key_free; birth = refl; after = refl }, refl, refl, refl), refl)
-  goes (command.Delete t r) None e = (_, (refl, refl, refl), refl)
-  goes (command.Rekey t r i key) None e = (_, (refl, refl, refl), refl)
-  goes (command.Move t n ps) None e = (_, (refl, refl, refl), refl)
   goes (command.Group n) None e = record { answer_is = refl; nobody_told = refl; same = refl }
   goes (command.Held t n) None e = record { answer_is = refl; nobody_told = refl; same = refl }
   goes (command.Effective t n) None e = record { answer_is = refl; nobody_told = refl; same = refl }
   goes (command.Adopt f keys) None e = (_, (_, record { key_free = key_free; birth = refl; after = refl }, refl, refl, refl), refl)
-  goes (command.Forget r) None e = (_, (refl, refl, refl), refl)
-  goes (command.Drop t n) None e = (_, (refl, refl, refl), refl)
   goes (command.IndexBy t ps f bs) None e = (_, (_, index_is_born ps.now f bs.now, refl, refl, refl), refl)
+  goes c None e = (_, (refl, refl, refl), refl)
 
   -- of any command
   pub execute_steps : (c : Command) → Step s c (execute s c).0 (execute s c).1 (execute s c).2

@@ -15,6 +15,8 @@ pub mod DeleteKeeps
 pub mod MoveCommands
 pub mod SchemaKeeps
 pub mod StepsKeepLaw
+-- what every command keeps is proved by the kind of its change
+pub mod Changes
 -- no command makes a cycle of waits
 pub mod Detection
 pub mod StepNoCycle

@@ -56,24 +56,22 @@ same_accepted s law (command.Lock t n m) s₁ s₂ a₁ a₂ told₁ told₂ non
     (y.0.waits e)) in
     (x.1 ∙ ap (λ z. lock_answer (z.held t.slot n) (status_of z t.slot)) e ∙ sym y.1, x.2 ∙ ap (told_but t.slot s) e ∙ sym y.2, e)
 same_accepted s law (command.Try t n m) s₁ s₂ a₁ a₂ told₁ told₂ none free x y = (x.0 ∙ sym y.0, x.1 ∙ sym y.1, x.2 ∙ sym y.2)
-same_accepted s law (command.Unlock t n) s₁ s₂ a₁ a₂ told₁ told₂ none free x y = by_told s s₁ s₂ a₁ a₂ told₁ told₂ (told s) x.0 y.0 x.1 y.1 (x.2 ∙ sym y.2)
-same_accepted s law (command.Escalate t n) s₁ s₂ a₁ a₂ told₁ told₂ none free x y = by_told s s₁ s₂ a₁ a₂ told₁ told₂ (told s) x.0 y.0 x.1 y.1 (x.2 ∙ sym y.2)
 same_accepted s law (command.Cancel t) s₁ s₂ a₁ a₂ told₁ told₂ none free x y =
     by_told s s₁ s₂ a₁ a₂ told₁ told₂ (told_but t.slot s) x.0 y.0 x.1 y.1 (x.2 ∙ sym y.2)
-same_accepted s law (command.Commit t) s₁ s₂ a₁ a₂ told₁ told₂ none free x y = by_told s s₁ s₂ a₁ a₂ told₁ told₂ (told s) x.0 y.0 x.1 y.1 (x.2 ∙ sym y.2)
 same_accepted s law (command.Renew t since) s₁ s₂ a₁ a₂ told₁ told₂ none free x y = (x.0 ∙ sym y.0, x.1 ∙ sym y.1, x.2 ∙ sym y.2)
-same_accepted s law (command.Abort t) s₁ s₂ a₁ a₂ told₁ told₂ none free x y = by_told s s₁ s₂ a₁ a₂ told₁ told₂ (told s) x.0 y.0 x.1 y.1 (x.2 ∙ sym y.2)
 same_accepted s law (command.Settle t) s₁ s₂ a₁ a₂ told₁ told₂ none free x y =
     by_told s s₁ s₂ a₁ a₂ told₁ told₂ (told s) x.0 y.0 x.1 y.1 (settled_one s.victims s s₁ s₂ t.slot law x.2 y.2)
-same_accepted s law (command.Delete t r) s₁ s₂ a₁ a₂ told₁ told₂ none free x y = by_told s s₁ s₂ a₁ a₂ told₁ told₂ (told s) x.0 y.0 x.1 y.1 (x.2 ∙ sym y.2)
-same_accepted s law (command.Rekey t r i key) s₁ s₂ a₁ a₂ told₁ told₂ none free x y = by_told s s₁ s₂ a₁ a₂ told₁ told₂ (told s) x.0 y.0 x.1 y.1 (x.2 ∙ sym y.2)
-same_accepted s law (command.Move t n ps) s₁ s₂ a₁ a₂ told₁ told₂ none free x y = by_told s s₁ s₂ a₁ a₂ told₁ told₂ (told s) x.0 y.0 x.1 y.1 (x.2 ∙ sym y.2)
 same_accepted s law (command.Group n) s₁ s₂ a₁ a₂ told₁ told₂ none free x y = absurd x
 same_accepted s law (command.Held t n) s₁ s₂ a₁ a₂ told₁ told₂ none free x y = absurd x
 same_accepted s law (command.Effective t n) s₁ s₂ a₁ a₂ told₁ told₂ none free x y = absurd x
 same_accepted s law (command.Forget r) s₁ s₂ a₁ a₂ told₁ told₂ none free x y = (x.0 ∙ sym y.0, x.1 ∙ sym y.1, x.2 ∙ sym y.2)
-same_accepted s law (command.Drop t n) s₁ s₂ a₁ a₂ told₁ told₂ none free x y = by_told s s₁ s₂ a₁ a₂ told₁ told₂ (told s) x.0 y.0 x.1 y.1 (x.2 ∙ sym y.2)
-same_accepted s law c s₁ s₂ a₁ a₂ told₁ told₂ none free x y = absurd (true≢false none)
+same_accepted s law (command.Inner ps) s₁ s₂ a₁ a₂ told₁ told₂ none free x y = absurd (true≢false none)
+same_accepted s law (command.File ps) s₁ s₂ a₁ a₂ told₁ told₂ none free x y = absurd (true≢false none)
+same_accepted s law (command.Index ps f bs) s₁ s₂ a₁ a₂ told₁ told₂ none free x y = absurd (true≢false none)
+same_accepted s law (command.Insert t f keys) s₁ s₂ a₁ a₂ told₁ told₂ none free x y = absurd (true≢false none)
+same_accepted s law (command.Adopt f keys) s₁ s₂ a₁ a₂ told₁ told₂ none free x y = absurd (true≢false none)
+same_accepted s law (command.IndexBy t ps f bs) s₁ s₂ a₁ a₂ told₁ told₂ none free x y = absurd (true≢false none)
+same_accepted s law c s₁ s₂ a₁ a₂ told₁ told₂ none free x y = by_told s s₁ s₂ a₁ a₂ told₁ told₂ (told s) x.0 y.0 x.1 y.1 (x.2 ∙ sym y.2)
 
 pub one_outcome : OneOutcome
 one_outcome s s₁ s₂ c a₁ a₂ told₁ told₂ law none g h = by (refusal_of s c) refl g h

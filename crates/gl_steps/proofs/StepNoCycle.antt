@@ -1,5 +1,5 @@
 -- With detection at each block no command at all leaves a cycle: those on the graph add no step.
-use Rattle.std.specs.Prelude.{◌≡◌, ◌+◌, min, [], ◌∷◌, None}
+use Rattle.std.specs.Prelude.{◌≡◌, [], ◌∷◌, None}
 use Rattle.std.proofs.Common.{sym, ◌∙◌, subst}
 use Rattle.gl_modes.specs.declared.mode.Mode.TheVariants.{X}
 use Rattle.gl_modes.specs.declared.node.NodeId.{NodeId}
@@ -8,11 +8,10 @@ use Rattle.gl_model.specs.declared.answers.Detect.TheVariants.{AtBlock}
 use Rattle.gl_steps.specs.declared.command.Answer.{Answer}
 use Rattle.gl_steps.specs.declared.command.Command.{Command}
 use Rattle.gl_steps.specs.declared.command.Command.TheVariants as command
-use Rattle.gl_graph.specs.Changes.{rekeyed, rekeyed_parents, with_parents}
 use Rattle.gl_model.specs.State.{State, with_graph, HasNoCycle}
 use Rattle.gl_model.specs.Lawful.{IsLawful}
 use Rattle.gl_model.specs.Tellings.{Told}
-use Rattle.gl_steps.specs.Step.{Accepts, Step}
+use Rattle.gl_steps.specs.Step.{Step}
 use Rattle.gl_steps.specs.Tests.{refusal_of, worn}
 use Rattle.gl_modes.specs.declared.refusal.Refusal.TheVariants as no
 use Rattle.gl_model.specs.declared.txn.TxnId.{TxnId}
@@ -20,17 +19,17 @@ use Rattle.gl_graph.specs.Graph.{shape_of}
 use Rattle.gl_graph.specs.Shapes.{is_record_shape}
 use Rattle.gl_model.specs.Calls.{escalation_blocks, held_child, not_held, asked_by_escalation, raised, shed, wanted}
 use Rattle.gl_steps.specs.Promises.{RunsKeepNoCycle}
-use Rattle.gl_graph.specs.Refusals.{where_true, worn_births}
+use Rattle.gl_graph.specs.Refusals.{where_true}
 use Rattle.gl_graph.proofs.Unrefused.{not_false, not_refused, test_fails}
 use Rattle.gl_model.proofs.law.Tests.{raised-lawful}
 use Rattle.gl_model.proofs.law.Move.{moved-no_cycle}
 use Rattle.gl_model.proofs.law.Tests.{active_after}
-use Rattle.gl_model.proofs.law.Records.{deleted-no_cycle}
+use Rattle.gl_model.proofs.law.Departures.{departed-no_cycle}
 use Rattle.gl_model.proofs.law.Lock.{may_lock}
 use Rattle.gl_model.proofs.law.Lock.{begun-no_cycle, granted-no_cycle, locks-no_cycle, unlocked-no_cycle, shed-no_cycle, given_up-no_cycle}
 use Rattle.gl_model.proofs.law.Lock.{released-no_cycle, settled-no_cycle}
-use Rattle.gl_model.proofs.law.Schema.{dropped-no_cycle}
-use Rattle.gl_steps.proofs.SchemaKeeps.{may_index}
+use Rattle.gl_steps.proofs.Changes.{Change, change_of}
+use Rattle.gl_steps.proofs.Changes as change
 use Rattle.gl_steps.proofs.EachStep.{each_step}
 use Rattle.gl_steps.proofs.Detection.{steps_keep_detect}
 use Rattle.gl_steps.proofs.StepsKeepLaw.{steps_keep_law}
@@ -47,50 +46,30 @@ escalated-no_cycle s law t n h none =
     (raised-lawful s law t.slot n a.0 a.1 (test_fails _ _ b.0) (not_false _ (test_fails _ _ c.0)) (not_false _ (test_fails _ _ d.0))) t.slot n a.0
     (granted-no_cycle s t.slot n (wanted s t.slot n (asked_by_escalation s t.slot n)) a.0 none)
 
-accepts-no_cycle : (s : State) (c : Command) (a : Answer) (told' : Told) (s' : State) → s.detect ≡ AtBlock → IsLawful s → HasNoCycle s
-    → refusal_of s c ≡ None → Accepts s c a told' s' → HasNoCycle s'
-accepts-no_cycle s (command.Inner ps) a told' s' at law none h acc = subst HasNoCycle (sym acc.4) none
-accepts-no_cycle s (command.File ps) a told' s' at law none h acc = subst HasNoCycle (sym acc.4) none
-accepts-no_cycle s (command.Index ps f bs) a told' s' at law none h acc = subst HasNoCycle (sym acc.4) none
-accepts-no_cycle s (command.Insert t f keys) a told' s' at law none h acc =
-    subst HasNoCycle (sym acc.4) (granted-no_cycle (with_graph s s'.graph) t.slot acc.0 X
-    (active_after s t f (worn_births s.graph) _ (not_refused (worn s) _ h).1).0 none)
-accepts-no_cycle s (command.Delete t r) a told' s' at law none h acc = subst HasNoCycle (sym acc.2) (deleted-no_cycle s r none)
-accepts-no_cycle s (command.Rekey t r i key) a told' s' at law none h acc =
-    subst HasNoCycle (sym acc.2) (moved-no_cycle s law r (rekeyed_parents s.graph r i key) (rekeyed s.graph r i key) none)
-accepts-no_cycle s (command.Move t n ps) a told' s' at law none h acc =
-    subst HasNoCycle (sym acc.2) (moved-no_cycle s law n ps.now (with_parents s.graph n ps.now) none)
-accepts-no_cycle s command.Begin a told' s' at law none h acc = subst HasNoCycle (sym acc.4) (begun-no_cycle s acc.0 (s.begins + 1) none)
-accepts-no_cycle s (command.BeginAgain since) a told' s' at law none h acc =
-    subst HasNoCycle (sym acc.4) (begun-no_cycle s acc.0 (min since (s.begins + 1)) none)
-accepts-no_cycle s (command.Lock t n m) a told' s' at law none h acc = locks-no_cycle s s' at law t n m (may_lock s t n m (worn s) [] h).0 acc.0 none
-accepts-no_cycle s (command.Try t n m) a told' s' at law none h acc =
-    subst HasNoCycle (sym acc.2) (granted-no_cycle s t.slot n (wanted s t.slot n m) (active_after s t n (worn s) _ h).0 none)
-accepts-no_cycle s (command.Unlock t n) a told' s' at law none h acc =
-    let a = active_after s t n (worn s) _ h in
+changes-no_cycle : (s : State) (a : Answer) (s' : State) → s.detect ≡ AtBlock → IsLawful s → HasNoCycle s → Change s a s' → HasNoCycle s'
+changes-no_cycle s a s' at law none (change.Regraphed g is) = subst HasNoCycle (sym is) none
+changes-no_cycle s a s' at law none (change.Born t n g active birth is) = subst HasNoCycle (sym is) (granted-no_cycle (with_graph s g) t.slot n X active none)
+changes-no_cycle s a s' at law none (change.Begun u since is) = subst HasNoCycle (sym is) (begun-no_cycle s u since none)
+changes-no_cycle s a s' at law none (change.Locked t n m free locks is) = locks-no_cycle s s' at law t n m (may_lock s t n m (worn s) [] free).0 locks none
+changes-no_cycle s a s' at law none (change.Granted t n m free is) =
+    subst HasNoCycle (sym is) (granted-no_cycle s t.slot n (wanted s t.slot n m) (active_after s t n (worn s) _ free).0 none)
+changes-no_cycle s a s' at law none (change.Unlocked t n free is) =
+    let a = active_after s t n (worn s) _ free in
     let b = not_refused (not_held s t.slot n) _ a.2 in
-    subst HasNoCycle (sym acc.2) (unlocked-no_cycle s law t.slot n a.0 (not_refused (held_child s t.slot n) [] b.1).0 none)
-accepts-no_cycle s (command.Escalate t n) a told' s' at law none h acc = subst HasNoCycle (sym acc.2) (escalated-no_cycle s law t n h none)
-accepts-no_cycle s (command.Cancel t) a told' s' at law none h acc = subst HasNoCycle (sym acc.2) (given_up-no_cycle s law t.slot Active (λ q m e. cc) none)
-accepts-no_cycle s (command.Commit t) a told' s' at law none h acc = subst HasNoCycle (sym acc.2) (released-no_cycle s law t.slot none)
-accepts-no_cycle s (command.Renew t since) a told' s' at law none h acc =
-    subst HasNoCycle (sym acc.2) (begun-no_cycle s t.slot (min since (s.begins + 1)) none)
-accepts-no_cycle s (command.Abort t) a told' s' at law none h acc = subst HasNoCycle (sym acc.2) (released-no_cycle s law t.slot none)
-accepts-no_cycle s (command.Settle t) a told' s' at law none h acc = settled-no_cycle s.victims s s' t.slot law acc.2 none
-accepts-no_cycle s (command.Group n) a told' s' at law none h acc = absurd acc
-accepts-no_cycle s (command.Held t n) a told' s' at law none h acc = absurd acc
-accepts-no_cycle s (command.Effective t n) a told' s' at law none h acc = absurd acc
-accepts-no_cycle s (command.Adopt f keys) a told' s' at law none h acc = subst HasNoCycle (sym acc.4) none
-accepts-no_cycle s (command.Forget r) a told' s' at law none h acc = subst HasNoCycle (sym acc.2) none
-accepts-no_cycle s (command.Drop t n) a told' s' at law none h acc = subst HasNoCycle (sym acc.2) (dropped-no_cycle s n none)
-accepts-no_cycle s (command.IndexBy t ps f bs) a told' s' at law none h acc =
-    subst HasNoCycle (sym acc.4) (granted-no_cycle (with_graph s s'.graph) t.slot acc.0 X (may_index s t ps f bs h).active none)
+    subst HasNoCycle (sym is) (unlocked-no_cycle s law t.slot n a.0 (not_refused (held_child s t.slot n) [] b.1).0 none)
+changes-no_cycle s a s' at law none (change.Shed t n free is) = subst HasNoCycle (sym is) (escalated-no_cycle s law t n free none)
+changes-no_cycle s a s' at law none (change.Cancelled t is) = subst HasNoCycle (sym is) (given_up-no_cycle s law t.slot Active (λ q m e. cc) none)
+changes-no_cycle s a s' at law none (change.Released t is) = subst HasNoCycle (sym is) (released-no_cycle s law t.slot none)
+changes-no_cycle s a s' at law none (change.Settles t is) = settled-no_cycle s.victims s s' t.slot law is none
+changes-no_cycle s a s' at law none (change.Departed goes g is) = subst HasNoCycle (sym is) (departed-no_cycle s goes g none)
+changes-no_cycle s a s' at law none (change.Moved n ps g is) = subst HasNoCycle (sym is) (moved-no_cycle s law n ps g none)
 
 -- no cycle after each step, of any command
 pub steps_keep_no_cycle : (s s' : State) (c : Command) (a : Answer) (told' : Told) → s.detect ≡ AtBlock → IsLawful s → HasNoCycle s
     → Step s c a told' s' → HasNoCycle s'
 steps_keep_no_cycle s s' c a told' at law none step =
-    each_step HasNoCycle s c a told' s' none (λ next none'. none') (λ free next acc. accepts-no_cycle s c a told' next at law none free acc) step
+    each_step HasNoCycle s c a told' s' none (λ next none'. none')
+    (λ free next acc. changes-no_cycle s a next at law none (change_of s c a told' next free acc)) step
 
 -- nor after a whole run
 pub runs_keep_no_cycle : RunsKeepNoCycle

@@ -21,7 +21,8 @@ use Rattle.gl_steps.specs.declared.command.Answer.TheVariants as answer
 use Rattle.gl_steps.specs.declared.command.Command.{Command}
 use Rattle.gl_steps.specs.declared.command.Command.TheVariants as command
 use Rattle.gl_steps.specs.Promises.{BeginsWaits, NobodyWaits}
-use Rattle.gl_steps.proofs.Beginning.{Begins}
+use Rattle.gl_steps.proofs.Changes.{Change, change_of}
+use Rattle.gl_steps.proofs.Changes as change
 use Rattle.gl_steps.specs.Step.{Accepts, Step, lock_answer}
 use Rattle.gl_steps.proofs.EachStep.{each_step}
 use Rattle.gl_model.specs.Calls.{goes_with}
@@ -32,7 +33,7 @@ module _ (s : State) (t : ℕ) (n : NodeId) (m : Mode) (a : Answer) where
   abbrev Began : State → Type 0
   Began next = status_of next t ≡ Some (Waiting n m) → (status_of s t ≡ Some (Waiting n m)) ⊎ (a ≡ answer.Waiting)
 
-  module _ (list : Told) (next : State) where
+  module _ (next : State) where
     same : (made : State) → next ≡ made → made.txns t ≡ s.txns t → Began next
     same made is e w = inl (ap status_in (sym e) ∙ ap (λ (x : State). status_of x t) (sym is) ∙ w)
 
@@ -72,43 +73,26 @@ module _ (s : State) (t : ℕ) (n : NodeId) (m : Mode) (a : Answer) where
         (ap (λ (x : State). status_of x t) is ∙ ap (λ b. status_in (if b then new else s.txns t)) e))
         (λ e. same _ is (ap (λ b. if b then new else s.txns t) e))
 
-    begins : (since : ℕ) → Begins since s a list next → Began next
-    begins since acc = begins_in acc.0 since acc.4
-
-    accepted : (c : Command) → Accepts s c a list next → Began next
-    accepted (command.Inner ps) acc = same _ acc.4 refl
-    accepted (command.File ps) acc = same _ acc.4 refl
-    accepted (command.Index ps f bs) acc = same _ acc.4 refl
-    accepted (command.Insert u f ks) acc = same _ acc.4 refl
-    accepted command.Begin acc = begins (s.begins + 1) acc
-    accepted (command.BeginAgain since) acc = begins (min since (s.begins + 1)) acc
-    accepted (command.Lock u q w) acc = locked_case u q w acc.0 acc.1
-    accepted (command.Try u q w) acc = same _ acc.2 refl
-    accepted (command.Unlock u q) acc = on _ acc.2 (pumped_goes_on (with_grant s u.slot q NL) (same_node q) t)
-    accepted (command.Escalate u q) acc =
+    changed : Change s a next → Began next
+    changed (change.Regraphed g is) = same _ is refl
+    changed (change.Born u q g active birth is) = same _ is refl
+    changed (change.Begun u since is) = begins_in u since is
+    changed (change.Locked u q w free locks is) = locked_case u q w locks is
+    changed (change.Granted u q w free is) = same _ is refl
+    changed (change.Unlocked u q free is) = on _ is (pumped_goes_on (with_grant s u.slot q NL) (same_node q) t)
+    changed (change.Shed u q free is) =
         let up : State = raised s u.slot q in
-        on _ acc.2 (pumped_goes_on (record up { held = λ v c. if (v == u.slot) && is_covered up u.slot q c then NL else up.held v c })
+        on _ is (pumped_goes_on (record up { held = λ v c. if (v == u.slot) && is_covered up u.slot q c then NL else up.held v c })
         (is_covered up u.slot q) t)
-    accepted (command.Cancel u) acc = on _ acc.2 (over_goes_on s u.slot Active (λ q w h. cc) t)
-    accepted (command.Commit u) acc = released_case u.slot (ap (λ (x : State). status_of x t) acc.2)
-    accepted (command.Renew u since) acc = begins_in u.slot (min since (s.begins + 1)) acc.2
-    accepted (command.Abort u) acc = released_case u.slot (ap (λ (x : State). status_of x t) acc.2)
-    accepted (command.Settle u) acc = λ w. inl ((settled_goes_on s.victims s next u.slot t acc.2).waits n m w)
-    accepted (command.Delete u r) acc = on _ acc.2 (freed_on r (s.txns t))
-    accepted (command.Rekey u r i k) acc =
-        let ps = rekeyed_parents s.graph r i k in on _ acc.2 (unless_on (λ v. is_among_waiters v (filter (stays s ps) (s.queue r))) r t (s.txns t))
-    accepted (command.Move u x ps) acc = on _ acc.2 (unless_on (λ v. is_among_waiters v (filter (stays s ps.now) (s.queue x))) x t (s.txns t))
-    accepted (command.Group q) acc = absurd acc
-    accepted (command.Held u q) acc = absurd acc
-    accepted (command.Effective u q) acc = absurd acc
-    accepted (command.Adopt f ks) acc = same _ acc.4 refl
-    accepted (command.Forget r) acc = same _ acc.2 refl
-    accepted (command.Drop u x) acc = on _ acc.2 (freed_among_on (goes_with s.graph x) (s.txns t))
-    accepted (command.IndexBy u ps f bs) acc = same _ acc.4 refl
+    changed (change.Cancelled u is) = on _ is (over_goes_on s u.slot Active (λ q w h. cc) t)
+    changed (change.Released u is) = released_case u.slot (ap (λ (x : State). status_of x t) is)
+    changed (change.Settles u is) = λ w. inl ((settled_goes_on s.victims s next u.slot t is).waits n m w)
+    changed (change.Departed goes g is) = on _ is (freed_among_on goes (s.txns t))
+    changed (change.Moved x ps g is) = on _ is (unless_on (λ v. is_among_waiters v (filter (stays s ps) (s.queue x))) x t (s.txns t))
 
 pub begins_waits : BeginsWaits
 begins_waits s s' c a list t n m step =
-    each_step (Began s t n m a) s c a list s' (λ w. inl w) (λ next h. h) (λ free next acc. accepted s t n m a list next c acc) step
+    each_step (Began s t n m a) s c a list s' (λ w. inl w) (λ next h. h) (λ free next acc. changed s t n m a next (change_of s c a list next free acc)) step
 
 -- so if nobody waits, a step that is not answered with a wait leaves nobody waiting
 pub nobody_waits_on : (s s' : State) (c : Command) (a : Answer) (list : Told) → NobodyWaits s → (a ≡ answer.Waiting → ⊥) → Step s c a list s' → NobodyWaits s'

@@ -39,12 +39,12 @@ use Rattle.gl_rows.specs.Releasing.{CommitsAndKeeps, GoesBackTo}
 use Rattle.gl_rows.specs.Rows.{RegistryView}
 use Rattle.gl_rows.proofs.CarriedOut.{each_goes}
 use Rattle.gl_rows.proofs.Upkeep.{LeavesAll, upkeep_leaves}
-use Rattle.gl_wakes.specs.Boxes.{Slot}
+use Rattle.gl_wakes.specs.Boxes.{Slot, Puts}
 use Rattle.gl_wakes.specs.Notices.{RisingTo}
 use Rattle.gl_wakes.specs.Wakes.{HasEnded}
 use Rattle.gl_wakes.proofs.Rising.{told_rises}
 use Rattle.gl_wakes.proofs.Waking.{told_wakes}
-use Rattle.gl_waiting.specs.Delivering.{Carries, Delivered, Puts, unlocking}
+use Rattle.gl_waiting.specs.Delivering.{Carries, Delivered, unlocking}
 use Rattle.gl_waiting.specs.Going.{IsRunOf}
 use Rattle.gl_waiting.proofs.Delivered.{with_boxes}
 use Rattle.gl_waiting.proofs.RowCalls.{low}

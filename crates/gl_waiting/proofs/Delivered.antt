@@ -25,12 +25,12 @@ use Rattle.gl_catalog.specs.Manager.{state_of}
 use Rattle.gl_rows.specs.Rows.{RegistryView}
 use Rattle.gl_rows.specs.Serving.{Applies, LeavesRows, ServesBy, dropped_by, touches_rows}
 use Rattle.gl_rows.proofs.Dropped.{unaccepted_leaves}
-use Rattle.gl_wakes.specs.Boxes.{Slot}
+use Rattle.gl_wakes.specs.Boxes.{Slot, Puts}
 use Rattle.gl_wakes.specs.Notices.{RisingTo}
 use Rattle.gl_wakes.specs.Wakes.{names_slot}
 use Rattle.gl_wakes.proofs.Rising.{step_rises}
 use Rattle.gl_wakes.proofs.Waking.{wakes_ended}
-use Rattle.gl_waiting.specs.Delivering.{IsLockAnswer, Carries, DeliveryView, Puts}
+use Rattle.gl_waiting.specs.Delivering.{IsLockAnswer, Carries, DeliveryView}
 
 -- a registry with these boxes
 abbrev pub with_boxes : RegistryView → List Slot → DeliveryView

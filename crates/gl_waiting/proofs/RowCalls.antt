@@ -42,12 +42,12 @@ use Rattle.gl_rows.specs.Locking.{LocksBy, LocksRow, Wish}
 use Rattle.gl_rows.specs.Releasing.{EndsTxn, GivesBack, RekeysBy, UnlocksBy, node_for}
 use Rattle.gl_rows.specs.Rows.{RegistryView, RowsView, name_of}
 use Rattle.gl_rows.proofs.Upkeep.{LeavesAll, upkeep_law, upkeep_leaves}
-use Rattle.gl_wakes.specs.Boxes.{Slot, emptied}
+use Rattle.gl_wakes.specs.Boxes.{Slot, emptied, Puts}
 use Rattle.gl_wakes.specs.Notices.{RisingTo}
 use Rattle.gl_wakes.specs.Wakes.{HasEnded, names_slot}
 use Rattle.gl_wakes.proofs.Rising.{step_rises}
 use Rattle.gl_wakes.proofs.Waking.{wakes_ended}
-use Rattle.gl_waiting.specs.Delivering.{Carries, Puts}
+use Rattle.gl_waiting.specs.Delivering.{Carries}
 use Rattle.gl_waiting.specs.Going.{IsRunOf}
 use Rattle.gl_waiting.proofs.Delivered.{with_boxes}
 use Rattle.gl_waiting.proofs.Runs.{own_one, own_same, own_then, own_upkeep}

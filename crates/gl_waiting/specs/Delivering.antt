@@ -16,7 +16,7 @@ use Rattle.gl_steps.specs.declared.command.Command.TheVariants as command
 use Rattle.gl_catalog.specs.Manager.{ManagerView, state_of}
 use Rattle.gl_rows.specs.Releasing.{no_node}
 use Rattle.gl_rows.specs.Rows.{RegistryView, RowsView}
-use Rattle.gl_wakes.specs.Boxes.{Delivers, Slot, emptied}
+use Rattle.gl_wakes.specs.Boxes.{Puts, Slot}
 use Rattle.gl_wakes.specs.Wakes.{HasEnded, names_slot}
 
 -- the manager, its rows, and one notice box a slot
@@ -28,10 +28,6 @@ pub record DeliveryView : Type 0 where
 -- the registry: the manager, and its rows
 abbrev pub registry_in : DeliveryView → RegistryView
 registry_in d = record { manager = d.manager; rows = d.rows }
-
--- the notices of an accepted command are in their boxes, except that a lock empties its own slot's
-abbrev pub Puts : List Slot → Command → Told → List Slot → Type 0
-Puts boxes c told boxes' = (mid : List Slot) × Delivers boxes told mid × (boxes' ≡ emptied c mid)
 
 -- whose wait the command ended is in the set: exactly whom it told, and whom a cancel or an abort names
 pub record Wakes (c : Command) (m : ManagerView) (told : Told) (m' : ManagerView) (ended : Slots) : Type 0 where

@@ -1,17 +1,13 @@
 //! A registry with a notice box for each slot.
 
 ghost use Rattle.gl_slots.specs.Limit.{most_slots};
-ghost use Rattle.std.specs.Prelude.{◌≡◌, ◌<◌, ◌||◌, ◌==◌, ℕ, [], false, None, replicate};
-ghost use Rattle.std.specs.List.{list_any};
-ghost use Rattle.gl_slots.specs.Slots.{has_slot};
+ghost use Rattle.std.specs.Prelude.{◌≡◌, [], None, replicate};
 ghost use Rattle.gl_catalog.specs.Manager.{IsLawfulManager, state_of};
 ghost use Rattle.gl_catalog.specs.Paths.{lock_of};
 ghost use Rattle.gl_rows.specs.Rows.{name_of};
 ghost use Rattle.gl_rows.specs.Serving.{PathLeavesRows, ServesBy, touches_rows};
 ghost use Rattle.gl_wakes.specs.Boxes.{verdict_of};
-ghost use Rattle.gl_wakes.specs.Notices.{RisingTo};
-ghost use Rattle.gl_wakes.specs.Wakes.{names_slot};
-ghost use Rattle.gl_waiting.specs.Delivering.{Carries, Puts, registry_in};
+ghost use Rattle.gl_waiting.specs.Delivering.{Carries, registry_in};
 ghost use Rattle.gl_waiting.specs.Going.{IsRunOf};
 
 use gl_catalog::{Answer, Command, Manager, Reached};
@@ -20,7 +16,7 @@ use gl_rows::{Registry, Row};
 use gl_slots::Slots;
 use gl_steps::is_accepted;
 use gl_table::{Told, TxnId};
-use gl_wakes::{Boxes, Grant, Stop, ended_by};
+use gl_wakes::{Boxes, Grant, Stop};
 use std::marker::Model;
 
 mod lock;
@@ -104,7 +100,7 @@ impl Delivery {
         if !is_accepted(&command, &answer) {
             return (Some(answer), Slots::empty());
         }
-        let ended = deliver(&mut self.boxes, &command, told);
+        let ended = self.boxes.deliver(&command, told);
         (Some(answer), ended)
     }
 
@@ -129,18 +125,7 @@ impl Delivery {
             return (reached, Slots::empty());
         }
         let asked = Command::Lock { txn, node, mode };
-        let ended = deliver(&mut self.boxes, &asked, told);
+        let ended = self.boxes.deliver(&asked, told);
         (reached, ended)
     }
-}
-
-/// Puts the notices of an accepted command into their boxes. Answers the slots whose wait it may have ended.
-#[inline(always)]
-fn deliver(boxes: &mut Boxes, command: &Command<'_>, told: &Told) -> Slots
-    requires { RisingTo 0 told.now.items most_slots }
-    ensures puts { Puts boxes.old command.now told.now.items boxes.new }
-    ensures slots { (u : ℕ) → u < most_slots → has_slot result u ≡ (names_slot command.now u || list_any (λ x. x.0.slot == u) told.now.items) }
-{
-    boxes.deliver(command, told.as_slice());
-    ended_by(command, told.as_slice())
 }

@@ -12,30 +12,7 @@ use Rattle.gl_steps.specs.Served.{accepts, is_query, is_refused}
 -- a command that only asks empties none
 emptied_query : (c : Command) (boxes : List Slot) → is_query c ≡ true → emptied c boxes ≡ boxes
 emptied_query (command.Lock t n m) boxes asks = absurd (cc asks)
-emptied_query (command.Inner ps) boxes asks = refl
-emptied_query (command.File ps) boxes asks = refl
-emptied_query (command.Index ps f bs) boxes asks = refl
-emptied_query (command.Insert t f keys) boxes asks = refl
-emptied_query (command.Delete t r) boxes asks = refl
-emptied_query (command.Rekey t r i key) boxes asks = refl
-emptied_query (command.Move t n ps) boxes asks = refl
-emptied_query command.Begin boxes asks = refl
-emptied_query (command.BeginAgain since) boxes asks = refl
-emptied_query (command.Try t n m) boxes asks = refl
-emptied_query (command.Unlock t n) boxes asks = refl
-emptied_query (command.Escalate t n) boxes asks = refl
-emptied_query (command.Cancel t) boxes asks = refl
-emptied_query (command.Commit t) boxes asks = refl
-emptied_query (command.Renew t since) boxes asks = refl
-emptied_query (command.Abort t) boxes asks = refl
-emptied_query (command.Settle t) boxes asks = refl
-emptied_query (command.Group n) boxes asks = refl
-emptied_query (command.Held t n) boxes asks = refl
-emptied_query (command.Effective t n) boxes asks = refl
-emptied_query (command.Adopt f keys) boxes asks = refl
-emptied_query (command.Forget r) boxes asks = refl
-emptied_query (command.Drop t n) boxes asks = refl
-emptied_query (command.IndexBy t ps f bs) boxes asks = refl
+emptied_query c boxes asks = refl
 
 asks_if : (b : Bool) → not b && not false ≡ false → b ≡ true
 asks_if true e = refl

@@ -19,27 +19,19 @@ module _ (Holds : Told → Type 0) (s : State) (none : Holds []) (all : (now : S
   accepted (command.File ps) a list s' acc = subst Holds (sym acc.3) none
   accepted (command.Index ps f bs) a list s' acc = subst Holds (sym acc.3) none
   accepted (command.Insert t f keys) a list s' acc = subst Holds (sym acc.3) none
-  accepted (command.Delete t r) a list s' acc = subst Holds (sym acc.1) (all s')
-  accepted (command.Rekey t r i key) a list s' acc = subst Holds (sym acc.1) (all s')
-  accepted (command.Move t n ps) a list s' acc = subst Holds (sym acc.1) (all s')
   accepted command.Begin a list s' acc = subst Holds (sym acc.3) none
   accepted (command.BeginAgain since) a list s' acc = subst Holds (sym acc.3) none
   accepted (command.Lock t n m) a list s' acc = subst Holds (sym acc.2) (but t.slot s')
   accepted (command.Try t n m) a list s' acc = subst Holds (sym acc.1) none
-  accepted (command.Unlock t n) a list s' acc = subst Holds (sym acc.1) (all s')
-  accepted (command.Escalate t n) a list s' acc = subst Holds (sym acc.1) (all s')
   accepted (command.Cancel t) a list s' acc = subst Holds (sym acc.1) (but t.slot s')
-  accepted (command.Commit t) a list s' acc = subst Holds (sym acc.1) (all s')
   accepted (command.Renew t since) a list s' acc = subst Holds (sym acc.1) none
-  accepted (command.Abort t) a list s' acc = subst Holds (sym acc.1) (all s')
-  accepted (command.Settle t) a list s' acc = subst Holds (sym acc.1) (all s')
   accepted (command.Group n) a list s' acc = absurd acc
   accepted (command.Held t n) a list s' acc = absurd acc
   accepted (command.Effective t n) a list s' acc = absurd acc
   accepted (command.Adopt f keys) a list s' acc = subst Holds (sym acc.3) none
   accepted (command.Forget r) a list s' acc = subst Holds (sym acc.1) none
-  accepted (command.Drop t n) a list s' acc = subst Holds (sym acc.1) (all s')
   accepted (command.IndexBy t ps f bs) a list s' acc = subst Holds (sym acc.3) none
+  accepted c a list s' acc = subst Holds (sym acc.1) (all s')
 
   module _ (c : Command) (a : Answer) (list : Told) (s' : State) where
     answered : (q : Option Answer) → Answers s c q a list s' → Holds list

@@ -31,30 +31,8 @@ turned a b h = grind (arith, nat_tests)
 
 names_its_slot : (c : Command) (t : TxnId) → ends_wait_of t c ≡ true → names_slot c t.slot ≡ true
 names_its_slot (command.Cancel u) t h = turned t.slot u.slot (slot_of t u h)
-names_its_slot (command.Renew u since) t h = h
 names_its_slot (command.Abort u) t h = turned t.slot u.slot (slot_of t u h)
-names_its_slot (command.Inner ps) t h = h
-names_its_slot (command.File ps) t h = h
-names_its_slot (command.Index ps f bs) t h = h
-names_its_slot command.Begin t h = h
-names_its_slot (command.BeginAgain since) t h = h
-names_its_slot (command.Lock u n m) t h = h
-names_its_slot (command.Try u n m) t h = h
-names_its_slot (command.Unlock u n) t h = h
-names_its_slot (command.Escalate u n) t h = h
-names_its_slot (command.Commit u) t h = h
-names_its_slot (command.Settle u) t h = h
-names_its_slot (command.Insert u f ks) t h = h
-names_its_slot (command.Delete u r) t h = h
-names_its_slot (command.Rekey u r i k) t h = h
-names_its_slot (command.Move u n ps) t h = h
-names_its_slot (command.Group n) t h = h
-names_its_slot (command.Held u n) t h = h
-names_its_slot (command.Effective u n) t h = h
-names_its_slot (command.Adopt f keys) t h = h
-names_its_slot (command.Forget r) t h = h
-names_its_slot (command.Drop u n) t h = h
-names_its_slot (command.IndexBy u ps f bs) t h = h
+names_its_slot c t h = h
 
 -- a set of the slots that are told, and of the one that is named, has each slot whose wait ended
 pub wakes_ended : (c : Command) (told : Told) (slots : Slots)
@@ -73,20 +51,15 @@ pub told_wakes : (list : Told) (slots : Slots) (t : TxnId) → ((u : ℕ) → u 
 told_wakes list slots t is below so =
     is t.slot below ∙ any_weaker (λ x. same_txn t x.0) (λ x. x.0.slot == t.slot) list (λ x h. turned t.slot x.0.slot (slot_of t x.0 h)) so
 
--- the same list
-pub wakes_told : (c : Command) (told told' : Told) (slots : Slots) → told ≡ told' → WakesEnded c told slots → WakesEnded c told' slots
-wakes_told c told told' slots same wakes = subst (λ (l : Told). WakesEnded c l slots) same wakes
-
 -- from a state to itself no wait ends
 pub ended_none : (s : State) (slots : Slots) → HasEnded s s slots
 ended_none s slots law t n below was gone = absurd (cc (was, gone))
 
 -- with one more step: a wait that either one ended
-pub ended_more : (s mid s' : State) (c : Command) (a : Answer) (told : Told) (before more both : Slots)
-    → ((u : ℕ) → has_slot both u ≡ (has_slot before u || has_slot more u)) → (IsLawful s → IsLawful mid) → HasEnded s mid before
-    → WakesEnded c told more → Step mid c a told s' → HasEnded s s' both
-ended_more s mid s' c a told before more both joined keeps so_far wakes step law t n below was gone = joined t.slot ∙ by (waits_on mid t n) refl
+pub ended_more : (s mid s' : State) (before more both : Slots) → ((u : ℕ) → has_slot both u ≡ (has_slot before u || has_slot more u))
+    → (IsLawful s → IsLawful mid) → HasEnded s mid before → HasEnded mid s' more → HasEnded s s' both
+ended_more s mid s' before more both joined keeps so_far later law t n below was gone = joined t.slot ∙ by (waits_on mid t n) refl
   where
     by : (b : Bool) → waits_on mid t n ≡ b → (has_slot before t.slot || has_slot more t.slot) ≡ true
-    by true e = ap (λ b. has_slot before t.slot || b) (wakes mid s' a step (keeps law) t n below e gone) ∙ or-true (has_slot before t.slot)
+    by true e = ap (λ b. has_slot before t.slot || b) (later (keeps law) t n below e gone) ∙ or-true (has_slot before t.slot)
     by false e = ap (λ b. b || has_slot more t.slot) (so_far law t n below was e)

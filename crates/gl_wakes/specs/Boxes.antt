@@ -39,6 +39,10 @@ abbrev pub emptied : Command → List Slot → List Slot
 emptied (command.Lock t n m) boxes = slice_set boxes t.slot None
 emptied c boxes = boxes
 
+-- the notices of an accepted command are in their boxes, except that a lock empties its own slot's
+abbrev pub Puts : List Slot → Command → List (TxnId × Notice) → List Slot → Type 0
+Puts before c told after = (mid : List Slot) × Delivers before told mid × (after ≡ emptied c mid)
+
 -- the boxes after a command with this answer: a refused one empties none
 abbrev pub cleared : Command → Answer → List Slot → List Slot
 cleared c a boxes = if is_refused a then boxes else emptied c boxes

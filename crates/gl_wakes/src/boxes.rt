@@ -1,19 +1,24 @@
-//! The boxes of slots: the last notice to each transaction, and the outcome of its wait.
+//! The boxes of slots: the last notice to each transaction, the outcome of its wait, and which slots are woken. A wait
+//! ends only by a command that tells its transaction, or that cancels or aborts it by name; so no other sleeper needs to
+//! check.
 
 ghost use Rattle.gl_slots.specs.Limit.{most_slots};
-ghost use Rattle.std.specs.Prelude.{◌≡◌, [], true, false, None, Some, Ok, List, slice_set, replicate};
+ghost use Rattle.std.specs.Prelude.{◌≡◌, ◌<◌, ◌||◌, ◌==◌, ℕ, [], true, false, None, Some, Ok, slice_set, replicate};
+ghost use Rattle.std.specs.List.{list_any};
+ghost use Rattle.gl_slots.specs.Slots.{has_slot};
 ghost use Rattle.gl_modes.specs.Modes.{is_at_least};
 ghost use Rattle.gl_model.specs.State.{is_waiting_at, lives};
 ghost use Rattle.gl_catalog.specs.Manager.{state_of};
-ghost use Rattle.gl_wakes.specs.Boxes.{Delivers, Slot as ASlot, box_at, emptied, named, verdict_of};
+ghost use Rattle.gl_wakes.specs.Boxes.{Delivers, Puts, box_at, emptied, named, verdict_of};
 ghost use Rattle.gl_wakes.specs.Notices.{RisingTo};
+ghost use Rattle.gl_wakes.specs.Wakes.{WakesEnded, names_slot};
 ghost use Rattle.gl_wakes.specs.declared.grant.Grant.{Grant};
 
 use crate::grant::{Grant, Stop};
 use gl_catalog::{Command, Manager};
-use gl_model::{Notice, TxnId};
+use gl_model::{Notice, Told, TxnId};
 use gl_modes::{Mode, NodeId, Refusal, covers};
-use gl_slots::SLOTS;
+use gl_slots::{SLOTS, Slots};
 use std::marker::Model;
 
 /// A slot's last notice.
@@ -44,17 +49,21 @@ impl Boxes {
         }
     }
 
-    /// Puts the notices of an accepted command into their slots' boxes. A lock empties its own slot's
-    /// box, so that a later notice there is the lock's own verdict.
-    pub fn deliver(&mut self, command: &Command<'_>, told: &[(TxnId, Notice)])
-        requires { RisingTo 0 told.now most_slots }
-        ensures told { (mid : List ASlot) × Delivers self.old told.now mid × (self.new ≡ emptied command.now mid) }
-        ensures none { told.now ≡ [] → self.new ≡ emptied command.now self.old }
+    /// Puts the notices of an accepted command into their slots' boxes, and answers the slots whose wait
+    /// it may have ended: those that it tells, and the one that it cancels or aborts by name. A lock
+    /// empties its own slot's box, so that a later notice there is the lock's own verdict.
+    pub fn deliver(&mut self, command: &Command<'_>, told: &Told) -> Slots
+        requires { RisingTo 0 told.now.items most_slots }
+        ensures puts { Puts self.old command.now told.now.items self.new }
+        ensures none { told.now.items ≡ [] → self.new ≡ emptied command.now self.old }
+        ensures slots { (u : ℕ) → u < most_slots → has_slot result u ≡ (names_slot command.now u || list_any (λ x. x.0.slot == u) told.now.items) }
+        ensures ended { WakesEnded command.now told.now.items result }
     {
-        deliver(&mut self.slots, told);
+        let ended = put_each(&mut self.slots, command, told.as_slice());
         if let Command::Lock { txn, .. } = command {
             empty_box(&mut self.slots, txn.slot);
         }
+        ended
     }
 
     /// The verdict on the transaction's request for this node, if there is one. The first that
@@ -99,15 +108,37 @@ impl Boxes {
     }
 }
 
-/// Puts each notice into its slot's box.
-fn deliver(boxes: &mut [Slot; SLOTS], told: &[(TxnId, Notice)])
+/// Puts each notice into its slot's box. Answers the slots whose wait the command may have ended.
+fn put_each(
+    boxes: &mut [Slot; SLOTS],
+    command: &Command<'_>,
+    told: &[(TxnId, Notice)],
+) -> Slots
     requires { RisingTo 0 told.now most_slots }
     ensures told { Delivers boxes.old told.now boxes.new }
     ensures none { told.now ≡ [] → boxes.new ≡ boxes.old }
+    ensures slots { (u : ℕ) → u < most_slots → has_slot result u ≡ (names_slot command.now u || list_any (λ x. x.0.slot == u) told.now) }
+    ensures ended { WakesEnded command.now told.now result }
 {
+    let mut ended = named_by(command);
     for (txn, notice) in told {
         boxes[txn.slot as usize] = Some((*txn, *notice));
+        ended.insert(txn.slot);
     }
+    ended
+}
+
+/// The slot whose transaction a cancel or an abort names; none for any other command.
+fn named_by(command: &Command<'_>) -> Slots
+    ensures { (u : ℕ) → u < most_slots → has_slot result u ≡ names_slot command.now u }
+{
+    let mut named = Slots::empty();
+    if let Command::Cancel { txn } | Command::Abort { txn } = command {
+        if (txn.slot as usize) < SLOTS {
+            named.insert(txn.slot);
+        }
+    }
+    named
 }
 
 /// Empties the slot's box, if there is one.

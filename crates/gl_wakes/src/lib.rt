@@ -3,9 +3,7 @@
 #![tactic(auto)]
 
 mod boxes;
-mod ended;
 mod grant;
 
 pub use boxes::{Boxes, Slot};
-pub use ended::ended_by;
 pub use grant::{Grant, Stop};

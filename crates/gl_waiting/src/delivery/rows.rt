@@ -10,7 +10,7 @@ ghost use Rattle.gl_waiting.specs.Delivering.{Carries, registry_in};
 ghost use Rattle.gl_waiting.specs.Going.{IsRunOf};
 ghost use Rattle.gl_waiting.specs.RowLocks.{IsRowLockAnswer, LocksRowAs, row_lock};
 
-use super::{Delivery, deliver};
+use super::Delivery;
 use gl_catalog::Answer;
 use gl_modes::Mode;
 use gl_rows::{Row, RowAnswer, RowCall, RowLocked, RowRefusal};
@@ -35,7 +35,7 @@ impl Delivery {
             return (answer, Slots::empty());
         }
         let own = call.command();
-        let ended = deliver(&mut self.boxes, &own, told);
+        let ended = self.boxes.deliver(&own, told);
         (answer, ended)
     }
 

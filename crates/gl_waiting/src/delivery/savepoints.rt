@@ -7,7 +7,7 @@ ghost use Rattle.gl_steps.specs.declared.command.Command.TheVariants as command;
 ghost use Rattle.gl_waiting.specs.Delivering.{Carries, ComesToNothing, Delivered, unlocking};
 ghost use Rattle.gl_waiting.specs.Going.{IsRunOf};
 
-use super::{Delivery, deliver};
+use super::Delivery;
 use gl_catalog::Command;
 use gl_modes::{NodeId, Refusal};
 use gl_slots::Slots;
@@ -38,7 +38,7 @@ impl Delivery {
             txn,
             node: NodeId::NONE,
         };
-        let ended = deliver(&mut self.boxes, &asked, told);
+        let ended = self.boxes.deliver(&asked, told);
         (Ok(released), ended)
     }
 
@@ -62,7 +62,7 @@ impl Delivery {
             Ok(next) => next,
             Err(refusal) => return (Err(refusal), Slots::empty()),
         };
-        let ended = deliver(&mut self.boxes, &Command::Commit { txn }, told);
+        let ended = self.boxes.deliver(&Command::Commit { txn }, told);
         (Ok(next), ended)
     }
 }

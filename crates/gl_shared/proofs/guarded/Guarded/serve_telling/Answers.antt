@@ -1,18 +1,17 @@
-use Rattle.gl_slots.specs.Limit.{most_slots}
 use Rattle.std.proofs.Common.{rules, arith, ◌≡◌, ◌<◌, ◌^◌, ◌∙◌, true, false, ap, subst, sym, List}
-use Rattle.gl_model.specs.declared.answers.Notice.{Notice}
-use Rattle.gl_model.specs.declared.txn.TxnId.{TxnId}
 use Rattle.gl_steps.specs.Served.{accepts}
-use Rattle.gl_wakes.specs.Notices.{RisingTo}
 use Rattle.gl_model.specs.State.{State}
 use Rattle.gl_steps.proofs.Detection.{steps_keep_detect}
-use Rattle.gl_wakes.specs.Boxes.{Delivers, Slot, cleared, emptied}
+use Rattle.gl_catalog.specs.Manager.{state_of}
+use Rattle.gl_wakes.specs.Boxes.{Delivers, Slot, cleared}
+use Rattle.gl_wakes.specs.Wakes.{HasEnded}
 use Rattle.gl_shared.specs.State.{GuardedView}
 use Rattle.gl_modes.proofs.Words.{clash}
 use Rattle.gl_shared.proofs.Batches.{none_accepted, one_accepted, serves_still}
 use Rattle.gl_shared.proofs.Idle.{quiet_on}
 use Rattle.gl_wakes.proofs.Clearing.{cleared_yes}
 use Rattle.gl_wakes.proofs.Rising.{step_rises}
+use Rattle.gl_wakes.proofs.Waking.{ended_none}
 use Rattle.gl_steps.proofs.Serving.{step_counts}
 use Rattle.gl_shared.proofs.guarded.Guarded.serve_telling.Goals as goal
 
@@ -27,10 +26,8 @@ overflow_add-self g c =
     let b = c.self.invariant.2 in
     omega (arith, more, top, is, a, b)
 
-pub deliver-requires : goal.deliver-requires
-deliver-requires g c =
-    subst (λ (l : List (TxnId × Notice)). RisingTo 0 l most_slots) (sym c.as_slice.ensures.value)
-    (step_rises _ _ _ _ _ c.law.ensures.few c.apply_telling-answer.ensures.step)
+pub deliver-ended-requires : goal.deliver-ended-requires
+deliver-ended-requires g c = step_rises _ _ _ _ _ c.law.ensures.few c.apply_telling-answer.ensures.step
 
 pub invariant_of-self : goal.invariant_of-self
 invariant_of-self g c =
@@ -61,10 +58,8 @@ returns-clause-serves g c =
     record {
       step = search rules;
       boxes = subst (λ (b : List Slot). (mid : List Slot) × Delivers b told mid
-          × (c.deliver.new.self ≡ cleared c.args.command c.apply_telling-answer.result mid)) same
-          (cleared_yes c.args.command c.apply_telling-answer.result told c.self.inside.boxes c.deliver.new.self yes
-          (subst (λ (l : List (TxnId × Notice)). (mid : List Slot) × Delivers c.self.inside.boxes l mid × (c.deliver.new.self ≡ emptied c.args.command mid))
-          c.as_slice.ensures.value c.deliver.ensures.told));
+          × (c.deliver-ended.new.self ≡ cleared c.args.command c.apply_telling-answer.result mid)) same
+          (cleared_yes c.args.command c.apply_telling-answer.result told c.self.inside.boxes c.deliver-ended.new.self yes c.deliver-ended.ensures.puts);
       not_accepted = λ no. clash yes no;
       book = omega (arith, ap (λ (v : GuardedView). v.book) c.self.view_is, total, one_more);
       waited = λ _. search rules;
@@ -97,3 +92,21 @@ returns-then-not-is_accepted-clause-rising g c = step_rises _ _ _ _ _ c.law.ensu
 
 pub returns-clause-rising : goal.returns-clause-rising
 returns-clause-rising g c = step_rises _ _ _ _ _ c.law.ensures.few c.apply_telling-answer.ensures.step
+
+pub returns-then-not-is_accepted-clause-ended : goal.returns-then-not-is_accepted-clause-ended
+returns-then-not-is_accepted-clause-ended g c =
+    let no : accepts c.args.command c.apply_telling-answer.result ≡ false = search rules in
+    let still = (step_counts _ _ _ _ _ c.apply_telling-answer.ensures.step).not_accepted no in
+    let before = state_of c.self.inside.manager in
+    subst (λ (v : GuardedView). HasEnded (state_of v.manager) (state_of c.apply_telling-answer.new.self) c.empty-then-not-is_accepted.result) c.self.view_is
+    (subst (λ (s : State). HasEnded before s c.empty-then-not-is_accepted.result) (sym still.0) (ended_none before c.empty-then-not-is_accepted.result))
+
+pub returns-then-not-is_accepted-clause-woken : goal.returns-then-not-is_accepted-clause-woken
+returns-then-not-is_accepted-clause-woken g c =
+    let no : accepts c.args.command c.apply_telling-answer.result ≡ false = search rules in
+    λ yes. clash yes no
+
+pub returns-clause-ended : goal.returns-clause-ended
+returns-clause-ended g c =
+    subst (λ (v : GuardedView). HasEnded (state_of v.manager) (state_of c.apply_telling-answer.new.self) c.deliver-ended.result) c.self.view_is
+    (c.deliver-ended.ensures.ended _ _ _ c.apply_telling-answer.ensures.step)

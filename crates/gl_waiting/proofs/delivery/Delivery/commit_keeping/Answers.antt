@@ -25,9 +25,9 @@ pub returns-clause-carries : goal.returns-clause-carries
 returns-clause-carries c =
     let told = c.commit_keeping.new.told.items in
     subst (λ (d : DeliveryView). Carries d (command.Commit c.args.txn) told c.deliver-ended.result
-    (with_boxes c.commit_keeping.new.self c.deliver-ended.new.boxes)) c.self.view_is
+    (with_boxes c.commit_keeping.new.self c.deliver-ended.new.self)) c.self.view_is
     (keeping_carries c.self.inside.registry c.commit_keeping.new.self c.args.txn c.args.keep c.args.since c.in-Ok.next told c.in-Ok.ensures
-    c.self.inside.boxes c.deliver-ended.new.boxes c.deliver-ended.result c.deliver-ended.ensures.puts c.deliver-ended.ensures.slots)
+    c.self.inside.boxes c.deliver-ended.new.self c.deliver-ended.result c.deliver-ended.ensures.puts c.deliver-ended.ensures.slots)
 
 pub returns-clause-run : goal.returns-clause-run
 returns-clause-run c =

@@ -49,7 +49,7 @@ returns-clause-carries c =
     c.lock_path-reached.ensures.path c.accepted-before.result c.accepted.result (counted_as _ _ _ c.accepted-before.ensures c.manager.ensures)
     (counted_as _ _ _ c.accepted.ensures c.manager-2.ensures) c.if-accepted-before.false in
     subst (λ (d : DeliveryView). Carries d (lock_of c.args.txn (c.args.node, c.args.mode)) told c.deliver-ended.result
-    (with_boxes c.lock_path-reached.new.self c.deliver-ended.new.boxes)) c.self.view_is
+    (with_boxes c.lock_path-reached.new.self c.deliver-ended.new.self)) c.self.view_is
     (inl (
       later,
       record {

@@ -16,9 +16,9 @@ pub returns-clause-delivered : goal.returns-clause-delivered
 returns-clause-delivered c =
     let told = c.release_since.new.told.items in
     subst (λ (d : DeliveryView). Delivered d (unlocking c.args.txn) told c.deliver-ended.result
-    (with_boxes c.release_since.new.self c.deliver-ended.new.boxes)) c.self.view_is
+    (with_boxes c.release_since.new.self c.deliver-ended.new.self)) c.self.view_is
     (back_delivered c.self.inside.registry c.release_since.new.self c.args.txn c.args.mark c.in-Ok.released told c.in-Ok.ensures
-    c.self.inside.boxes c.deliver-ended.new.boxes c.deliver-ended.result c.deliver-ended.ensures.puts c.deliver-ended.ensures.slots)
+    c.self.inside.boxes c.deliver-ended.new.self c.deliver-ended.result c.deliver-ended.ensures.puts c.deliver-ended.ensures.slots)
 
 pub returns-clause-counted : goal.returns-clause-counted
 returns-clause-counted c =

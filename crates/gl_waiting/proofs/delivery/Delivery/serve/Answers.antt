@@ -35,11 +35,11 @@ returns-clause-serves c =
 pub returns-clause-carries : goal.returns-clause-carries
 returns-clause-carries c =
     let told = c.serve.new.told.items in
-    subst (λ (d : DeliveryView). Carries d c.args.command told c.deliver-ended.result (with_boxes c.serve.new.self c.deliver-ended.new.boxes))
+    subst (λ (d : DeliveryView). Carries d c.args.command told c.deliver-ended.result (with_boxes c.serve.new.self c.deliver-ended.new.self))
     c.self.view_is
     (carries_so c.self.inside.registry c.serve.new.self c.args.command c.in-Some.answer told
     (made c.self.inside.registry c.serve.new.self c.args.command c.in-Some.answer told c.in-Some.ensures)
-    c.self.inside.boxes c.deliver-ended.new.boxes c.deliver-ended.result (sym c.is_accepted.ensures ∙ c.if-not-is_accepted.false)
+    c.self.inside.boxes c.deliver-ended.new.self c.deliver-ended.result (sym c.is_accepted.ensures ∙ c.if-not-is_accepted.false)
     c.deliver-ended.ensures.puts c.deliver-ended.ensures.slots)
 
 pub returns-then-not-is_accepted-clause-run : goal.returns-then-not-is_accepted-clause-run

@@ -5,8 +5,9 @@ use Rattle.gl_slots.specs.Slots.{has_slot}
 use Rattle.gl_steps.specs.declared.command.Command.{Command}
 use Rattle.gl_catalog.specs.Manager.{ManagerView, state_of}
 use Rattle.gl_rows.specs.Applying.{AppliesCall, CarriesOut, answer_in, naming, own_command}
+use Rattle.gl_wakes.specs.Boxes.{Puts}
 use Rattle.gl_wakes.specs.Wakes.{names_slot}
-use Rattle.gl_waiting.specs.Delivering.{Carries, DeliveryView, Puts, registry_in}
+use Rattle.gl_waiting.specs.Delivering.{Carries, DeliveryView, registry_in}
 use Rattle.gl_waiting.specs.Going.{IsRunOf}
 use Rattle.gl_waiting.proofs.Delivered.{with_boxes}
 use Rattle.gl_waiting.proofs.RowCalls.{comes_unless, row_none, row_rises, row_runs, row_some, stays_if}
@@ -74,9 +75,9 @@ returns-clause-carries c =
     let comes = comes_unless g call c.apply-answer.result told v applies own c.accepted-before.result c.accepted.result
     (c.accepted-before.ensures ∙ ap (λ (x : ManagerView). x.accepted) c.manager.ensures)
     (c.accepted.ensures ∙ ap (λ (x : ManagerView). x.accepted) c.manager-2.ensures) c.if-accepted-before.false in
-    subst (λ (d : DeliveryView). Carries d (own_command (naming call d.rows v.rows) call) told ended (with_boxes v c.deliver-ended.new.boxes)) c.self.view_is
-    (row_some g call c.apply-answer.result told v applies own comes c.self.inside.boxes c.deliver-ended.new.boxes ended
-    (subst (λ (x : Command). Puts c.self.inside.boxes x told c.deliver-ended.new.boxes) c.command-own.ensures c.deliver-ended.ensures.puts)
+    subst (λ (d : DeliveryView). Carries d (own_command (naming call d.rows v.rows) call) told ended (with_boxes v c.deliver-ended.new.self)) c.self.view_is
+    (row_some g call c.apply-answer.result told v applies own comes c.self.inside.boxes c.deliver-ended.new.self ended
+    (subst (λ (x : Command). Puts c.self.inside.boxes x told c.deliver-ended.new.self) c.command-own.ensures c.deliver-ended.ensures.puts)
     (subst (λ (x : Command). (u : ℕ) → u < most_slots → has_slot ended u ≡ (names_slot x u || list_any (λ x. x.0.slot == u) told))
     c.command-own.ensures c.deliver-ended.ensures.slots))
 
