@@ -1,43 +1,27 @@
 -- An active transaction that a run does not name stays as it is, and is waited for anew only by those whose requests are left waiting.
-use Rattle.std.specs.Prelude.{◌≡◌, ◌≢◌, ◌⊎◌, ℕ, ◌+◌, Bool, true, false, not, ◌||◌, ◌==◌, [], ◌∷◌, Option, Some, None, if◌then◌else◌, min}
-use Rattle.std.specs.List.{filter, list_any}
-use Rattle.std.proofs.Common.{refl, sym, ap, subst, ◌∙◌, inl, inr, ⊎_elim}
-use Rattle.gl_modes.proofs.Words.{clash, or_elim, or_left, or_right, other_number, split}
-use Rattle.gl_modes.specs.declared.mode.Mode.{Mode}
-use Rattle.gl_modes.specs.declared.node.NodeId.{NodeId}
-use Rattle.gl_modes.specs.Modes.{are_compatible}
-use Rattle.gl_modes.specs.Nodes.{same_node}
-use Rattle.gl_graph.specs.Changes.{rekeyed_parents}
+use Rattle.gl_fairness.proofs.Words.{◌+◌, ◌==◌, [], ◌||◌, ◌∙◌, ◌∷◌, ◌≡◌, ◌≢◌, ◌⊎◌, ⊎_elim, Accepts, Active, ahead_is, ahead_second, Answer, ap, are_compatible}
+use Rattle.gl_fairness.proofs.Words.{Begins, Bool, clash, Command, each_step, enqueued, enters_at, false, filter, freed, freed_among, freed_unless, goes_with}
+use Rattle.gl_fairness.proofs.Words.{if◌then◌else◌, inl, inr, is_ahead, is_among_waiters, IsLawful, list_any, Locks, min, Mode, NodeId, None, none_among, not}
+use Rattle.gl_fairness.proofs.Words.{Option, or_elim, or_left, or_right, refl, rekeyed_parents, same_node, Some, split, State, status_in, status_of, stays}
+use Rattle.gl_fairness.proofs.Words.{Step, steps_keep_law, subst, sym, tests_of, Told, true, Txn, TxnId, Waiting, waits_for, wanted, ℕ}
+use Rattle.gl_modes.proofs.Words.{other_number}
 use Rattle.gl_graph.proofs.Unrefused.{or_no}
-use Rattle.gl_header.specs.Header.{is_ahead, is_among_waiters}
-use Rattle.gl_model.specs.declared.txn.Status.TheVariants.{Active, Waiting}
-use Rattle.gl_model.specs.declared.txn.TxnId.{TxnId}
-use Rattle.gl_model.specs.Calls.{Locks, enqueued, enters_at, freed, freed_among, freed_unless, goes_with, no_txn, none_among, stays, wanted}
-use Rattle.gl_model.specs.Lawful.{IsLawful}
-use Rattle.gl_model.specs.State.{State, Txn, status_in, status_of, waits_at, waits_for}
-use Rattle.gl_model.specs.Tellings.{Told}
+use Rattle.gl_model.specs.Calls.{no_txn}
+use Rattle.gl_model.specs.State.{waits_at}
 use Rattle.gl_model.proofs.law.Edges.{is_step, step_is}
 use Rattle.gl_model.proofs.law.Keeps.{apart}
-use Rattle.gl_model.proofs.queues.Waiters.{ahead_is, ahead_second}
-use Rattle.gl_model.proofs.telling.Follows.{Follows, SameGrants, WaitsWell, follows_trans, lawful_waits}
-use Rattle.gl_steps.specs.declared.command.Answer.{Answer}
+use Rattle.gl_model.proofs.telling.Follows.{Follows, follows_trans, lawful_waits, SameGrants, WaitsWell}
 use Rattle.gl_steps.specs.declared.command.Answer.TheVariants as answer
-use Rattle.gl_steps.specs.declared.command.Command.{Command}
 use Rattle.gl_steps.specs.declared.command.Command.TheVariants as command
 use Rattle.gl_steps.specs.Promises.{is_of_rows, names, same_txn}
-use Rattle.gl_steps.specs.Step.{Accepts, Step}
-use Rattle.gl_steps.specs.Tests.{tests_of}
-use Rattle.gl_steps.proofs.Beginning.{Begins}
-use Rattle.gl_steps.proofs.EachStep.{each_step}
 use Rattle.gl_steps.proofs.GrantCommands.{free_differs}
 use Rattle.gl_steps.proofs.Keeps.{Keeps, ToldGrant}
 use Rattle.gl_steps.proofs.NotRefused.{differ, txn_lives}
-use Rattle.gl_steps.proofs.OneStep.{AllNone, all_none, step_keeps}
+use Rattle.gl_steps.proofs.OneStep.{all_none, AllNone, step_keeps}
 use Rattle.gl_steps.proofs.OtherChanges.{begun_other, cancelled_follows, enqueued_follows, escalated_follows, released_follows, settled_follows}
 use Rattle.gl_steps.proofs.OtherChanges.{unlocked_follows, wait_settles_follows, with_grant_follows}
-use Rattle.gl_steps.proofs.StepsKeepLaw.{steps_keep_law}
 use Rattle.gl_steps.proofs.WaitsBegin.{begins_waits}
-use Rattle.gl_fairness.specs.Aside.{IsActive, LeavesAside, StaysAside, is_left_waiting, some_left_waiting}
+use Rattle.gl_fairness.specs.Aside.{is_left_waiting, IsActive, LeavesAside, some_left_waiting, StaysAside}
 
 -- another's lock, and the victims of its wait
 lock_follows : (s : State) → IsLawful s → (next : State) (v u : ℕ) (q : NodeId) (w : Mode) → v ≢ u → Locks s v q w next → Follows s next u

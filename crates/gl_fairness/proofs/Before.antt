@@ -1,16 +1,14 @@
 -- What each change of a state leaves of those before a wait: nobody new, and nobody that holds less.
-use Rattle.gl_model.proofs.Words.{[], ⊎_elim, ◌&&◌, ◌==◌, ◌||◌, ◌∙◌, ◌∷◌, ◌≡◌, ◌≢◌, and_both, ap, at_least-refl, at_least-transitive, Bool, clash}
-use Rattle.gl_model.proofs.Words.{drop, enqueued, false, filter, granted_at, holds, if◌then◌else◌, is_ahead, is_among_waiters, is_at_least, is_waiter}
-use Rattle.gl_model.proofs.Words.{IsLawful, length, List, list_all, Mode, members, NL, NodeId, not, Option, or_elim, or_left, or_right}
-use Rattle.gl_model.proofs.Words.{other_number, placed, pumped, refl, same_mode, same_node, same_node-equal, same_number, Some, split, State}
-use Rattle.gl_model.proofs.Words.{status_of, sym, true, Txn, Waiter, with_grant, ℕ}
-use Rattle.gl_model.specs.Calls.{stays}
-use Rattle.gl_model.specs.declared.txn.Status.TheVariants.{Waiting}
+use Rattle.gl_fairness.proofs.Words.{◌&&◌, ◌==◌, [], ◌||◌, ◌∙◌, ◌∷◌, ◌≡◌, ◌≢◌, ⊎_elim, ahead_is, ahead_second, and_both, ap, Bool, clash, enqueued, false}
+use Rattle.gl_fairness.proofs.Words.{filter, granted_at, holds, if◌then◌else◌, is_ahead, is_among_waiters, is_at_least, is_waiter, IsLawful, List, list_all}
+use Rattle.gl_fairness.proofs.Words.{members, Mode, NL, NodeId, not, Option, or_elim, or_left, or_right, refl, same_mode, same_node, same_number, Some, split}
+use Rattle.gl_fairness.proofs.Words.{State, status_of, stays, sym, true, Txn, Waiter, Waiting, waiting_is, with_grant, ℕ}
+use Rattle.gl_model.proofs.Words.{at_least-refl, at_least-transitive, drop, length, other_number, placed, pumped, same_node-equal}
 use Rattle.gl_model.proofs.law.Edges.{placed_ahead}
-use Rattle.gl_model.proofs.law.Keeps.{grant_case, granted_rest, grew, IsLawfulBut, IsLess, less-lawful, nl_holds, waiting_is, woken_waits}
+use Rattle.gl_model.proofs.law.Keeps.{grant_case, granted_rest, grew, IsLawfulBut, IsLess, less-lawful, nl_holds, woken_waits}
 use Rattle.gl_model.proofs.law.Strays.{all_of_some}
 use Rattle.gl_model.proofs.queues.Edits.{ahead_within, filtered_ahead, one_stays}
-use Rattle.gl_model.proofs.queues.Waiters.{ahead, ahead_across, ahead_after, ahead_first, ahead_is, ahead_second, among_append, among_by_filter, placed_case}
+use Rattle.gl_model.proofs.queues.Waiters.{ahead, ahead_across, ahead_after, ahead_first, among_append, among_by_filter, placed_case}
 
 -- u holds n or is ahead of t in its queue
 abbrev pub before : State → ℕ → NodeId → ℕ → Bool

@@ -1,35 +1,25 @@
 -- Each waiter waits for one that lives and is before it, so its wait has ended when all of those have.
-use Rattle.std.specs.Prelude.{◌≡◌, ◌⊎◌, ℕ, Bool, true, false, not, ◌&&◌, ◌||◌, ◌==◌, List, [], ◌∷◌, Option, Some, None, if◌then◌else◌, is_some}
-use Rattle.std.specs.List.{filter, list_all, range_with_len}
-use Rattle.std.proofs.Common.{refl, sym, ap, arith, inl, inr, ⊎_elim, ◌∙◌, subst}
-use Rattle.std.proofs.lemmas.Bool.Decides.{nat_tests}
+use Rattle.gl_fairness.proofs.Words.{◌&&◌, ◌==◌, [], ◌||◌, ◌∙◌, ◌∷◌, ◌≡◌, ◌⊎◌, ⊎_elim, Active, age_in, age_of, ahead_is, and_both, Answer, ap, are_compatible}
+use Rattle.gl_fairness.proofs.Words.{arith, Bool, both, clash, Command, Condemned, false, filter, holds, if◌then◌else◌, inl, inr, is_among_waiters, is_some}
+use Rattle.gl_fairness.proofs.Words.{is_waiter, IsLawful, List, list_all, members, Mode, nat_tests, NL, NodeId, None, not, Option, or_elim, or_left, or_right}
+use Rattle.gl_fairness.proofs.Words.{range_with_len, refl, same_mode, Some, split, State, Status, status_of, steps_keep_law, subst, sym, Told, true, Txn, TxnId}
+use Rattle.gl_fairness.proofs.Words.{Waiter, Waiting, waiting_is, waits_on, WaitsThrough, ℕ}
 use Rattle.gl_modes.proofs.ModeLemmas.{NL-compatible, same_mode-equal}
-use Rattle.gl_modes.proofs.Words.{and_both, both, clash, number_same, or_elim, or_left, or_right, split, none_some}
-use Rattle.gl_modes.specs.declared.mode.Mode.{Mode}
-use Rattle.gl_modes.specs.declared.node.NodeId.{NodeId}
-use Rattle.gl_modes.specs.Modes.{are_compatible, same_mode}
-use Rattle.gl_modes.specs.declared.mode.Mode.TheVariants.{NL}
-use Rattle.gl_header.specs.Header.{Waiter, fits, front, holds, is_among_waiters, is_waiter, with_mode}
-use Rattle.gl_model.specs.declared.txn.Status.TheVariants.{Waiting, Active, Condemned}
-use Rattle.gl_model.specs.declared.txn.TxnId.{TxnId}
+use Rattle.gl_modes.proofs.Words.{none_some, number_same}
+use Rattle.gl_header.specs.Header.{fits, front, with_mode}
 use Rattle.gl_model.specs.declared.answers.Notice.TheVariants as notice
-use Rattle.gl_model.specs.Lawful.{IsLawful}
-use Rattle.gl_model.specs.State.{State, Txn, age_in, age_of, blocks, live_by, members, status_of}
-use Rattle.gl_model.specs.Tellings.{Told, notice_of}
-use Rattle.gl_model.proofs.law.Keeps.{nl_is, waiting_is}
-use Rattle.gl_model.proofs.queues.Waiters.{ahead, ahead_is, no_cons}
-use Rattle.gl_steps.specs.declared.command.Answer.{Answer}
-use Rattle.gl_steps.specs.declared.command.Command.{Command}
-use Rattle.gl_steps.specs.Promises.{SomeStep, waits_on, IsToldEnd, is_told_that, ends_wait_of, moves_node}
+use Rattle.gl_model.specs.State.{blocks, live_by}
+use Rattle.gl_model.specs.Tellings.{notice_of}
+use Rattle.gl_model.proofs.law.Keeps.{nl_is}
+use Rattle.gl_model.proofs.queues.Waiters.{ahead, no_cons}
+use Rattle.gl_steps.specs.Promises.{ends_wait_of, is_told_that, IsToldEnd, moves_node, SomeStep}
 use Rattle.gl_steps.specs.Step.{Run}
-use Rattle.gl_steps.proofs.StepsKeepLaw.{runs_keep_law, steps_keep_law}
+use Rattle.gl_steps.proofs.StepsKeepLaw.{runs_keep_law}
 use Rattle.gl_steps.proofs.WaitsEnd.{waits_end_so}
-use Rattle.gl_fairness.specs.Ends.{EndsWait, IsWaitedFor, WaitsEnd, WaitsForOneBefore, WaitsForSomebody, EndsSomehow}
-use Rattle.gl_fairness.specs.Waiting.{WaitsThrough}
+use Rattle.gl_fairness.specs.Ends.{EndsSomehow, EndsWait, IsWaitedFor, WaitsEnd, WaitsForOneBefore, WaitsForSomebody}
 use Rattle.gl_fairness.proofs.Before.{before, stands_in}
 use Rattle.gl_fairness.proofs.Served.{before_lives, nobody_comes_between}
 use Rattle.gl_graph.specs.Graph.{is_live}
-use Rattle.gl_model.specs.declared.txn.Status.{Status}
 use Rattle.gl_model.specs.declared.answers.Notice.{Notice}
 
 -- For whom the wait at the front of a queue is, and for whom every other.

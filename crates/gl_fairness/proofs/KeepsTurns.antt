@@ -1,22 +1,11 @@
 -- One that lives on is not passed, and the first is never a victim.
-use Rattle.std.specs.Prelude.{◌≡◌, ℕ, ◌≤◌, Bool, true, false, ◌&&◌, cond, List, [], ◌∷◌, is_some}
-use Rattle.std.specs.List.{count_by, range_with_len}
-use Rattle.std.proofs.Common.{refl, sym, ap, arith, subst, ⊎_elim, ◌∙◌}
-use Rattle.gl_modes.proofs.Words.{and_both, both, clash, split}
+use Rattle.gl_fairness.proofs.Words.{◌&&◌, [], ◌∙◌, ◌∷◌, ◌≡◌, ◌≤◌, ⊎_elim, age_of, and_both, Answer, ap, arith, begins_ahead, Bool, both, clash, comes_before}
+use Rattle.gl_fairness.proofs.Words.{Command, cond, count_by, false, is_some, IsLawful, List, range_with_len, refl, SameTurn, SameTxn, since_of, slots, split}
+use Rattle.gl_fairness.proofs.Words.{State, status_of, Step, steps_keep_law, subst, sym, Told, true, ℕ}
 use Rattle.gl_graph.proofs.Counts.{count_cons}
 use Rattle.gl_waits.proofs.Earlier.{not_later}
-use Rattle.gl_model.specs.Lawful.{IsLawful}
-use Rattle.gl_model.specs.State.{State, age_of, since_of, slots, status_of}
-use Rattle.gl_model.specs.Tellings.{Told}
-use Rattle.gl_steps.specs.declared.command.Answer.{Answer}
-use Rattle.gl_steps.specs.declared.command.Command.{Command}
-use Rattle.gl_steps.specs.Step.{Step}
 use Rattle.gl_steps.proofs.Detection.{steps_keep_settings}
-use Rattle.gl_steps.proofs.LivesOn.{SameTurn}
-use Rattle.gl_steps.proofs.StepsKeepLaw.{steps_keep_law}
-use Rattle.gl_fairness.specs.Turns.{ComesFirst, BecomesVictim, FirstIsNeverVictim, NoMoreComeBefore, begins_ahead}
-use Rattle.gl_fairness.specs.Turns.{comes_before}
-use Rattle.gl_fairness.specs.Waiting.{SameTxn}
+use Rattle.gl_fairness.specs.Turns.{BecomesVictim, ComesFirst, FirstIsNeverVictim, NoMoreComeBefore}
 use Rattle.gl_fairness.proofs.VictimOrder.{victim_after_a_living}
 use Rattle.gl_fairness.proofs.Turns.{IsNew, step_turn}
 

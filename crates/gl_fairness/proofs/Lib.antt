@@ -1,3 +1,5 @@
+-- the words that proofs use
+pub mod Words
 -- what one change leaves of those before a wait
 mod Before
 -- each command, each step and each run

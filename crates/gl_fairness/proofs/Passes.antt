@@ -1,25 +1,15 @@
 -- A wait is passed a bounded number of times.
-use Rattle.std.specs.Prelude.{◌≡◌, ℕ, ◌+◌, ◌*◌, ◌≤◌, ◌<◌, Bool, true, false, not, List, [], ◌∷◌, cond, if◌then◌else◌, nat_le, nat_lt}
-use Rattle.std.specs.List.{count_by, range_with_len, sum_by}
-use Rattle.std.proofs.Common.{refl, sym, ap, arith, subst}
-use Rattle.std.proofs.lemmas.Bool.Decides.{nat_tests}
+use Rattle.gl_fairness.proofs.Words.{◌+◌, [], ◌∷◌, ◌≡◌, ◌≤◌, and_both, Answer, ap, arith, Bool, both, Command, cond, count_by, false, if◌then◌else◌}
+use Rattle.gl_fairness.proofs.Words.{is_at_least, IsLawful, List, Mode, nat_lt, nat_tests, NodeId, not, or_left, range_with_len, refl, same_mode, slots, split}
+use Rattle.gl_fairness.proofs.Words.{State, steps_keep_law, subst, sym, Told, true, TxnId, WaitsThrough, ℕ}
+use Rattle.std.specs.Prelude.{◌*◌, ◌<◌, nat_le}
+use Rattle.std.specs.List.{sum_by}
 use Rattle.std.proofs.lemmas.List.Sums.{sum_by-cons}
 use Rattle.gl_modes.proofs.Each.{every2-true, implied, implies}
-use Rattle.gl_modes.proofs.Words.{and_both, both, or_left, split}
-use Rattle.gl_modes.specs.declared.mode.Mode.{Mode}
-use Rattle.gl_modes.specs.declared.node.NodeId.{NodeId}
-use Rattle.gl_modes.specs.Modes.{is_at_least, same_mode}
 use Rattle.gl_graph.proofs.Counts.{count_cons}
-use Rattle.gl_model.specs.declared.txn.TxnId.{TxnId}
-use Rattle.gl_model.specs.Lawful.{IsLawful}
-use Rattle.gl_model.specs.State.{State, slots}
-use Rattle.gl_model.specs.Tellings.{Told}
-use Rattle.gl_steps.specs.declared.command.Answer.{Answer}
-use Rattle.gl_steps.specs.declared.command.Command.{Command}
-use Rattle.gl_steps.proofs.StepsKeepLaw.{steps_keep_law}
-use Rattle.gl_fairness.specs.Passed.{EachPassesAtMost, PassedAtMost, PassesAreSpent, RaisesEnd, is_granted_past, passes, passes_left, passes_left_to}
-use Rattle.gl_fairness.specs.Passed.{passes_of, passes_through, raises_left}
-use Rattle.gl_fairness.specs.Waiting.{WaitsThrough, stands_before}
+use Rattle.gl_fairness.specs.Passed.{EachPassesAtMost, is_granted_past, PassedAtMost, passes, passes_left, passes_left_to, passes_of, passes_through}
+use Rattle.gl_fairness.specs.Passed.{PassesAreSpent, raises_left, RaisesEnd}
+use Rattle.gl_fairness.specs.Waiting.{stands_before}
 use Rattle.gl_fairness.proofs.Before.{KeepsBefore}
 use Rattle.gl_fairness.proofs.Served.{other_slot, waits_first}
 use Rattle.gl_fairness.proofs.Steps.{step_before}

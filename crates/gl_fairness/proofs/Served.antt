@@ -1,27 +1,13 @@
 -- First come, first served: over a step, and over a run along which the wait lasts.
-use Rattle.std.specs.Prelude.{◌≡◌, ◌≢◌, ℕ, true, not, ◌==◌, List, [], ◌∷◌, is_some}
-use Rattle.std.proofs.Common.{refl, sym, arith, subst, ◌∙◌}
-use Rattle.std.proofs.lemmas.Bool.Decides.{nat_tests}
-use Rattle.gl_modes.proofs.Words.{and_both, both, clash, no, or_elim, or_right}
+use Rattle.gl_fairness.proofs.Words.{◌==◌, [], ◌∙◌, ◌∷◌, ◌≡◌, ◌≢◌, ahead_is, ahead_second, and_both, Answer, arith, both, clash, Command, hinders_at}
+use Rattle.gl_fairness.proofs.Words.{is_among_waiters, is_at_least, is_empty, is_some, IsLawful, List, nat_tests, NodeId, nodes, not, or_elim, or_right, refl}
+use Rattle.gl_fairness.proofs.Words.{SameTxn, State, status_of, steps_keep_law, subst, sym, Told, true, TxnId, Waiter, waiting_is, waits_on, WaitsThrough, ℕ}
+use Rattle.gl_modes.proofs.Words.{no}
 use Rattle.gl_modes.specs.declared.mode.Mode.TheVariants.{S}
-use Rattle.gl_modes.specs.Modes.{is_at_least}
-use Rattle.gl_graph.specs.Graph.{nodes}
 use Rattle.gl_graph.proofs.Moved.{some_at}
 use Rattle.gl_graph.proofs.RouteLengths.{listed}
-use Rattle.gl_header.specs.Header.{Waiter, is_among_waiters, is_empty}
-use Rattle.gl_model.specs.Calls.{hinders_at}
-use Rattle.gl_modes.specs.declared.node.NodeId.{NodeId}
-use Rattle.gl_model.specs.declared.txn.TxnId.{TxnId}
-use Rattle.gl_model.specs.Lawful.{IsLawful}
-use Rattle.gl_model.specs.State.{State, status_of}
-use Rattle.gl_model.specs.Tellings.{Told}
-use Rattle.gl_model.proofs.law.Keeps.{apart, txn_there, waiting_is}
-use Rattle.gl_model.proofs.queues.Waiters.{ahead_is, ahead_second}
-use Rattle.gl_steps.specs.declared.command.Answer.{Answer}
-use Rattle.gl_steps.specs.declared.command.Command.{Command}
-use Rattle.gl_steps.specs.Promises.{waits_on}
-use Rattle.gl_steps.proofs.StepsKeepLaw.{steps_keep_law}
-use Rattle.gl_fairness.specs.Waiting.{FirstComeFirstServed, NobodyComesBetween, SameTxn, StoodBefore, WaitsThrough}
+use Rattle.gl_model.proofs.law.Keeps.{apart, txn_there}
+use Rattle.gl_fairness.specs.Waiting.{FirstComeFirstServed, NobodyComesBetween, StoodBefore}
 use Rattle.gl_fairness.proofs.Before.{before, stands_in}
 use Rattle.gl_fairness.proofs.Steps.{step_before}
 use Rattle.gl_fairness.proofs.Turns.{IsResting, one_turn}

@@ -198,5 +198,5 @@ module _ (s : State) (law : IsLawful s) (young : s.victims ≡ Youngest) (v : �
 pub victim_after_a_living : VictimAfterALiving
 victim_after_a_living s s' c a told v law young step becomes =
     ⊎_elim (λ was. absurd (becomes.not_before was)) (λ b. b)
-    (each_step (IsFairVictim s v) s c a told s' (λ h. inl h) (λ next h. h) 
+    (each_step (IsFairVictim s v) s c a told s' (λ h. inl h) (λ next h. h)
     (λ free next acc. changed s law young v a next (change_of s c a told next free acc)) step becomes.after)

@@ -1,9 +1,9 @@
 -- One node with another shape or other parents: the law of the graph is kept.
-use Rattle.gl_graph.proofs.Words.{ap, arith, filter_map, fun_ext, Graph, id_of, if◌then◌else◌, indexes_of, Interval, is_child, is_index_of_shape, is_live}
-use Rattle.gl_graph.proofs.Words.{is_record_shape, IsLawfulGraph, IsRoute, IsWellFormed, length, List, list_any, nat_tests, Node, node_at, NodeId, nodes}
-use Rattle.gl_graph.proofs.Words.{number_other, number_same, Option, parents_in, range_with_len, same_node, same_node-equal, same_node-other, Shape, shape_of}
-use Rattle.gl_graph.proofs.Words.{Some, some_is, subst, sym, true, with_node, ℕ, ◌∙◌, ◌≡◌, ◌≢◌, ◌≤◌}
-use Rattle.gl_graph.proofs.KindRules.{is_plain, Frames, well_formed_kept, AreAlike}
+use Rattle.gl_graph.proofs.Words.{◌∙◌, ◌≡◌, ◌≢◌, ◌≤◌, ap, arith, filter_map, fun_ext, Graph, id_of, if◌then◌else◌, indexes_of, Interval, is_child}
+use Rattle.gl_graph.proofs.Words.{is_index_of_shape, is_live, is_record_shape, IsLawfulGraph, IsRoute, IsWellFormed, length, List, list_any, nat_tests, Node}
+use Rattle.gl_graph.proofs.Words.{node_at, NodeId, nodes, Option, parents_in, range_with_len, same_node, same_node-equal, same_node-other, Shape, shape_of}
+use Rattle.gl_graph.proofs.Words.{Some, some_is, subst, sym, true, with_node, ℕ}
+use Rattle.gl_graph.proofs.KindRules.{AreAlike, Frames, is_plain, well_formed_kept}
 use Rattle.gl_graph.proofs.Routes.{acyclic_moved}
 
 -- the shape is the same except for a file's mark, or a record's keys
@@ -19,12 +19,6 @@ module _ (g : Graph) (n : NodeId) (was is : Node) (there : node_at g n ≡ Some 
 
   pub at_here : node_at after n ≡ Some is
   at_here = grind arith
-
-  at_birth : (b : ℕ) → b ≡ n.birth → after.at b ≡ Some is
-  at_birth b e = ap (λ x. if x then Some is else g.at b) (number_same b n.birth e)
-
-  at_beside : (b : ℕ) → b ≢ n.birth → after.at b ≡ g.at b
-  at_beside b ne = ap (λ x. if x then Some is else g.at b) (number_other b n.birth ne)
 
   pub at_other : (q : NodeId) → q ≢ n → node_at after q ≡ node_at g q
   at_other q ne = grind arith

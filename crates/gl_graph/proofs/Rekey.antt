@@ -70,8 +70,6 @@ record_body _ h = absurd (no h)
 
 key_beside : (b : Body) (place key : ℕ) (n : NodeId) → beside_in_body (body_rekeyed b place key n) ≡ beside_in_body b
 key_beside (body.Inner children above) place key n = refl
-key_beside (body.File kept above) place key n = refl
-key_beside (body.Index kept above) place key n = refl
 key_beside _ place key n = refl
 
 -- a record is stored that has this key, and a parent at the next place

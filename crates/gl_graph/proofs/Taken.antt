@@ -1,29 +1,28 @@
 -- A record, or a node with its children, is removed: what is stored beside the rest is due again after its parents and its file count it no longer.
-use Rattle.gl_graph.proofs.Words.{ap, ap₂, are_distinct, are_inner, AreBornApart, AreGone, AreRecounted, AreSound, AreStored, arith, Beside, beside_in_body}
-use Rattle.gl_graph.proofs.Words.{Body, body_with_records, body_without_index, Bool, Box, children_of, ContainsKey, due, due_as, false, filter, first_parent}
-use Rattle.gl_graph.proofs.Words.{fun_ext, get, Global, Graph, graph_of, Holds, if◌then◌else◌, Index, IndexBody, indexes_of, inl, inr, interval, intervals_from}
-use Rattle.gl_graph.proofs.Words.{intervals_in_body, is_child, is_file_shape, is_in_use, is_index_of_shape, is_index_shape, is_inner_shape, is_live}
-use Rattle.gl_graph.proofs.Words.{is_movable_shape, is_record_shape, is_some, IsLawfulGraph, length, Limits, List, list_any, Lists, no, node_at, node_is}
-use Rattle.gl_graph.proofs.Words.{NodeId, None, none_some, not, not_true, number_same, Option, or_left, other_number, parents_in, parents_in_body, parents_of}
-use Rattle.gl_graph.proofs.Words.{record_count, refl, rules, same_node, same_node-differ, same_node-equal, same_node-refl, same_node-sym, seen, Shape, shape_in}
-use Rattle.gl_graph.proofs.Words.{shape_in_body, shape_of, Slab, slab_len, slice_get, slice_get_within, Some, some_is, split, Stored, subst, sym, true, Updates}
-use Rattle.gl_graph.proofs.Words.{Vec, without_branch, without_node, ℕ, ◌+◌, ◌-◌, ◌==◌, ◌||◌, ◌∙◌, ◌≡◌, ◌≢◌, ◌≤◌, ◌⊎◌}
+use Rattle.gl_graph.proofs.Words.{◌+◌, ◌-◌, ◌==◌, ◌||◌, ◌∙◌, ◌≡◌, ◌≢◌, ◌≤◌, ◌⊎◌, ap, ap₂, are_distinct, are_inner, AreBornApart, AreGone, AreRecounted}
+use Rattle.gl_graph.proofs.Words.{AreSound, AreStored, arith, Beside, beside_in_body, Body, body_with_records, body_without_index, Bool, Box, children_of}
+use Rattle.gl_graph.proofs.Words.{ContainsKey, due, due_as, false, filter, first_parent, fun_ext, get, Global, Graph, graph_of, Holds, if◌then◌else◌, Index}
+use Rattle.gl_graph.proofs.Words.{IndexBody, indexes_of, inl, inr, interval, intervals_from, intervals_in_body, is_child, is_file_shape, is_in_use}
+use Rattle.gl_graph.proofs.Words.{is_index_of_shape, is_index_shape, is_inner_shape, is_live, is_movable_shape, is_record_shape, is_some, IsLawfulGraph, length}
+use Rattle.gl_graph.proofs.Words.{Limits, List, list_any, Lists, no, node_at, node_is, NodeId, None, none_some, not, not_true, number_same, Option, or_left}
+use Rattle.gl_graph.proofs.Words.{other_number, parents_in, parents_in_body, parents_of, record_count, refl, rules, same_node, same_node-differ}
+use Rattle.gl_graph.proofs.Words.{same_node-equal, same_node-refl, same_node-sym, seen, Shape, shape_in, shape_in_body, shape_of, Slab, slab_len, slice_get}
+use Rattle.gl_graph.proofs.Words.{slice_get_within, Some, some_is, split, Stored, subst, sym, true, Updates, Vec, without_branch, without_node, ℕ}
 use Rattle.gl_graph.specs.declared.node.Body.TheVariants as body
 use Rattle.gl_graph.proofs.Added.{records_written}
-use Rattle.gl_graph.proofs.Branch.{left, gone, gone_is, at_gone, at_beside, left_is, left_shape, left_birth, live, interval_count, is_interval_shape}
-use Rattle.gl_graph.proofs.Branch.{movable_no_interval, no_interval_file, no_branch, left_lawful, count_left, other_indexes, indexes_left, records_left}
-use Rattle.gl_graph.proofs.Branch.{interval_stays, children_are, child_interval, interval_child, inner_left}
-use Rattle.gl_graph.proofs.Counted.{AreKept, are_kept, counted_in, counts_written}
-use Rattle.gl_graph.proofs.Dues.{child_test, record_test, inner_due, file_due, record_fixed, no_inner_parent, intervals_same, due_stays, count_without}
-use Rattle.gl_graph.proofs.Dues.{span_get, span_count, intervals_stored, some_child, own_parents, not_its_own, one_less}
-use Rattle.gl_graph.proofs.Held.{put, put_here, put_other, IsStored, live_held, node_held, beside_written, node_removed, sound_held}
-use Rattle.gl_graph.proofs.Held.{recounted, recounted_same}
-use Rattle.gl_graph.proofs.KindRules.{index_node, plain_live, inner_plain, file_plain}
-use Rattle.gl_graph.proofs.Look.{live_node, finds}
+use Rattle.gl_graph.proofs.Branch.{at_beside, at_gone, child_interval, children_are, count_left, gone, gone_is, indexes_left, inner_left, interval_count}
+use Rattle.gl_graph.proofs.Branch.{interval_stays, is_interval_shape, left, left_is, left_lawful, left_shape, live, movable_no_interval, no_branch}
+use Rattle.gl_graph.proofs.Branch.{no_interval_file, other_indexes, records_left}
+use Rattle.gl_graph.proofs.Counted.{are_kept, AreKept, counted_in, counts_written}
+use Rattle.gl_graph.proofs.Dues.{child_test, count_without, due_stays, file_due, inner_due, intervals_same, intervals_stored, no_inner_parent, not_its_own}
+use Rattle.gl_graph.proofs.Dues.{one_less, own_parents, record_fixed, record_test, some_child, span_count, span_get}
+use Rattle.gl_graph.proofs.Held.{beside_written, IsStored, live_held, node_held, node_removed, put, put_here, put_other, recounted, recounted_same, sound_held}
+use Rattle.gl_graph.proofs.KindRules.{file_plain, index_node, inner_plain, plain_live}
+use Rattle.gl_graph.proofs.Look.{finds, live_node}
 use Rattle.gl_graph.proofs.RecordParents.{its_file, record_of_file}
-use Rattle.gl_graph.proofs.Removed.{rec_live, was_there, removed_frames, removed_lawful}
+use Rattle.gl_graph.proofs.Removed.{rec_live, removed_frames, removed_lawful, was_there}
 use Rattle.gl_graph.proofs.SameParents.{records_shown, unlisted_shown}
-use Rattle.gl_graph.proofs.Slots.{at_birth, at_slot, slot_at, shown}
+use Rattle.gl_graph.proofs.Slots.{at_birth, at_slot, shown, slot_at}
 use Rattle.gl_graph.proofs.Tally.{ones}
 
 -- a record

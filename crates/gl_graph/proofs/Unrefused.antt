@@ -1,15 +1,21 @@
 -- What the graph is like if no test finds a reason to refuse.
-use Rattle.gl_graph.proofs.Words.{[], and_both, ap, AreInnerParents, arith, bad_bounds, bad_index_place, bad_parents, Bool, Err, false, first_cycle}
-use Rattle.gl_graph.proofs.Words.{first_refusal, Graph, has_records, index_refusal, indexes_of, is_at_or_below, is_file_shape, is_rising, IsRising, length}
-use Rattle.gl_graph.proofs.Words.{List, list_all, max_count, nat_le, nat_lt, nat_tests, no, node_count, NodeId, None, none_some, not, Ok, Option}
-use Rattle.gl_graph.proofs.Words.{parents_refusal, record_refusal, refl, Refusal, Refuses, reindex_refusal, Result, shape_of, Some, some_no_node, sym}
-use Rattle.gl_graph.proofs.Words.{too_many_nodes, true, verdict, where_true, worn_births, ℕ, ◌++◌, ◌+◌, ◌-◌, ◌<◌, ◌||◌, ◌∷◌, ◌≡◌, ◌≤◌}
+use Rattle.gl_graph.proofs.Words.{◌+◌, ◌++◌, ◌-◌, ◌<◌, [], ◌||◌, ◌∷◌, ◌≡◌, ◌≤◌, and_both, ap, AreInnerParents, arith, bad_bounds, bad_index_place, bad_parents}
+use Rattle.gl_graph.proofs.Words.{Bool, Err, false, first_cycle, first_refusal, get_or, Graph, has_records, index_refusal, indexes_of, is_at_or_below}
+use Rattle.gl_graph.proofs.Words.{is_file_shape, is_rising, IsRising, length, List, list_all, max_count, nat_le, nat_lt, nat_tests, no, node_count, NodeId}
+use Rattle.gl_graph.proofs.Words.{None, none_some, not, Ok, Option, parents_refusal, record_refusal, refl, Refusal, Refuses, reindex_refusal, Result, shape_of}
+use Rattle.gl_graph.proofs.Words.{Some, some_no_node, suc, sym, too_many_nodes, true, verdict, where_true, worn_births, zero, ℕ}
 use mathlib.Core.Bool.{true≢false}
 use Rattle.gl_modes.specs.declared.refusal.Refusal.TheVariants as refusal
 
 pub not_refused : (x : Option Refusal) (xs : List (Option Refusal)) → first_refusal (x ∷ xs) ≡ None → (x ≡ None) × (first_refusal xs ≡ None)
 not_refused None xs h = (refl, h)
 not_refused (Some r) xs h = absurd (none_some (sym h))
+
+-- each of its tests was passed, the first in place 0
+pub none_refused : (xs : List (Option Refusal)) → first_refusal xs ≡ None → (k : ℕ) → get_or xs k None ≡ None
+none_refused [] h k = refl
+none_refused (x ∷ xs) h zero = (not_refused x xs h).0
+none_refused (x ∷ xs) h (suc k) = none_refused xs (not_refused x xs h).1 k
 
 pub test_fails : (b : Bool) (r : Refusal) → where_true b r ≡ None → b ≡ false
 test_fails true r h = absurd (none_some (sym h))

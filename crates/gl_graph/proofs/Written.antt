@@ -127,8 +127,6 @@ module _ {limits : Limits} {old : Slab Stored} {births : ℕ} {g : Graph} (h : H
 -- a node moves
 moved_beside : (b : Body) (ps : Vec NodeId Global) → beside_in_body (body_with_parents b ps) ≡ beside_in_body b
 moved_beside (body.Inner children above) ps = refl
-moved_beside (body.File kept above) ps = refl
-moved_beside (body.Index kept above) ps = refl
 moved_beside _ ps = refl
 
 module _ {limits : Limits} {old : Slab Stored} {births : ℕ} {g : Graph} (h : Holds limits old births g (due g)) (law : IsLawfulGraph g) (n : NodeId)

@@ -1,10 +1,7 @@
 -- Which waiters are ahead of which, read from the front.
-use Rattle.gl_slots.specs.Limit.{most_slots}
-use Rattle.std.proofs.Common.{◌≡◌, ℕ, zero, suc, ◌<◌, true, false, ◌&&◌, not, List, [], ◌∷◌, length, take, get_or, ap, ap₂, arith}
-use Rattle.std.specs.List.{list_all, prefix_len}
-use Rattle.std.proofs.lemmas.Bool.Decides.{nat_tests}
-use Rattle.gl_header.specs.Header.{Waiter, is_waiter, is_ahead, is_among_waiters}
-use Rattle.gl_header.specs.Sound.{is_entry}
+use Rattle.gl_header.proofs.Words.{◌&&◌, ◌<◌, [], ◌∷◌, ◌≡◌, ap, ap₂, arith, false, is_ahead, is_among_waiters, is_entry, is_waiter, length, List, list_all}
+use Rattle.gl_header.proofs.Words.{most_slots, nat_tests, not, prefix_len, suc, take, true, Waiter, zero, ℕ}
+use Rattle.std.proofs.Common.{get_or}
 
 -- the first wait of t is at i
 pub ahead-first : (q : List Waiter) (t u i : ℕ) (d : Waiter) → i < length q → (get_or q i d).0 ≡ t → is_among_waiters t (take i q) ≡ false
@@ -23,9 +20,3 @@ ahead-first q t u i d low at none =
     before (w ∷ q) zero low at none = grind (arith, nat_tests)
     before (w ∷ q) (suc i) low at none =
         let r = before q i (omega arith) at in grind (arith, nat_tests)
-
--- a waiter's slot is below the limit
-pub entry-below : (q : List Waiter) (i : ℕ) (d : Waiter) → list_all is_entry q ≡ true → i < length q → (get_or q i d).0 < most_slots
-entry-below [] i d v low = absurd (omega arith)
-entry-below (w ∷ q) zero d v low = grind (arith, nat_tests)
-entry-below (w ∷ q) (suc i) d v low = entry-below q i d (grind arith) (omega arith)

@@ -1,20 +1,12 @@
 -- A node that one slot holds and nobody waits for: its law, and the answer to a request there. For the places and the headers.
-use Rattle.gl_slots.specs.Limit.{most_slots}
-use Rattle.std.proofs.Common.{◌≡◌, ◌≢◌, ◌∙◌, ℕ, ◌<◌, Bool, true, false, ◌&&◌, ◌||◌, not, [], refl, sym, ap, inl, inr, ⊎_elim, arith}
-use Rattle.std.specs.Prelude.{◌==◌, if◌then◌else◌}
-use Rattle.std.proofs.Math.Path.{fun_ext}
-use Rattle.std.proofs.lemmas.Bool.{cases_eq, cases_lt}
-use Rattle.gl_modes.specs.declared.mode.Mode.{Mode}
-use Rattle.gl_modes.specs.declared.mode.Mode.TheVariants.{NL}
-use Rattle.gl_modes.specs.Modes.{are_compatible, is_at_least, same_mode, supremum}
-use Rattle.gl_modes.proofs.ModeLemmas.{NL-compatible, at_least-refl, not_NL}
-use Rattle.gl_modes.proofs.Words.{both, clash, not_true, number_other, number_same, or_right}
-use Rattle.gl_header.specs.Answers.{asked, asked_members, asked_queue}
-use Rattle.gl_header.specs.Groups.{HoldsTwoModes, nobody}
-use Rattle.gl_header.specs.Header.{Members, enters, fits, group_of, holds, placed, with_mode}
-use Rattle.gl_header.specs.Sound.{IsLawful}
-use Rattle.gl_header.specs.State.{IsLawfulHeader, held_by_one, is_granted, is_unused, slot_limit, unused_header, wanted}
-use Rattle.gl_header.specs.declared.header.Asked.TheVariants.{Granted, Waiting}
+use Rattle.gl_header.proofs.Words.{◌&&◌, ◌<◌, ◌==◌, [], ◌||◌, ◌∙◌, ◌≡◌, ◌≢◌, ⊎_elim, ap, are_compatible, arith, asked, asked_members, asked_queue, Bool}
+use Rattle.gl_header.proofs.Words.{cases_eq, cases_lt, clash, enters, false, fits, fun_ext, Granted, group_of, held_by_one, holds, HoldsTwoModes, if◌then◌else◌}
+use Rattle.gl_header.proofs.Words.{inl, inr, is_at_least, is_granted, is_unused, IsLawful, IsLawfulHeader, Members, Mode, most_slots, NL, NL-compatible, nobody}
+use Rattle.gl_header.proofs.Words.{not, not_NL, not_true, number_same, placed, refl, same_mode, slot_limit, supremum, sym, true, unused_header, wanted}
+use Rattle.gl_header.proofs.Words.{with_mode, ℕ}
+use Rattle.gl_modes.proofs.ModeLemmas.{at_least-refl}
+use Rattle.gl_modes.proofs.Words.{both, number_other, or_right}
+use Rattle.gl_header.specs.declared.header.Asked.TheVariants.{Waiting}
 use Rattle.gl_header.proofs.Changed.{nobody-enters}
 use Rattle.gl_header.proofs.Fits.{compatible-with_mode, fits-all, fits-from_all, within-limit, within-with_mode}
 use Rattle.gl_header.proofs.GroupOf.{at_least-NL, group_of-unique}

@@ -1,18 +1,10 @@
 -- The results of a request, a drop and a dismissal.
-use Rattle.gl_slots.specs.Limit.{most_slots}
-use Rattle.std.proofs.Common.{◌≡◌, ℕ, ◌<◌, Bool, true, false, ◌||◌, List, refl, ap, ◌∙◌}
-use Rattle.std.specs.Prelude.{◌≢◌, if◌then◌else◌}
-use Rattle.gl_modes.proofs.Words.{and_both}
-use Rattle.gl_modes.specs.declared.mode.Mode.{Mode}
-use Rattle.gl_modes.specs.declared.mode.Mode.TheVariants.{NL}
-use Rattle.gl_modes.proofs.ModeLemmas.{supremum-above, supremum-not_NL, not_NL}
-use Rattle.gl_header.specs.Header.{Members, Waiter, fits, holds, is_among_waiters, is_empty, placed, with_mode}
-use Rattle.gl_header.specs.State.{HeaderState, is_granted, members_of, slot_limit, wanted}
-use Rattle.gl_header.specs.Answers.{asked_queue}
-use Rattle.gl_header.specs.Sound.{IsOrderly, IsLawful, is_entry, placed_in}
+use Rattle.gl_header.proofs.Words.{◌<◌, ◌||◌, ◌∙◌, ◌≡◌, ◌≢◌, and_both, ap, asked_queue, Bool, false, fits, HeaderState, holds, if◌then◌else◌, is_among_waiters}
+use Rattle.gl_header.proofs.Words.{is_empty, is_entry, is_granted, IsLawful, IsOrderly, List, Members, members_of, Mode, most_slots, NL, not_NL, placed}
+use Rattle.gl_header.proofs.Words.{placed_in, refl, slot_limit, supremum-above, supremum-not_NL, true, Waiter, wanted, with_mode, ℕ}
 use Rattle.gl_header.proofs.Queues.{is_entry-from}
 use Rattle.gl_header.proofs.Placing.{placed-list}
-use Rattle.gl_header.proofs.Orderly.{orderly-with_mode, orderly-placed_in, stuck-with_mode, stuck-placed_in}
+use Rattle.gl_header.proofs.Orderly.{orderly-placed_in, orderly-with_mode, stuck-placed_in, stuck-with_mode}
 
 -- laws of equal members and queues
 

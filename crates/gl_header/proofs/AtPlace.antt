@@ -1,27 +1,20 @@
 -- What a change at the place of a node does to the headers of all nodes. For the headers.
-use Rattle.std.proofs.Common.{◌≡◌, ◌≢◌, ℕ, ◌<◌, Bool, true, false, cond, List, [], ◌∙◌, length, refl, sym, subst, ap, ⊎_elim}
-use Rattle.std.proofs.Math.Path.{fun_ext}
-use Rattle.std.proofs.lemmas.Bool.{cases_lt}
-use Rattle.std.proofs.lemmas.List.{get_or_default, get_or_past}
-use Rattle.std.specs.Prelude.{None, Option, Some, is_some, not, slice_index_or, slice_set}
-use Rattle.gl_modes.specs.declared.mode.Mode.{Mode}
-use Rattle.gl_modes.specs.declared.mode.Mode.TheVariants.{NL}
-use Rattle.gl_modes.specs.declared.node.NodeId.{NodeId}
-use Rattle.gl_modes.specs.Nodes.{same_node}
-use Rattle.gl_modes.proofs.NodeLemmas.{same_node-equal, same_node-sym}
-use Rattle.gl_modes.proofs.Words.{cases_of, no, none_some, number_same, some_is}
-use Rattle.gl_header.specs.Header.{Members, Waiter, holds, is_among_waiters}
-use Rattle.gl_header.specs.Headers.{Entries, HasItsKey, HeadersState, IsFreeKey, header_at, header_or_new, held_of, members_at, queue_of}
-use Rattle.gl_header.specs.Headers.{IsFreeKey, header_at, header_or_new, held_of, members_at, queue_of, with_members, with_waiters}
-use Rattle.gl_header.specs.Places.{ArePlaces, IsAskedPlace, IsOf, IsPlace, entries_in, header_in, header_of, members_by, place_at, queue_by, stands}
-use Rattle.gl_header.specs.State.{HeaderState, IsLawfulHeader, is_unused, members_of, unused_header}
-use Rattle.gl_header.specs.declared.places.Place.{Place}
+use Rattle.gl_header.proofs.Words.{◌<◌, [], ◌∙◌, ◌≡◌, ◌≢◌, ⊎_elim, ap, ArePlaces, Bool, cases_lt, cases_of, cond, Entries, entries_in, false, Free, fun_ext}
+use Rattle.gl_header.proofs.Words.{get_or_past, header_at, header_in, header_of, header_or_new, HeadersState, HeaderState, Held, held_of, holds}
+use Rattle.gl_header.proofs.Words.{is_among_waiters, is_unused, IsLawfulHeader, IsOf, IsPlace, length, List, Members, members_at, members_by, members_of, Mode}
+use Rattle.gl_header.proofs.Words.{NL, NodeId, None, not, number_same, Option, Place, place_at, queue_of, refl, same_node, same_node-equal, same_node-sym}
+use Rattle.gl_header.proofs.Words.{slice_index_or, slice_set, Some, stands, subst, sym, true, unused_header, Waiter, with_members, with_waiters, ℕ}
+use Rattle.std.proofs.lemmas.List.{get_or_default}
+use Rattle.std.specs.Prelude.{is_some}
+use Rattle.gl_modes.proofs.Words.{no, none_some, some_is}
+use Rattle.gl_header.specs.Headers.{HasItsKey, IsFreeKey}
+use Rattle.gl_header.specs.Places.{IsAskedPlace, queue_by}
 use Rattle.gl_header.specs.declared.places.Shared.{Shared as SharedBox}
 use Rattle.std.specs.Global.{Global}
 use Rattle.std.specs.declared.boxed.Box.{Box}
-use Rattle.gl_header.specs.declared.places.Place.TheVariants.{Free, Held, Shared}
+use Rattle.gl_header.specs.declared.places.Place.TheVariants.{Shared}
 use Rattle.gl_header.proofs.ByKey.{changed-put, found, in-place, none_but, places-put, put-set}
-use Rattle.gl_header.proofs.Changed.{IsAsked, IsChanged, asked-is, asked-used, has_holder, has_waiter, held-changed, queue-changed}
+use Rattle.gl_header.proofs.Changed.{asked-is, asked-used, has_holder, has_waiter, held-changed, IsAsked, IsChanged, queue-changed}
 use Rattle.gl_header.proofs.Unused.{unused-nobody, unused-true}
 
 -- the fields show what their view shows

@@ -1,21 +1,16 @@
 -- Headers at the places that their nodes' keys name: a look-up there finds the node's header, and a write there changes that header alone.
-use Rattle.std.proofs.Common.{◌≡◌, ◌≢◌, ℕ, ◌+◌, ◌<◌, ◌≤◌, Bool, true, false, cond, List, [], ◌∷◌, ◌++◌, ◌∙◌, length, take, ◌-◌, zero, suc, refl, sym, subst}
-use Rattle.std.proofs.Common.{ap, ap₂, arith, ⊎_elim}
-use Rattle.std.proofs.lemmas.List.{get_or-set_other, get_or-set_same, get_or_append_left, get_or-append_right, get_or_past, take_all}
-use Rattle.std.specs.List.{AllByRecursion, AppendsResults, FoldsTo}
+use Rattle.gl_header.proofs.Words.{◌&&◌, ◌+◌, ◌++◌, ◌<◌, ◌==◌, [], ◌∙◌, ◌∷◌, ◌≡◌, ◌≢◌, ◌≤◌, ⊎_elim, AllByRecursion, ap, ap₂, AreDistinct, AreHeaders, ArePlaces}
+use Rattle.gl_header.proofs.Words.{arith, Bool, cases_eq, cases_lt, cases_of, cond, Entries, entries_in, false, Free, get_or_past, header_at, header_in}
+use Rattle.gl_header.proofs.Words.{HeaderState, IsOf, IsPlace, length, List, NodeId, None, number_same, Option, Place, place_at, refl, same_node}
+use Rattle.gl_header.proofs.Words.{same_node-equal, same_node-sym, slice_set, Some, split, stands, subst, suc, sym, take, true, zero, ℕ}
+use Rattle.std.proofs.Common.{◌-◌}
+use Rattle.std.proofs.lemmas.List.{get_or-append_right, get_or-set_other, get_or-set_same, get_or_append_left, take_all}
+use Rattle.std.specs.List.{AppendsResults, FoldsTo}
 unfoldable use Rattle.std.specs.List.{IsDistinct}
 use Rattle.std.specs.Map.{keys_of}
-use Rattle.std.specs.Prelude.{◌==◌, ◌&&◌, Option, Some, None, slice_set}
-use Rattle.std.proofs.lemmas.Bool.{cases_eq, cases_lt}
-use Rattle.gl_modes.specs.declared.node.NodeId.{NodeId}
-use Rattle.gl_modes.specs.Nodes.{same_node}
-use Rattle.gl_modes.proofs.NodeLemmas.{same_node-differ, same_node-equal, same_node-sym}
-use Rattle.gl_modes.proofs.Words.{cases_of, none_some, number_same, same_number, some_is, split}
-use Rattle.gl_header.specs.Headers.{AreDistinct, AreHeaders, Entries, header_at}
-use Rattle.gl_header.specs.Places.{ArePlaces, IsOf, IsPlace, entered, entries_from, entries_in, header_in, place_at, stands}
-use Rattle.gl_header.specs.State.{HeaderState}
-use Rattle.gl_header.specs.declared.places.Place.{Place}
-use Rattle.gl_header.specs.declared.places.Place.TheVariants.{Free}
+use Rattle.gl_modes.proofs.NodeLemmas.{same_node-differ}
+use Rattle.gl_modes.proofs.Words.{none_some, same_number, some_is}
+use Rattle.gl_header.specs.Places.{entered, entries_from}
 use Rattle.gl_header.proofs.Changed.{IsChanged}
 
 -- what is stored at a place: a birth and a header

@@ -1,22 +1,9 @@
 -- How a change of one node's header changes all headers. For the headers, and for the crates above.
-use Rattle.std.proofs.Common.{◌≡◌, ◌≢◌, ℕ, Bool, true, false, ◌&&◌, not, cond, List, [], ◌∷◌, ◌++◌, ◌∙◌, refl, sym, ap, arith}
-use Rattle.std.proofs.Math.Path.{fun_ext}
-use Rattle.std.proofs.lemmas.Bool.Decides.{nat_tests}
-use Rattle.std.specs.List.{filter}
-use Rattle.std.specs.Prelude.{Option, Some, if◌then◌else◌}
-use Rattle.gl_modes.specs.declared.mode.Mode.{Mode}
-use Rattle.gl_modes.specs.declared.mode.Mode.TheVariants.{NL}
-use Rattle.gl_modes.specs.declared.node.NodeId.{NodeId}
-use Rattle.gl_modes.specs.Modes.{same_mode}
-use Rattle.gl_modes.specs.Nodes.{same_node}
-use Rattle.gl_modes.proofs.ModeLemmas.{NL-compatible, not_NL, supremum-not_NL}
-use Rattle.gl_modes.proofs.NodeLemmas.{same_node-equal, same_node-sym}
-use Rattle.gl_modes.proofs.Words.{cases_of, clash, not_true, split}
-use Rattle.gl_header.specs.Answers.{asked_members, asked_queue}
-use Rattle.gl_header.specs.Header.{Members, Waiter, enters, group_of, holds, is_among_waiters, is_empty, placed, with_mode}
-use Rattle.gl_header.specs.Headers.{Entries, header_at, header_or_new, held_of, members_at, queue_of, with_members}
-use Rattle.gl_header.specs.Headers.{with_waiters}
-use Rattle.gl_header.specs.State.{HeaderState, IsLawfulHeader, is_granted, is_unused, members_of, unused_header, wanted}
+use Rattle.gl_header.proofs.Words.{◌&&◌, ◌++◌, [], ◌∙◌, ◌∷◌, ◌≡◌, ◌≢◌, ap, arith, asked_members, asked_queue, Bool, cases_of, clash, cond, enters, Entries}
+use Rattle.gl_header.proofs.Words.{false, filter, fun_ext, group_of, header_at, header_or_new, HeaderState, held_of, holds, if◌then◌else◌, is_among_waiters}
+use Rattle.gl_header.proofs.Words.{is_empty, is_granted, is_unused, IsLawfulHeader, List, Members, members_at, members_of, Mode, nat_tests, NL, NL-compatible}
+use Rattle.gl_header.proofs.Words.{NodeId, not, not_NL, not_true, Option, placed, queue_of, refl, same_mode, same_node, same_node-equal, same_node-sym, Some}
+use Rattle.gl_header.proofs.Words.{split, supremum-not_NL, sym, true, unused_header, Waiter, wanted, with_members, with_mode, with_waiters, ℕ}
 use Rattle.gl_header.proofs.Fits.{fits-from_all}
 use Rattle.gl_header.proofs.GroupOf.{group_of-unique}
 use Rattle.gl_header.proofs.Unused.{unused-nobody, unused-true}

@@ -1,12 +1,6 @@
 -- The first grant of an unused header: every mode fits. For the group and the header.
-use Rattle.std.proofs.Common.{◌≡◌, ◌∙◌, ℕ, true, false, ◌&&◌, sym, ap, ap₂}
-use Rattle.std.proofs.Math.Path.{fun_ext}
-use Rattle.gl_modes.specs.declared.mode.Mode.{Mode}
-use Rattle.gl_modes.specs.Modes.{supremum}
-use Rattle.gl_modes.proofs.ModeLemmas.{NL-compatible}
-use Rattle.gl_header.specs.Groups.{nobody}
-use Rattle.gl_header.specs.Header.{enters, fits, is_among_waiters}
-use Rattle.gl_header.specs.State.{HeaderState, IsLawfulHeader, is_granted, is_unused, members_of, slot_limit, wanted}
+use Rattle.gl_header.proofs.Words.{◌&&◌, ◌∙◌, ◌≡◌, ap, ap₂, enters, false, fits, fun_ext, HeaderState, is_among_waiters, is_granted, is_unused, IsLawfulHeader}
+use Rattle.gl_header.proofs.Words.{members_of, Mode, NL-compatible, nobody, slot_limit, supremum, sym, true, wanted, ℕ}
 use Rattle.gl_header.proofs.Fits.{fits-from_all}
 use Rattle.gl_header.proofs.Unused.{unused-true}
 

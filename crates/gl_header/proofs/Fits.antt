@@ -1,26 +1,10 @@
 -- What fits, for any limit below which all members are.
-use Rattle.gl_slots.specs.Limit.{most_slots}
-use Rattle.std.proofs.Common.{◌≡◌, ℕ, ◌<◌, ◌≤◌, Bool, true, ◌&&◌, ◌||◌, List, refl, sym, ap, ap₂, ◌∙◌, ⊎_elim, arith}
-use Rattle.std.specs.Prelude.{◌==◌, ◌≢◌}
-use Rattle.std.proofs.lemmas.Bool.{cases_eq}
-use Rattle.std.proofs.lemmas.Bool.Decides.{nat_tests}
-use Rattle.gl_modes.specs.declared.mode.Mode.{Mode}
-use Rattle.gl_modes.specs.Modes.{are_compatible}
-use Rattle.gl_modes.proofs.ModeLemmas.{compatible-symmetric, NL-compatible}
-use Rattle.gl_header.specs.Header.{
-  Members,
-  Waiter,
-  IsCompatible,
-  IsWithin,
-  Fits,
-  fits,
-  holds,
-  with_mode,
-  enters,
-  is_empty,
-}
+use Rattle.gl_header.proofs.Words.{◌&&◌, ◌<◌, ◌==◌, ◌||◌, ◌∙◌, ◌≡◌, ◌≢◌, ◌≤◌, ⊎_elim, ap, ap₂, are_compatible, arith, Bool, cases_eq, enters, Fits, fits, holds}
+use Rattle.gl_header.proofs.Words.{is_empty, IsCompatible, IsWithin, List, Members, Mode, most_slots, nat_tests, NL-compatible, refl, sym, true, Waiter}
+use Rattle.gl_header.proofs.Words.{with_mode, ℕ}
+use Rattle.gl_modes.proofs.ModeLemmas.{compatible-symmetric}
 use Rattle.gl_header.specs.State.{slot_limit}
-use Rattle.gl_header.proofs.Ranges.{equal_tests, range-each, range-from_each, below_or_not}
+use Rattle.gl_header.proofs.Ranges.{below_or_not, equal_tests, range-each, range-from_each}
 
 -- the limit of slots, unfolded
 pub slot_limit-is : slot_limit ≡ most_slots

@@ -1,13 +1,8 @@
 -- The members and the queue after granting from the front.
-use Rattle.gl_slots.specs.Limit.{most_slots}
-use Rattle.std.proofs.Common.{◌≡◌, ℕ, ◌<◌, ◌≤◌, Bool, true, false, List, [], ◌∷◌, ◌++◌, length, drop, refl, ap, ap₂, arith}
-use Rattle.std.specs.Prelude.{if◌then◌else◌}
-use Rattle.std.proofs.lemmas.Bool.Decides.{nat_tests}
-use Rattle.gl_modes.proofs.Words.{split}
-use Rattle.gl_header.specs.Header.{Members, Waiter, IsCompatible, IsWithin, AreBelow, fits, with_mode, front, after_grants, pumped_members}
-use Rattle.gl_header.specs.Header.{pumped_queue, is_among_waiters}
-use Rattle.gl_header.specs.State.{slot_limit}
-use Rattle.gl_header.proofs.Fits.{fits-all, fits-limits, within-with_mode, within-limit, compatible-with_mode, slot_limit-is}
+use Rattle.gl_header.proofs.Words.{◌++◌, ◌<◌, [], ◌∷◌, ◌≡◌, ◌≤◌, after_grants, ap, ap₂, AreBelow, arith, Bool, drop, false, fits, front, if◌then◌else◌}
+use Rattle.gl_header.proofs.Words.{is_among_waiters, IsCompatible, IsWithin, length, List, Members, most_slots, nat_tests, pumped_members, pumped_queue, refl}
+use Rattle.gl_header.proofs.Words.{slot_limit, split, true, Waiter, with_mode, ℕ}
+use Rattle.gl_header.proofs.Fits.{compatible-with_mode, fits-all, fits-limits, slot_limit-is, within-limit, within-with_mode}
 
 -- the first waiter, and the others, are below the limit
 
@@ -51,12 +46,6 @@ pumped-compatible most g (v ∷ q) b w all =
         → IsCompatible (after_grants g (if b then v ∷ front most (with_mode g v.0 v.1) q else []))
     by true e rest = rest e
     by false e rest = all
-
--- members stay below the limit
-pub granted-within : (most : ℕ) (g : Members) (ws : List Waiter) → AreBelow most ws → IsWithin most g → IsWithin most (after_grants g ws)
-granted-within most g [] b w = w
-granted-within most g (v ∷ ws) b w =
-    granted-within most (with_mode g v.0 v.1) ws (below-rest most v ws b) (within-with_mode most g v.0 v.1 (below-first most v ws b) w)
 
 -- a granted slot waited
 pub front-waited : (most : ℕ) (g : Members) (q : List Waiter) (t : ℕ) → is_among_waiters t (front most g q) ≡ true → is_among_waiters t q ≡ true

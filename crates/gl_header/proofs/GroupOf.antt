@@ -1,22 +1,9 @@
 -- The group mode is the least mode that is each member's or greater.
-use Rattle.gl_slots.specs.Limit.{most_slots}
-use Rattle.std.proofs.Common.{◌≡◌, ℕ, zero, suc, ◌+◌, ◌<◌, ◌≤◌, true, ◌&&◌, List, [], ◌∷◌, refl, ap, ap₂, ◌∙◌, ⊎_elim, arith}
-use Rattle.std.specs.List.{fold, range_with_len}
-use Rattle.std.proofs.lemmas.Bool.{cases_eq}
-use Rattle.gl_modes.specs.declared.mode.Mode.{Mode}
-use Rattle.gl_modes.specs.declared.mode.Mode.TheVariants.{NL}
-use Rattle.gl_modes.specs.Modes.{supremum, is_at_least}
+use Rattle.gl_header.proofs.Words.{◌&&◌, ◌+◌, ◌<◌, [], ◌∙◌, ◌∷◌, ◌≡◌, ◌≤◌, ⊎_elim, ap, ap₂, arith, cases_eq, group_of, is_at_least, IsWithin, List, Members}
+use Rattle.gl_header.proofs.Words.{Mode, most_slots, NL, range_with_len, refl, slot_limit, suc, supremum, supremum-above, true, zero, ℕ}
+use Rattle.std.specs.List.{fold}
 use Rattle.gl_modes.proofs.Each.{every-true}
-use Rattle.gl_modes.proofs.ModeLemmas.{
-  at_least-antisymmetric,
-  at_least-refl,
-  at_least-transitive,
-  supremum-above,
-  supremum-above_right,
-  supremum-least,
-}
-use Rattle.gl_header.specs.Header.{Members, IsWithin, group_of}
-use Rattle.gl_header.specs.State.{slot_limit}
+use Rattle.gl_modes.proofs.ModeLemmas.{at_least-antisymmetric, at_least-refl, at_least-transitive, supremum-above_right, supremum-least}
 use Rattle.gl_header.proofs.Ranges.{below_or_not}
 use Rattle.gl_header.proofs.Fits.{within-limit}
 

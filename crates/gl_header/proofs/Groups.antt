@@ -1,27 +1,18 @@
 -- A granted group, in terms of members: its parts, what fits beside it, its supremum, and the result of a grant.
-use Rattle.gl_slots.specs.Limit.{most_slots}
-use Rattle.std.proofs.Common.{◌≡◌, ◌≢◌, ℕ, ◌<◌, ◌≤◌, Bool, true, false, cond, ◌&&◌, ◌||◌, not, refl, sym, ap, ap₂, ◌∙◌, arith}
-use Rattle.std.specs.Prelude.{◌==◌}
-use Rattle.std.proofs.Common.{inl, inr}
-use Rattle.std.proofs.Math.Path.{fun_ext}
-use Rattle.std.proofs.lemmas.Bool.Decides.{nat_tests}
-use Rattle.gl_modes.specs.declared.mode.Mode.{Mode}
-use Rattle.gl_modes.specs.declared.mode.Mode.TheVariants.{NL, IS}
-use Rattle.gl_modes.specs.Modes.{are_compatible, supremum, is_at_least, same_mode}
-use Rattle.gl_modes.proofs.Each.{every-true, every2-true, implies, implied}
-use Rattle.gl_modes.proofs.ModeLemmas.{NL-compatible, not_NL, same_mode-equal, supremum-above, supremum-above_right, supremum-least}
+use Rattle.gl_header.proofs.Words.{◌&&◌, ◌<◌, ◌==◌, ◌||◌, ◌∙◌, ◌≡◌, ◌≢◌, ◌≤◌, ap, ap₂, are_compatible, arith, Bool, clash, cond, false, fits, fun_ext, Group}
+use Rattle.gl_header.proofs.Words.{group_of, has_none, has_slot, held_by, holds, HoldsTwoModes, inl, inr, IS, is_at_least, IsGroup, IsWithin, Members, Mode}
+use Rattle.gl_header.proofs.Words.{most_slots, nat_tests, NL, NL-compatible, nobody_holds, not, not_NL, not_true, refl, same_mode, same_mode-equal, slot_limit}
+use Rattle.gl_header.proofs.Words.{split, supremum, supremum-above, sym, true, with_mode, ℕ}
+use Rattle.gl_modes.proofs.Each.{every-true, every2-true, implied, implies}
+use Rattle.gl_modes.proofs.ModeLemmas.{supremum-above_right, supremum-least}
 use Rattle.gl_slots.specs.declared.slots.Slots.{Slots}
-use Rattle.gl_slots.specs.Slots.{HasNoSlot, has_none, has_slot}
+use Rattle.gl_slots.specs.Slots.{HasNoSlot}
 use Rattle.gl_slots.proofs.SlotLemmas.{none-test, test-none}
-use Rattle.gl_header.specs.declared.group.Group.{Group}
-use Rattle.gl_header.specs.Groups.{GoesBeside, HoldsTwoModes, IsGroup, group_mode, held_by}
-use Rattle.gl_header.specs.Header.{Members, IsWithin, fits, group_of, holds, with_mode}
-use Rattle.gl_header.specs.State.{slot_limit, nobody_holds}
+use Rattle.gl_header.specs.Groups.{GoesBeside, group_mode}
 use Rattle.gl_header.proofs.Ranges.{range-from_each}
-use Rattle.gl_header.proofs.Fits.{fits-all, fits-from_all, within-more, slot_limit-is}
+use Rattle.gl_header.proofs.Fits.{fits-all, fits-from_all, slot_limit-is, within-more}
 use Rattle.gl_header.proofs.GroupOf.{at_least-NL, group_of-unique}
 use Rattle.gl_header.proofs.Unused.{nobody_holds-all}
-use Rattle.gl_modes.proofs.Words.{clash, split, not_true}
 
 -- what a slot of each part holds
 
@@ -107,10 +98,6 @@ nobody-from_both g k is none =
     (λ u l m. ap (λ x. not (not (same_mode x NL))) (other-mode g u (k.free is u) (none u)))
 
 -- the supremum of the held modes
-
-at_least-IS : (m : Mode) → same_mode m NL ≡ false → is_at_least m IS ≡ true
-at_least-IS m h = split (same_mode m NL) (λ e. absurd (clash e h))
-    (λ e. implied _ _ (every-true (λ x. implies (not (same_mode x NL)) (is_at_least x IS)) refl m) (ap not e))
 
 -- a mode that is the group's mode or greater, if anybody holds it
 least-main : (g : Group) (x : Mode) → IsGroup g → ((u : ℕ) → is_at_least x (held_by g u) ≡ true) → is_at_least x g.mode ≡ true
@@ -263,20 +250,6 @@ left-other a b t h e = grind arith
 
 left-none : (a b t : Bool) → b ≡ (a && not t) → a ≡ false → b ≡ false
 left-none a b t h e = grind arith
-
-left-from : (a b t : Bool) → b ≡ (a && not t) → b ≡ true → a ≡ true
-left-from a b t h e = grind arith
-
-pub released-group : (g : Group) (s : ℕ) (h i : Slots) → IsGroup g → IsWithoutSlot g.holders s h → IsWithoutSlot g.intents s i → (HasNoSlot h → ⊥)
-    → IsGroup (record { mode = g.mode; holders = h; intents = i })
-released-group g s h i k wh wi some = record {
-  apart = λ u x. left-none _ _ _ (wi u) (k.apart u (left-from _ _ _ (wh u) x));
-  not_IS = k.not_IS;
-  idle = λ none. absurd (some none);
-  free = λ n u. left-none _ _ _ (wh u) (k.free n u);
-  holders_below = λ u le. left-none _ _ _ (wh u) (k.holders_below u le);
-  intents_below = λ u le. left-none _ _ _ (wi u) (k.intents_below u le);
-}
 
 -- a remaining holder of the group's mode holds what it held
 pub released-held : (g : Group) (s : ℕ) (m : Mode) (h i : Slots) → IsWithoutSlot g.holders s h → IsWithoutSlot g.intents s i

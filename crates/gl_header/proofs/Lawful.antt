@@ -1,18 +1,10 @@
 -- The law of a header, from what holds of its fields.
-use Rattle.gl_slots.specs.Limit.{most_slots}
-use Rattle.std.proofs.Common.{◌≡◌, ℕ, true, false, ◌&&◌, ◌||◌, not, Some, List, [], ◌∷◌, refl, sym, ap, ◌∙◌, arith}
-use Rattle.std.specs.Prelude.{◌==◌, ◌≢◌}
-use Rattle.std.specs.List.{filter, list_all, before_first}
-use Rattle.std.proofs.lemmas.Bool.Decides.{nat_tests}
-use Rattle.gl_modes.proofs.Words.{and_both, split}
-use Rattle.gl_modes.specs.declared.mode.Mode.{Mode}
-use Rattle.gl_modes.specs.declared.mode.Mode.TheVariants.{NL}
-use Rattle.gl_modes.specs.Modes.{same_mode, is_at_least}
-use Rattle.gl_header.specs.Header.{Members, Waiter, AreBelow, IsWithin, group_of, holds, is_waiter, is_among_waiters, wanted_by, is_ahead}
-use Rattle.gl_header.specs.Groups.{Grants, Grouped, HoldsTwoModes, IsGroup, held_by, is_listed, members_in, mode_of_all}
-use Rattle.gl_header.specs.declared.group.Group.{Group}
-use Rattle.gl_header.specs.State.{HeaderState, IsLawfulHeader, members_of, slot_limit}
-use Rattle.gl_header.specs.Sound.{is_distinct, is_entry, all_new, is_ordered, all_rise, IsLawful}
+use Rattle.gl_header.proofs.Words.{◌&&◌, ◌==◌, [], ◌||◌, ◌∙◌, ◌∷◌, ◌≡◌, ◌≢◌, all_new, all_rise, and_both, ap, AreBelow, arith, false, filter, Group, group_of}
+use Rattle.gl_header.proofs.Words.{Grouped, HeaderState, held_by, holds, HoldsTwoModes, is_ahead, is_among_waiters, is_at_least, is_distinct, is_entry}
+use Rattle.gl_header.proofs.Words.{is_ordered, is_waiter, IsGroup, IsLawful, IsLawfulHeader, IsWithin, List, list_all, Members, members_of, Mode, most_slots}
+use Rattle.gl_header.proofs.Words.{nat_tests, NL, not, refl, same_mode, slot_limit, Some, split, sym, true, Waiter, wanted_by, ℕ}
+use Rattle.std.specs.List.{before_first}
+use Rattle.gl_header.specs.Groups.{Grants, is_listed, members_in, mode_of_all}
 use Rattle.gl_header.proofs.Fits.{slot_limit-is}
 use Rattle.gl_header.proofs.Groups.{group_mode-is, listed, two-modes}
 use Rattle.gl_header.proofs.Pumped.{stuck-front}

@@ -1,3 +1,5 @@
+-- the words that proofs use
+pub mod Words
 pub mod Ranges
 pub mod Fits
 pub mod GroupOf

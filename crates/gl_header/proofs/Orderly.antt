@@ -1,18 +1,10 @@
 -- Members and queue stay orderly under each change.
-use Rattle.gl_slots.specs.Limit.{most_slots}
-use Rattle.std.proofs.Common.{◌≡◌, ℕ, ◌<◌, Bool, true, false, ◌&&◌, ◌||◌, not, List, [], ◌∷◌, refl, sym, ap, ◌∙◌, arith, ltb}
-use Rattle.std.specs.Prelude.{◌==◌}
-use Rattle.std.proofs.lemmas.Bool.Decides.{nat_tests}
-use Rattle.gl_modes.proofs.Words.{split, not_true}
-use Rattle.gl_modes.specs.declared.mode.Mode.{Mode}
-use Rattle.gl_modes.specs.declared.mode.Mode.TheVariants.{NL}
-use Rattle.gl_modes.specs.Modes.{are_compatible, is_at_least, same_mode}
-use Rattle.gl_modes.proofs.ModeLemmas.{compatible-symmetric, lesser-compatible, NL-compatible}
-use Rattle.gl_header.specs.Header.{Members, Waiter, Fits, IsWithin, fits, holds, is_among_waiters, is_empty, with_mode}
-use Rattle.gl_header.specs.State.{slot_limit}
-use Rattle.gl_header.specs.Entries.{without}
-use Rattle.gl_header.specs.Sound.{is_entry, all_new, is_ordered, all_rise, is_stuck, IsOrderly, placed_in}
-use Rattle.gl_header.proofs.Fits.{fits-all, fits-from_all, within-with_mode, compatible-with_mode, slot_limit-is}
+use Rattle.gl_header.proofs.Words.{◌&&◌, ◌<◌, ◌==◌, [], ◌||◌, ◌∙◌, ◌∷◌, ◌≡◌, all_new, all_rise, ap, are_compatible, arith, Bool, false, Fits, fits, holds}
+use Rattle.gl_header.proofs.Words.{is_among_waiters, is_at_least, is_empty, is_entry, is_ordered, is_stuck, IsOrderly, IsWithin, List, ltb, Members, Mode}
+use Rattle.gl_header.proofs.Words.{most_slots, nat_tests, NL, NL-compatible, not, not_true, placed_in, refl, same_mode, slot_limit, split, sym, true, Waiter}
+use Rattle.gl_header.proofs.Words.{with_mode, without, ℕ}
+use Rattle.gl_modes.proofs.ModeLemmas.{compatible-symmetric, lesser-compatible}
+use Rattle.gl_header.proofs.Fits.{compatible-with_mode, fits-all, fits-from_all, slot_limit-is, within-with_mode}
 use Rattle.gl_header.proofs.Queues.{all-without, distinct-without}
 use Rattle.gl_header.proofs.Placing.{all-placed_in, distinct-placed_in, ordered-placed_in}
 

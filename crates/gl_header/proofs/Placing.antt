@@ -1,12 +1,7 @@
 -- The place of a new wait in the queue.
-use Rattle.std.proofs.Common.{◌≡◌, ℕ, ◌+◌, ◌≤◌, Bool, true, false, cond, ◌&&◌, ◌||◌, not, List, [], ◌∷◌, ◌++◌, length, refl, sym, ap, ◌∙◌, arith, suc}
-use Rattle.std.specs.Prelude.{◌==◌, if◌then◌else◌}
-use Rattle.std.specs.List.{filter, insert, list_all, prefix_len}
-use Rattle.std.proofs.lemmas.Bool.Decides.{nat_tests}
-use Rattle.gl_modes.proofs.Words.{split}
-use Rattle.gl_modes.specs.declared.mode.Mode.{Mode}
-use Rattle.gl_header.specs.Header.{Members, Waiter, holds, is_among_waiters, placed}
-use Rattle.gl_header.specs.Sound.{is_distinct, all_new, is_ordered, placed_in}
+use Rattle.gl_header.proofs.Words.{◌&&◌, ◌+◌, ◌++◌, ◌==◌, [], ◌||◌, ◌∙◌, ◌∷◌, ◌≡◌, ◌≤◌, all_new, ap, arith, Bool, cond, false, filter, holds, if◌then◌else◌}
+use Rattle.gl_header.proofs.Words.{insert, is_among_waiters, is_distinct, is_ordered, length, List, list_all, Members, Mode, nat_tests, not, placed, placed_in}
+use Rattle.gl_header.proofs.Words.{prefix_len, refl, split, suc, sym, true, Waiter, ℕ}
 
 pub placed_in-member : (g : Members) (q : List Waiter) (e : Waiter) → holds g e.0 ≡ true → insert q (prefix_len (λ w. holds g w.0) q) e ≡ placed_in g q e
 placed_in-member g [] e h = refl

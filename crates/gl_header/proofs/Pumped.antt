@@ -1,10 +1,6 @@
 -- Granting from the front, one waiter after the other.
-use Rattle.std.proofs.Common.{◌≡◌, ◌≤◌, Bool, true, false, not, List, [], ◌∷◌, length, drop, refl, ap, arith}
-use Rattle.std.specs.Prelude.{if◌then◌else◌}
-use Rattle.gl_modes.proofs.Words.{split}
-use Rattle.gl_header.specs.Header.{Members, Waiter, fits, front, after_grants, pumped_members, pumped_queue, with_mode}
-use Rattle.gl_header.specs.State.{slot_limit}
-use Rattle.gl_header.specs.Sound.{IsOrderly, IsLawful, is_stuck}
+use Rattle.gl_header.proofs.Words.{[], ◌∷◌, ◌≡◌, ◌≤◌, after_grants, ap, arith, Bool, drop, false, fits, front, if◌then◌else◌, is_stuck, IsLawful, IsOrderly}
+use Rattle.gl_header.proofs.Words.{length, List, Members, not, pumped_members, pumped_queue, refl, slot_limit, split, true, Waiter, with_mode}
 use Rattle.gl_header.proofs.Orderly.{orderly-front}
 
 -- members and queue after a front was granted are lawful
@@ -42,15 +38,6 @@ front-stuck g (w ∷ q) k =
     taken : (ws : List Waiter) (b : Bool) → b ≡ true → (if b then w ∷ front slot_limit (with_mode g w.0 w.1) q else []) ≡ [] → ⊥
     taken ws true h e = cc
     taken ws false h e = cc
-
--- a granted waiter is at the front
-pub front-length : (g : Members) (q : List Waiter) → length (front slot_limit g q) ≤ length q
-front-length g [] = omega arith
-front-length g (w ∷ ws) =
-    let r = front-length (with_mode g w.0 w.1) ws in
-    split (fits slot_limit g w.0 w.1)
-    (λ e. rw (front-granted g w ws e) (omega arith))
-    (λ e. rw (front-refused g w ws e) (omega arith))
 
 -- the grants in the end, with the front waiter granted first
 pub pumped-step : (g : Members) (w : Waiter) (ws : List Waiter) → fits slot_limit g w.0 w.1 ≡ true

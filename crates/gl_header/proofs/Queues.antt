@@ -1,18 +1,11 @@
 -- A queue after a removal, and the places of entries in it.
-use Rattle.gl_slots.specs.Limit.{most_slots}
-use Rattle.std.proofs.Common.{◌≡◌, ℕ, ◌+◌, ◌<◌, ◌≤◌, Bool, true, false, cond, ◌&&◌, not, Option, Some, None, MatchOption, List, [], ◌∷◌, length}
-use Rattle.std.proofs.Common.{position, refl, sym, subst, ◌∙◌, arith, suc, ltb, map}
-use Rattle.std.specs.Prelude.{◌==◌}
-use Rattle.std.specs.List.{list_all, list_any, remove, position_or_len, IsDistinct, AllByRecursion}
+use Rattle.gl_header.proofs.Words.{◌&&◌, ◌+◌, ◌<◌, ◌==◌, [], ◌∙◌, ◌∷◌, ◌≡◌, ◌≤◌, AllByRecursion, and_both, arith, Bool, cond, false, is_among_waiters}
+use Rattle.gl_header.proofs.Words.{is_distinct, is_empty, is_entry, is_waiter, length, List, list_all, ltb, Mode, most_slots, nat_tests, NL, None, not, not_NL}
+use Rattle.gl_header.proofs.Words.{Option, refl, Some, split, subst, suc, sym, true, Waiter, without, without_waiter, ℕ}
+use Rattle.std.proofs.Common.{map, MatchOption, position}
+use Rattle.std.specs.List.{IsDistinct, list_any, position_or_len, remove}
 use Rattle.std.proofs.lemmas.Map.Steps.{length-le_from_distinct_below}
-use Rattle.std.proofs.lemmas.Bool.Decides.{nat_tests}
-use Rattle.gl_modes.proofs.Words.{and_both, split}
-use Rattle.gl_modes.specs.declared.mode.Mode.{Mode}
-use Rattle.gl_modes.specs.declared.mode.Mode.TheVariants.{NL}
-use Rattle.gl_modes.proofs.ModeLemmas.{not_NL}
-use Rattle.gl_header.specs.Header.{Waiter, is_waiter, is_among_waiters, is_empty, without_waiter}
-use Rattle.gl_header.specs.Entries.{IsPlaceOf, without}
-use Rattle.gl_header.specs.Sound.{is_distinct, is_entry}
+use Rattle.gl_header.specs.Entries.{IsPlaceOf}
 
 -- a removal
 
@@ -104,7 +97,3 @@ length-le_128 es d v =
 -- a lock of a slot below the limit
 pub is_entry-from : (s : ℕ) (m : Mode) → s < most_slots → (m ≡ NL → ⊥) → is_entry (s, m) ≡ true
 is_entry-from s m b n = let k = not_NL m n in let t : ltb s most_slots ≡ true = grind (arith, nat_tests) in grind arith
-
-pub empty-length : (q : List Waiter) → is_empty q ≡ (length q == 0)
-empty-length [] = refl
-empty-length (w ∷ ws) = grind arith

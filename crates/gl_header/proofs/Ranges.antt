@@ -1,10 +1,6 @@
 -- Tests of every slot below a limit, as facts on every slot.
-use Rattle.std.proofs.Common.{◌≡◌, ℕ, zero, suc, ◌+◌, ◌<◌, ◌≤◌, Bool, true, false, refl, sym, ap, ◌∙◌, ⊎_elim, arith}
-use Rattle.std.specs.Prelude.{◌==◌, ◌≢◌, ◌⊎◌}
-use Rattle.std.specs.List.{list_all, range_with_len}
-use Rattle.std.proofs.lemmas.Bool.{cases_eq}
-use Rattle.std.proofs.lemmas.Bool.Decides.{nat_tests}
-use Rattle.gl_modes.proofs.Words.{and_both, split}
+use Rattle.gl_header.proofs.Words.{◌+◌, ◌<◌, ◌==◌, ◌∙◌, ◌≡◌, ◌≢◌, ◌≤◌, ◌⊎◌, ⊎_elim, and_both, ap, arith, Bool, cases_eq, false, list_all, nat_tests}
+use Rattle.gl_header.proofs.Words.{range_with_len, refl, split, suc, sym, true, zero, ℕ}
 
 -- tests that pass together are equal
 pub equal_tests : (a b : Bool) → (a ≡ true → b ≡ true) → (b ≡ true → a ≡ true) → a ≡ b

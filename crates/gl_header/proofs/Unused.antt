@@ -1,20 +1,11 @@
 -- An unused header, both ways.
-use Rattle.gl_slots.specs.Limit.{most_slots}
-use Rattle.std.proofs.Common.{◌≡◌, ℕ, Bool, true, false, ◌&&◌, not, cond, List, [], ◌∷◌, ◌∙◌, refl, ap, ap₂, arith}
-use Rattle.std.proofs.Math.Path.{fun_ext}
+use Rattle.gl_header.proofs.Words.{◌&&◌, [], ◌∙◌, ◌∷◌, ◌≡◌, ◌⊎◌, ⊎_elim, and_both, ap, ap₂, arith, Bool, clash, cond, false, fun_ext, HeaderState, held_by}
+use Rattle.gl_header.proofs.Words.{holds, inl, inr, IS, is_empty, is_unused, IsLawfulHeader, IsWithin, List, Members, members_of, Mode, most_slots, NL, nobody}
+use Rattle.gl_header.proofs.Words.{nobody_holds, not, refl, same_mode, same_mode-equal, slot_limit, split, true, unused_header, Waiter, ℕ}
 use Rattle.gl_slots.proofs.SlotLemmas.{no_slots-none}
-use Rattle.std.specs.Prelude.{◌⊎◌}
-use Rattle.std.proofs.Common.{inl, inr, ⊎_elim}
-use Rattle.gl_modes.specs.declared.mode.Mode.{Mode}
-use Rattle.gl_modes.specs.declared.mode.Mode.TheVariants.{NL, IS}
-use Rattle.gl_modes.specs.Modes.{same_mode}
-use Rattle.gl_modes.proofs.ModeLemmas.{same_mode-equal}
-use Rattle.gl_header.specs.Groups.{held_by, no_group, nobody}
-use Rattle.gl_header.specs.Header.{Members, Waiter, IsWithin, holds, is_empty}
-use Rattle.gl_header.specs.State.{HeaderState, IsLawfulHeader, members_of, nobody_holds, is_unused, slot_limit, unused_header}
+use Rattle.gl_header.specs.Groups.{no_group}
 use Rattle.gl_header.proofs.Ranges.{below_or_not, range-each, range-fails, range-from_each}
 use Rattle.gl_header.proofs.Fits.{within-limit}
-use Rattle.gl_modes.proofs.Words.{clash, and_both, split}
 
 not-held : (m : Mode) → not (not (same_mode m NL)) ≡ true → m ≡ NL
 not-held m h = same_mode-equal m NL (twice (same_mode m NL) h)

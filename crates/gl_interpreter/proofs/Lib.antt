@@ -1,3 +1,5 @@
+-- the words that proofs use
+pub mod Words
 pub mod Writing
 pub mod RowByRow
 pub mod Reading

@@ -1,16 +1,10 @@
 -- The first line of a script chooses its version.
-use Rattle.std.proofs.Common.{◌≡◌, ℕ, Bool, true, false, List, Option, None, Some, if◌then◌else◌, is_some, true≢false, refl, sym, ap, ◌∙◌, subst}
-use Rattle.std.specs.Prelude.{codes}
-use Rattle.gl_modes.proofs.Words.{none_some}
-use Rattle.gl_catalog.specs.Manager.{ManagerView, state_of}
-use Rattle.std.specs.Str.{bytes_eq}
-use Rattle.gl_model.specs.State.{choosing, empty_state}
-use Rattle.gl_table.specs.Table.{nodes_of}
-use Rattle.gl_script.specs.declared.form.Version.{Version}
+use Rattle.gl_interpreter.proofs.Words.{◌∙◌, ◌≡◌, Answers, ap, Bool, bytes_eq, choices_of, choosing, codes, empty_state, false, Going, if◌then◌else◌, is_some}
+use Rattle.gl_interpreter.proofs.Words.{IsReadyWith, List, ManagerView, nodes_of, None, none_some, Opens, Option, refl, Script, Some, stage_with, state_of}
+use Rattle.gl_interpreter.proofs.Words.{subst, sym, true, true≢false, Version, version_of, ℕ}
 use Rattle.gl_script.specs.declared.form.Version.TheVariants as version
-use Rattle.gl_interpreter.specs.Report.{Answers, Going, Opens, Prints, version_of}
-use Rattle.gl_interpreter.specs.Script.{Script, most_of}
-use Rattle.gl_interpreter.specs.SoFar.{IsReadyWith, choices_of, stage_with}
+use Rattle.gl_interpreter.specs.Report.{Prints}
+use Rattle.gl_interpreter.specs.Script.{most_of}
 
 -- the version that a first line chooses has 128 slots
 wide : (a : Bool) (v : Version) → (if a then Some version.Two else None) ≡ Some v → most_of v ≡ 128

@@ -1,20 +1,15 @@
 -- The order in which the nodes of a slot are stored.
-use Rattle.std.specs.Prelude.{◌≡◌, ℕ, suc, zero, ◌||◌, List, [], ◌∷◌, None, get_or, map, slice_get}
+use Rattle.gl_interpreter.proofs.Words.{[], ◌||◌, ◌∙◌, ◌∷◌, ◌≡◌, ap, ap₂, choosing, empty_state, fun_ext, get_or, holds, List, LockRow, ManagerView, map}
+use Rattle.gl_interpreter.proofs.Words.{members, NodeId, nodes_of, None, refl, rows_of, slice_get, State, state_of, suc, sym, zero, ℕ}
 use Rattle.std.specs.Map.{keys_of, lookup}
 use Rattle.std.specs.Option.{option_map_or}
-use Rattle.std.proofs.Common.{refl, sym, ap, ap₂, ◌∙◌}
-use Rattle.std.proofs.Math.Path.{fun_ext}
 use Rattle.std.proofs.lemmas.Map.Made.{nil_from_lookup}
-use Rattle.gl_modes.specs.declared.node.NodeId.{NodeId}
 use Rattle.gl_modes.specs.Nodes.{same_node}
 use Rattle.gl_graph.proofs.RouteLengths.{node_equivalence}
-use Rattle.gl_header.specs.Header.{holds}
 use Rattle.gl_waits.specs.declared.victims.Victims.{Victims}
 use Rattle.gl_model.specs.declared.answers.Detect.{Detect}
-use Rattle.gl_model.specs.declared.answers.LockRow.{LockRow}
-use Rattle.gl_model.specs.State.{State, choosing, empty_state, is_waiting_at, members}
-use Rattle.gl_table.specs.Table.{ListsAgree, TableView, nodes_of, row_of, rows_of}
-use Rattle.gl_catalog.specs.Manager.{ManagerView, state_of}
+use Rattle.gl_model.specs.State.{is_waiting_at}
+use Rattle.gl_table.specs.Table.{ListsAgree, row_of, TableView}
 use Rattle.gl_interpreter.specs.Script.{no_orders}
 use Rattle.gl_interpreter.proofs.Openings.{nothing}
 

@@ -1,13 +1,11 @@
 -- The texts that are printed, piece by piece.
-use Rattle.std.proofs.Common.{◌≡◌, ℕ, Bool, ◌||◌, true, false, List, [], ◌∷◌, ◌++◌, Option, None, Some, is_none, refl, ap, ◌∙◌, append-nil}
-use Rattle.std.proofs.Common.{true≢false, sym, if◌then◌else◌}
-use Rattle.gl_modes.specs.declared.node.NodeId.{NodeId}
-use Rattle.gl_modes.specs.declared.refusal.Refusal.{Refusal}
+use Rattle.gl_interpreter.proofs.Words.{◌++◌, [], ◌||◌, ◌∙◌, ◌∷◌, ◌≡◌, ap, append-nil, Bool, Command, false, first_unused, if◌then◌else◌, List, node_named}
+use Rattle.gl_interpreter.proofs.Words.{NodeId, None, Option, refl, Refusal, Script, Some, some_unused, sym, true, true≢false, ℕ}
+use Rattle.std.proofs.Common.{is_none}
 use Rattle.gl_modes.specs.declared.refusal.Refusal.TheVariants as no
-use Rattle.gl_script.specs.Grammar.{Command, Node, node_text}
+use Rattle.gl_script.specs.Grammar.{Node, node_text}
 use Rattle.gl_script.specs.Views.{node_in}
-use Rattle.gl_interpreter.specs.Printed.{first_unused, place_text, some_unused, who_text}
-use Rattle.gl_interpreter.specs.Script.{Script, node_named}
+use Rattle.gl_interpreter.specs.Printed.{place_text, who_text}
 
 -- the text of a used node is its name, and then its place
 pub used_text : (name : List ℕ) (o : Option ℕ) → name ++ place_text o ≡ node_text (node_in name o)

@@ -1,28 +1,22 @@
 -- A script that the tool reads: lines grow, are answered, and end.
-use Rattle.std.proofs.Common.{◌≡◌, ◌≢◌, ℕ, zero, suc, ◌&&◌, ◌==◌, ◌+◌, ◌<◌, ◌≤◌, List, [], ◌∷◌, ◌++◌, Option, Some, None, if◌then◌else◌, Result, Ok}
-use Rattle.std.proofs.Common.{Err, OnOk, length, take, flat_map, refl, sym, ap, ◌∙◌, subst, append_assoc, append-nil, arith, inl, inr, length-take}
-use Rattle.std.proofs.Common.{min, take_all, true, false}
-use Rattle.std.specs.Prelude.{codes}
-use Rattle.std.specs.Str.{bytes_eq}
+use Rattle.gl_interpreter.proofs.Words.{◌+◌, ◌++◌, ◌<◌, [], ◌∙◌, ◌∷◌, ◌≡◌, ◌≢◌, ◌≤◌, Answers, ap, append-nil, append_assoc, Appends, arith, bytes_eq, codes}
+use Rattle.gl_interpreter.proofs.Words.{Consumes, Decides-eqb, Err, false, flat_map, flat_map_more, Going, Handed, Holds, if◌then◌else◌, inl, inr, IsOpen}
+use Rattle.gl_interpreter.proofs.Words.{length, length-take, List, nil_from_length, None, Ok, OnOk, Opening, Opens, Option, refl, Result, Script, Sink, SoFar}
+use Rattle.gl_interpreter.proofs.Words.{Some, stage_of, subst, suc, sym, take, take_all, true, Version, version_of, zero, ℕ}
+use Rattle.std.proofs.Common.{◌&&◌, ◌==◌, min}
 use Rattle.std.proofs.Math.Seq.{take-append-add}
-use Rattle.std.proofs.lemmas.List.{flat_map_more, nil_from_length, take_min}
+use Rattle.std.proofs.lemmas.List.{take_min}
 use Rattle.std.proofs.lemmas.List.Elements.{All-append, All-cons, All-nil, All-push}
-use Rattle.std.proofs.lemmas.Bool.Decides.{Decides-eqb}
-use Rattle.memchr.specs.Find.{Nowhere, Passes, is_byte}
+use Rattle.memchr.specs.Find.{is_byte, Nowhere, Passes}
 use Rattle.gl_interpreter.specs.declared.script.Tool.{Tool}
 use Rattle.gl_interpreter.specs.declared.script.RunFault.{RunFault}
-use Rattle.gl_interpreter.specs.declared.script.RunFault.TheVariants.{Read, Write, TooMuch}
-use Rattle.gl_script.specs.declared.form.Version.{Version}
+use Rattle.gl_interpreter.specs.declared.script.RunFault.TheVariants.{Read, TooMuch, Write}
 use Rattle.gl_script.specs.declared.form.Version.TheVariants as version
 use Rattle.gl_options.specs.declared.requests.Choices.{Choices}
-use Rattle.gl_interpreter.specs.Report.{Answers, Going, IsOpen, Left, Opening, Opens, Prints, Ran, Report, ReportOfWhole, Run, Splits, Stage, ended}
-use Rattle.gl_interpreter.specs.Report.{last_line, version_of}
-use Rattle.gl_interpreter.specs.Script.{Script}
-use Rattle.std.specs.Io.KnownBytes.{Appends, Consumes}
-use Rattle.gl_interpreter.specs.declared.sink.Sink.{Sink}
-use Rattle.gl_interpreter.specs.Held.{Holds, Hands, Handed}
+use Rattle.gl_interpreter.specs.Report.{ended, last_line, Left, Prints, Ran, Report, ReportOfWhole, Run, Splits, Stage}
+use Rattle.gl_interpreter.specs.Held.{Hands}
 use Rattle.gl_interpreter.proofs.Writing.{Appends-nil}
-use Rattle.gl_interpreter.specs.SoFar.{Answered, Finishes, HasReported, IsNew, IsReady, SoFar, Takes, stage_of}
+use Rattle.gl_interpreter.specs.SoFar.{Answered, Finishes, HasReported, IsNew, IsReady, Takes}
 
 pub Splits-none : Splits [] [] []
 Splits-none = record { whole = refl; each = All-nil IsOpen; tail = All-nil (λ b. b ≢ 10) }

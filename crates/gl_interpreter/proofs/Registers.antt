@@ -1,9 +1,8 @@
 -- What a set of names has, as functions of the names and of the ids.
-use Rattle.std.proofs.Common.{◌≡◌, Bool, true, false, ℕ, List, Option, Result, Ok, Err, OnOk, true≢false, refl, sym, ap, ◌∙◌, if◌then◌else◌}
-use Rattle.std.proofs.Math.Path.{fun_ext}
+use Rattle.gl_interpreter.proofs.Words.{◌∙◌, ◌≡◌, ap, Bool, bytes_eq, Err, false, fun_ext, if◌then◌else◌, List, Ok, OnOk, Option, refl, Result, sym, true}
+use Rattle.gl_interpreter.proofs.Words.{true≢false, ℕ}
 use Rattle.std.specs.Result.{IsOk}
-use Rattle.std.specs.Str.{bytes_eq}
-use Rattle.indexmap.specs.IndexMap.{IndexMap, Updates, get}
+use Rattle.indexmap.specs.IndexMap.{get, IndexMap, Updates}
 use Rattle.arrayvec.specs.ArrayVec.{ArrayVec}
 use Rattle.gl_interpreter.specs.Views.{same_name, text_or_none}
 

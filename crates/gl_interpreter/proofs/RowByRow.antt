@@ -1,25 +1,18 @@
 -- Rows that are printed one after the other.
-use Rattle.std.specs.Prelude.{◌≡◌, ◌≢◌, ℕ, ◌+◌, ◌<◌, Bool, List, [], ◌∷◌, ◌++◌, codes, flat_map, get_or, length, map, take, Option, None, Some}
-use Rattle.std.specs.Prelude.{IsNone, is_some, slice_get, Result, Ok, Err, if◌then◌else◌, true, false, zero, suc}
-use Rattle.std.specs.List.{filter, range_with_len}
-use Rattle.std.proofs.Common.{refl, sym, ap, ◌∙◌, arith, append_assoc, append-nil, true≢false}
-use Rattle.std.proofs.Math.Path.{fun_ext}
-use Rattle.std.proofs.lemmas.List.{flat_map_more, get_or_default, take_more}
+use Rattle.gl_interpreter.proofs.Words.{◌+◌, ◌++◌, ◌<◌, [], ◌∙◌, ◌∷◌, ◌≡◌, ◌≢◌, ap, append-nil, append_assoc, AreRowsOf, arith, Bool, codes, deadlock_rows, Err}
+use Rattle.gl_interpreter.proofs.Words.{false, flat_map, flat_map_more, fun_ext, get_or, get_or_default, if◌then◌else◌, is_some, length, List, listed, LockRow}
+use Rattle.gl_interpreter.proofs.Words.{map, None, none_some, Ok, Option, range_with_len, refl, Refusal, refusal_line, Result, Script, slice_get, slots_of}
+use Rattle.gl_interpreter.proofs.Words.{slots_where, Some, State, Stuck, stuck_rows, suc, sym, take, take_more, true, true≢false, TxnId, zero, ℕ}
+use Rattle.std.specs.Prelude.{IsNone}
+use Rattle.std.specs.List.{filter}
 use Rattle.std.proofs.lemmas.List.FromFn.{map-range_with_len_more}
 use Rattle.std.proofs.lemmas.Option.{get_or_from_slice_get, slice_get_within}
-use Rattle.gl_modes.proofs.Words.{no, none_some}
-use Rattle.gl_modes.specs.declared.refusal.Refusal.{Refusal}
+use Rattle.gl_modes.proofs.Words.{no}
 use Rattle.gl_slots.specs.declared.slots.Slots.{Slots}
-use Rattle.gl_slots.specs.Slots.{has_slot, slot_limit, slots_of}
-use Rattle.gl_model.specs.declared.deadlock.Stuck.{Stuck}
-use Rattle.gl_model.specs.declared.answers.LockRow.{LockRow}
-use Rattle.gl_model.specs.declared.txn.TxnId.{TxnId}
+use Rattle.gl_slots.specs.Slots.{has_slot, slot_limit}
 use Rattle.gl_model.specs.Calls.{RefusesOnly}
-use Rattle.gl_table.specs.Table.{AreRowsOf}
-use Rattle.gl_model.specs.State.{State, counting}
-use Rattle.gl_interpreter.specs.Printed.{refusal_line}
-use Rattle.gl_interpreter.specs.Script.{Script}
-use Rattle.gl_interpreter.specs.Rows.{deadlock_rows, listed, member_text, or_dash, slots_where, stuck_rows}
+use Rattle.gl_model.specs.State.{counting}
+use Rattle.gl_interpreter.specs.Rows.{member_text, or_dash}
 
 module _ {A : Type 0} (row : A → List ℕ) where
   pub one_more : (xs : List A) (x : A) → flat_map row xs ++ row x ≡ flat_map row (xs ++ x ∷ [])

@@ -1,16 +1,15 @@
 -- Each command of a manager is one of a script.
-use Rattle.std.proofs.Common.{refl, sym}
+use Rattle.gl_interpreter.proofs.Words.{refl, Script, sym, Text}
 use Rattle.gl_steps.specs.declared.command.Command.{Command as Asked}
 use Rattle.gl_steps.specs.declared.command.Command.TheVariants as command
-use Rattle.gl_script.specs.declared.verb.LockVerb.TheVariants.{Unlock, Escalate, Held, Effective}
+use Rattle.gl_script.specs.declared.verb.LockVerb.TheVariants.{Effective, Escalate, Held, Unlock}
 use Rattle.gl_script.specs.declared.verb.NumberVerb.TheVariants.{Renew}
 use Rattle.gl_script.specs.declared.verb.RemovalVerb.TheVariants.{Delete, Drop}
 use Rattle.gl_script.specs.declared.verb.RequestVerb.TheVariants.{Lock, Try}
-use Rattle.gl_script.specs.declared.verb.TxnVerb.TheVariants.{Cancel, Commit, Abort, Settle}
-use Rattle.gl_script.specs.Grammar.{Text, Inner, File, Index, IndexBy, Begin, BeginAgain, Insert, Adopt, Forget, Rekey, Move, Group, IsName}
-use Rattle.gl_script.specs.Grammar.{OfTxn, OfLock, OfRequest, OfRemoval, OfNumber}
+use Rattle.gl_script.specs.declared.verb.TxnVerb.TheVariants.{Abort, Cancel, Commit, Settle}
+use Rattle.gl_script.specs.Grammar.{Adopt, Begin, BeginAgain, File, Forget, Group, Index, IndexBy, Inner, Insert, IsName, Move, OfLock, OfNumber, OfRemoval}
+use Rattle.gl_script.specs.Grammar.{OfRequest, OfTxn, Rekey}
 use Rattle.gl_interpreter.specs.declared.request.Request.TheVariants as request
-use Rattle.gl_interpreter.specs.Script.{Script}
 use Rattle.gl_interpreter.specs.Sayable.{EachIsSaid, HasAllCommands, IsSaid, IsSayable}
 
 each : (s : Script) (name : Text) (asked : Asked) → HasAllCommands s.language → IsName name → IsSayable s asked → IsSaid s name asked

@@ -1,16 +1,12 @@
 -- A command of a script is refused here, or passed to the manager.
-use Rattle.std.proofs.Common.{◌≡◌, Bool, true, Err, Ok, sym, subst, inl, inr}
-use Rattle.gl_table.specs.Table.{nodes_of}
-use Rattle.gl_catalog.specs.Manager.{state_of}
-use Rattle.gl_modes.specs.declared.refusal.Refusal.{Refusal}
+use Rattle.gl_interpreter.proofs.Words.{◌≡◌, Bool, Command, does_to_names, Err, inl, inr, names_of, nodes_of, Ok, Refusal, Script, script_of, state_of, subst}
+use Rattle.gl_interpreter.proofs.Words.{sym, true}
 use Rattle.gl_modes.specs.declared.refusal.Refusal.TheVariants as no
 use Rattle.gl_model.specs.Tellings.{Told}
-use Rattle.gl_script.specs.Grammar.{Command}
 use Rattle.gl_interpreter.specs.declared.desk.Desk.{Desk}
 use Rattle.gl_interpreter.specs.declared.request.Said.{Said}
 use Rattle.gl_interpreter.specs.Rooms.{IsRoomed}
-use Rattle.gl_interpreter.specs.Script.{DoesWhere, HandedOn, RefusedHere, Script, declares, does_to_names}
-use Rattle.gl_interpreter.specs.Views.{names_of, script_of}
+use Rattle.gl_interpreter.specs.Script.{declares, DoesWhere, HandedOn, RefusedHere}
 
 -- the script is the same if language, names and manager are
 pub same_script : (x y : Desk) → names_of x ≡ names_of y → x.language ≡ y.language → x.manager ≡ y.manager → script_of x ≡ script_of y

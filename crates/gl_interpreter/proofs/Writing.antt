@@ -1,10 +1,8 @@
 -- Text that is buffered for a writer.
-use Rattle.std.proofs.Common.{◌≡◌, ℕ, List, [], ◌++◌, Bool, true, false, not, Option, Some, None, refl, sym, ap, ◌∙◌, subst, append_assoc, append-nil}
-use Rattle.std.proofs.Common.{take, drop, ◌+◌, take-append-drop}
-use Rattle.std.proofs.Math.Seq.{take-add}
-use Rattle.std.specs.Io.KnownBytes.{Appends, Consumes, Keeps}
-use Rattle.gl_interpreter.specs.declared.sink.Sink.{Sink}
-use Rattle.gl_interpreter.specs.Held.{Sends, Handed, Holds, Hands}
+use Rattle.gl_interpreter.proofs.Words.{◌+◌, ◌++◌, [], ◌∙◌, ◌≡◌, ap, append-nil, append_assoc, Appends, Bool, Consumes, drop, false, Handed, Holds, List, None}
+use Rattle.gl_interpreter.proofs.Words.{not, Option, refl, Sink, Some, subst, sym, take, take-add, take-append-drop, true, ℕ}
+use Rattle.std.specs.Io.KnownBytes.{Keeps}
+use Rattle.gl_interpreter.specs.Held.{Hands, Sends}
 
 pub Appends-nil : (a : Option (List ℕ)) → Appends a a []
 Appends-nil None = tt

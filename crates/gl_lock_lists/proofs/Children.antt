@@ -2,30 +2,20 @@
 use Rattle.gl_graph.proofs.Look.{found_at, live_node}
 use Rattle.gl_graph.proofs.Moved.{any_found}
 use Rattle.gl_graph.proofs.RouteLengths.{listed}
-use Rattle.gl_graph.specs.Graph.{Graph, Node, id_of, is_child, is_live, node_at, nodes, parents_of}
+use Rattle.gl_lock_lists.proofs.Words.{◌&&◌, ◌+◌, ◌++◌, ◌<◌, ◌==◌, [], ◌||◌, ◌∙◌, ◌∷◌, ◌≡◌, ◌≤◌, ap, ap₂, arith, Bool, cond, count_of, covered_in, Entry, false}
+use Rattle.gl_lock_lists.proofs.Words.{get_or, if◌then◌else◌, is_at_least, is_child, is_some, is_some-lookup, IX, keys, length, List, list_any, list_any_more}
+use Rattle.gl_lock_lists.proofs.Words.{Mode, mode_in, mode_of, nat_lt, nat_tests, NL, NodeId, None, not, Option, option_map_or, refl, rules, same_mode}
+use Rattle.gl_lock_lists.proofs.Words.{same_node, same_node-equal, slice_get, slice_get-get_or, Some, split, subst, suc, sym, take, take_all, true, zero, ℕ}
+use Rattle.gl_graph.specs.Graph.{Graph, id_of, is_live, Node, node_at, nodes, parents_of}
 use Rattle.gl_graph.specs.Lawful.{IsLawfulGraph}
-use Rattle.gl_lock_lists.specs.Lists.{count_of, covered_in, entry_of, mode_in, mode_of}
-use Rattle.gl_lock_lists.specs.declared.list.Entry.{Entry}
+use Rattle.gl_lock_lists.specs.Lists.{entry_of}
 use Rattle.gl_lock_lists.specs.declared.list.LockList.{LockList}
-use Rattle.gl_modes.proofs.NodeLemmas.{same_node-equal, same_node-from_equal}
-use Rattle.gl_modes.proofs.Words.{and_both, clash, not_true, number_other, or_elim, or_left, or_right, split}
-use Rattle.gl_modes.specs.Modes.{is_at_least, same_mode}
-use Rattle.gl_modes.specs.Nodes.{same_node}
-use Rattle.gl_modes.specs.declared.mode.Mode.{Mode}
-use Rattle.gl_modes.specs.declared.mode.Mode.TheVariants.{IX, NL, X}
-use Rattle.gl_modes.specs.declared.node.NodeId.{NodeId}
-use Rattle.indexmap.specs.IndexMap.{keys}
-use Rattle.std.proofs.Common.{ap, ap₂, arith, refl, rules, subst, sym, ◌∙◌}
+use Rattle.gl_modes.proofs.NodeLemmas.{same_node-from_equal}
+use Rattle.gl_modes.proofs.Words.{and_both, clash, not_true, number_other, or_elim, or_left, or_right}
+use Rattle.gl_modes.specs.declared.mode.Mode.TheVariants.{X}
 use Rattle.std.proofs.Math.Bool.{or-false}
-use Rattle.std.proofs.lemmas.Bool.Decides.{nat_tests}
-use Rattle.std.proofs.lemmas.List.{take_all}
-use Rattle.std.proofs.lemmas.List.Folds.{list_any-append, list_any_more}
-use Rattle.std.proofs.lemmas.Map.Made.{is_some-lookup}
-use Rattle.std.proofs.lemmas.Option.{slice_get-get_or}
-use Rattle.std.specs.List.{cons_option, filter_map, find, list_all, list_any, range_with_len}
-use Rattle.std.specs.Option.{option_map_or}
-use Rattle.std.specs.Prelude.{Bool, List, None, Option, Some, [], cond, false, get_or, if◌then◌else◌, is_some, length, nat_lt, not, slice_get, suc, take, true}
-use Rattle.std.specs.Prelude.{zero, ℕ, ◌&&◌, ◌++◌, ◌+◌, ◌<◌, ◌==◌, ◌||◌, ◌∷◌, ◌≡◌, ◌≤◌}
+use Rattle.std.proofs.lemmas.List.Folds.{list_any-append}
+use Rattle.std.specs.List.{cons_option, filter_map, find, list_all, range_with_len}
 
 -- Modes.
 

@@ -1,28 +1,19 @@
 -- What a write at one node of a list does at every node, and marks. For lists.
-use Rattle.gl_lock_lists.specs.Lists.{count_in, mode_in}
-use Rattle.gl_lock_lists.specs.declared.list.Entry.{Entry}
-use Rattle.gl_modes.proofs.NodeLemmas.{same_node-equal, same_node-from_equal, same_node-refl, same_node-sym}
-use Rattle.gl_modes.proofs.Words.{or_left, or_right, other_number, same_number, some_is, split}
-use Rattle.gl_modes.specs.Modes.{same_mode}
-use Rattle.gl_modes.specs.Nodes.{same_node}
-use Rattle.gl_modes.specs.declared.mode.Mode.{Mode}
-use Rattle.gl_modes.specs.declared.mode.Mode.TheVariants.{NL}
-use Rattle.gl_modes.specs.declared.node.NodeId.{NodeId}
+use Rattle.gl_lock_lists.proofs.Words.{◌&&◌, ◌+◌, ◌-◌, ◌<◌, ◌==◌, [], ◌||◌, ◌∙◌, ◌∷◌, ◌≡◌, ◌≤◌, AllByRecursion, ap, ap₂, arith, Bool, cond, count_in, drop}
+use Rattle.gl_lock_lists.proofs.Words.{Entry, false, get_or, get_or_from_slice_get, if◌then◌else◌, is_some, IsDistinct, length, length-set, List, list_any}
+use Rattle.gl_lock_lists.proofs.Words.{lookup, Mode, mode_in, nat_lt, nat_tests, NL, NodeId, None, not, Option, option_map_or, refl, same_mode, same_node}
+use Rattle.gl_lock_lists.proofs.Words.{same_node-equal, slice_get, slice_get-get_or, slice_get_within, slice_set, Some, split, subst, suc, swap_remove, sym}
+use Rattle.gl_lock_lists.proofs.Words.{take, true, zero, ℕ}
+use Rattle.gl_modes.proofs.NodeLemmas.{same_node-from_equal, same_node-refl, same_node-sym}
+use Rattle.gl_modes.proofs.Words.{or_left, or_right, other_number, same_number, some_is}
 use Rattle.indexmap.specs.IndexMap.{swap_remove_by}
-use Rattle.std.proofs.Common.{ap, ap₂, arith, lt-ltb, refl, subst, sym, ◌∙◌}
+use Rattle.std.proofs.Common.{lt-ltb}
 use Rattle.std.proofs.Math.Bool.{and-false}
 use Rattle.std.proofs.lemmas.Bool.{not-true}
-use Rattle.std.proofs.lemmas.Bool.Decides.{nat_tests}
 use Rattle.std.proofs.lemmas.List.{get_or-set_other, get_or-set_same, get_or-take, length-take-le, take-set, take-take}
 use Rattle.std.proofs.lemmas.Map.Keys.{IsDistinct-head, IsDistinct-tail}
-use Rattle.std.proofs.lemmas.Option.{get_or_from_slice_get, slice_get-get_or, slice_get_within}
-use Rattle.std.specs.List.{AllByRecursion, IsDistinct, list_any, position_or_len}
-use Rattle.std.specs.Map.{lookup}
-use Rattle.std.specs.Option.{option_map_or}
-use Rattle.std.specs.Prelude.{Bool, List, None, Option, Some, [], cond, drop, false, get_or, if◌then◌else◌, is_some, length, map, nat_lt, not, slice_get}
-use Rattle.std.specs.Prelude.{slice_index_or, slice_set, suc, swap_remove, take, true, unwrap_or, zero, ℕ, ◌&&◌, ◌+◌, ◌-◌, ◌<◌, ◌==◌, ◌∷◌, ◌≡◌, ◌≢◌, ◌≤◌}
-use Rattle.std.specs.Prelude.{◌||◌}
-use Rattle.std.proofs.lemmas.List.{length-set}
+use Rattle.std.specs.List.{position_or_len}
+use Rattle.std.specs.Prelude.{◌≢◌, map, slice_index_or, unwrap_or}
 
 -- What a write at one node does at every node.
 

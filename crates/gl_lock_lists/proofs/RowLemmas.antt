@@ -1,24 +1,21 @@
 -- What a scan of entries finds, and the entries after one is inserted or removed. For both forms of a map of nodes.
-use Rattle.std.proofs.Common.{◌≡◌, ◌+◌, ◌<◌, ◌∙◌, ◌∷◌, ◌++◌, [], ℕ, suc, zero, ap, arith, Bool, cond, false, get_or, length, List, None}
-use Rattle.std.proofs.Common.{Option, position, refl, slice_get, slice_set, Some, subst, sym, take, take-append-drop, drop, true}
-use Rattle.std.proofs.lemmas.List.{append-nil, drop_more, map_push, nil_from_length, take_more}
+use Rattle.gl_lock_lists.proofs.Words.{◌+◌, ◌++◌, ◌<◌, [], ◌∙◌, ◌∷◌, ◌≡◌, AllByRecursion, ap, arith, Bool, cond, drop, false, get_or, hash_map, insert_entry}
+use Rattle.gl_lock_lists.proofs.Words.{is_some, is_some-lookup, keys_of, length, List, lookup, nil_from_length, NodeId, None, Option, option_map, Out, position}
+use Rattle.gl_lock_lists.proofs.Words.{refl, same_node, same_node-equal, set_value_at, slice_get, slice_get-get_or, slice_get-map, slice_set, Some, subst, suc}
+use Rattle.gl_lock_lists.proofs.Words.{swap_out, swap_remove, sym, take, take_more, true, zero, ℕ}
+use Rattle.std.proofs.Common.{take-append-drop}
+use Rattle.std.proofs.lemmas.List.{append-nil, drop_more, map_push}
 use Rattle.std.proofs.lemmas.List.Quantifiers.{position-Some}
 use Rattle.std.proofs.lemmas.Map.Keys.{IsDistinct-push}
-use Rattle.std.proofs.lemmas.Map.Made.{is_some-lookup}
-use Rattle.std.proofs.lemmas.Option.{slice_get-get_or, slice_get-map}
 use Rattle.std.specs.Cmp.{IsEquivalence}
-use Rattle.std.specs.List.{AllByRecursion, IsDistinct, swap_remove}
-use Rattle.std.specs.Map.{keys_of, KeepsOthers, lookup, set_value}
-use Rattle.std.specs.Option.{is_some, option_map}
-use Rattle.indexmap.specs.IndexMap.{insert_entry, Updates}
-use Rattle.indexmap.specs.Layout.{hash_map, set_value_at}
+use Rattle.std.specs.List.{IsDistinct}
+use Rattle.std.specs.Map.{KeepsOthers, set_value}
+use Rattle.indexmap.specs.IndexMap.{Updates}
 use Rattle.indexmap.proofs.CallerLemmas.{insert_entry-new}
-use Rattle.indexmap.proofs.MapLemmas.{absent_before, index-first, index-absent}
-use Rattle.indexmap.proofs.RemoveLemmas.{own_first, swap_out, none_out, Out}
-use Rattle.gl_modes.specs.declared.node.NodeId.{NodeId}
-use Rattle.gl_modes.specs.Nodes.{same_node}
+use Rattle.indexmap.proofs.MapLemmas.{absent_before, index-absent, index-first}
+use Rattle.indexmap.proofs.RemoveLemmas.{none_out, own_first}
 use Rattle.gl_modes.proofs.Words.{none_some, some_is}
-use Rattle.gl_modes.proofs.NodeLemmas.{same_node-equal, same_node-refl, same_node-sym}
+use Rattle.gl_modes.proofs.NodeLemmas.{same_node-refl, same_node-sym}
 
 pub node_equivalence : IsEquivalence same_node
 node_equivalence = record { refl = same_node-refl; symm = same_node-sym; congr = λ a b c h. ap (λ x. same_node x c) (same_node-equal a b h) }

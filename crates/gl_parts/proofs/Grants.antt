@@ -117,19 +117,12 @@ any_less f k less (p ∷ ps) h = or_elim _ _ h (λ here. or_left _ _ (less p her
 
 at_least_s_holds : (m : Mode) → is_at_least m S ≡ true → not (same_mode m NL) ≡ true
 at_least_s_holds NL h = cc
-at_least_s_holds IS h = refl
-at_least_s_holds IX h = refl
-at_least_s_holds S h = refl
-at_least_s_holds SIX h = refl
-at_least_s_holds X h = refl
+at_least_s_holds m h = refl
 
 at_least_x_writes : (m : Mode) → is_at_least m X ≡ true → is_at_least m IX ≡ true
-at_least_x_writes NL h = cc
-at_least_x_writes IS h = cc
-at_least_x_writes IX h = cc
-at_least_x_writes S h = cc
 at_least_x_writes SIX h = refl
 at_least_x_writes X h = refl
+at_least_x_writes m h = cc
 
 pub modes_by : ModesOfTheWhole
 modes_by g ps t n = record {
@@ -197,11 +190,7 @@ holds_is m = same-equal _ _ (every-true (λ x. same (is_at_least x IS) (not (sam
 
 writes_holds : (m : Mode) → is_at_least m IX ≡ true → not (same_mode m NL) ≡ true
 writes_holds NL h = cc
-writes_holds IS h = refl
-writes_holds IX h = refl
-writes_holds S h = refl
-writes_holds SIX h = refl
-writes_holds X h = refl
+writes_holds m h = refl
 
 each_both : (P Q : Part → Type 0) (ps : List Part) → Each P ps → Each Q ps → Each (λ p. P p × Q p) ps
 each_both P Q [] h k = tt

@@ -1,21 +1,17 @@
 -- Numbers and their one text.
-use Rattle.std.proofs.Common.{◌≡◌, ◌≢◌, ℕ, ◌<◌, ◌^◌, List, [], ◌∷◌, length, get_or, All, Result, Ok, Err, decimal, sym, ap, ◌∙◌, subst, arith}
-use Rattle.std.proofs.Common.{eq-zero-or-pos, inl, inr, ◌⊎◌, rules}
-use Rattle.std.specs.Str.Parse.{ParsesUnsigned, AllDigits, digits_value}
+use Rattle.std.proofs.Common.{◌<◌, [], ◌^◌, ◌∙◌, ◌∷◌, ◌≡◌, ◌≢◌, ◌⊎◌, All, ap, arith, decimal, eq-zero-or-pos, Err, get_or, inl, inr, length, List, Ok, Result}
+use Rattle.std.proofs.Common.{rules, subst, sym, ℕ}
+use Rattle.std.specs.Str.Parse.{AllDigits, digits_value, ParsesUnsigned}
 use Rattle.std.specs.Str.{IsUtf8}
 use Rattle.std.proofs.lemmas.Str.{IsUtf8-from_ascii}
-use Rattle.std.proofs.lemmas.Str.Parse.{IsNumeralModel, numerals_by_value, IsDigitsTest, parse_plain, digit_at}
+use Rattle.std.proofs.lemmas.Str.Parse.{digit_at, IsDigitsTest, IsNumeralModel, numerals_by_value, parse_plain}
 use Rattle.std.specs.Result.{OkIff}
-use Rattle.std.proofs.lemmas.Fmt.{decimal-digits_value, decimal_is_IsNumeral, first_decimal, decimal_digit, parse-decimal, IsAscii-decimal}
-use Rattle.std.proofs.lemmas.List.Elements.{All-head, All-tail, All-get_or, All-from_get_or}
-use Rattle.gl_script.specs.Numbers.{IsPlain, IsDigit}
+use Rattle.std.proofs.lemmas.Fmt.{decimal-digits_value, decimal_digit, decimal_is_IsNumeral, first_decimal, IsAscii-decimal, parse-decimal}
+use Rattle.std.proofs.lemmas.List.Elements.{All-from_get_or, All-get_or}
+use Rattle.gl_script.specs.Numbers.{IsDigit, IsPlain}
 
 tests : IsDigitsTest (AllDigits 10)
 tests = search rules
-
-digits_all : (ds : List ℕ) → All IsDigit ds → AllDigits 10 ds
-digits_all [] h = tests.empty
-digits_all (d ∷ ds) h = tests.more d ds (All-head IsDigit d ds h) (digits_all ds (All-tail IsDigit d ds h))
 
 all_digits : (ds : List ℕ) → AllDigits 10 ds → All IsDigit ds
 all_digits ds h = All-from_get_or IsDigit ds 0 (λ i lt. digit_at ds i h lt)

@@ -99,11 +99,7 @@ one_of_listed c d p q e = search rules
 -- a listing's line has a field
 some_topic : (l : Listing) → [] ≡ listing_fields l → ⊥
 some_topic (Holders n) e = cc
-some_topic (Queue n) e = cc
-some_topic (Locks t) e = cc
-some_topic (Waits t) e = cc
-some_topic Txns e = cc
-some_topic Cycle e = cc
+some_topic l e = cc
 
 -- no fields are those of a command and those of a listing: verbs are no topics
 not_both : (g : Language) (had : Bool) (all : List Text) (c : Command) (l : Listing) → SaysFields g all c → ListsFields had all l → ⊥

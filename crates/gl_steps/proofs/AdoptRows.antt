@@ -1,13 +1,10 @@
 -- Worked rows of records that are adopted and forgotten, and of a return to a savepoint.
-use Rattle.std.specs.Prelude.{[], ◌∷◌, ◌++◌}
-use Rattle.std.proofs.Common.{refl}
-use Rattle.gl_modes.specs.declared.mode.Mode.TheVariants.{NL, IX, X}
+use Rattle.gl_steps.proofs.Words.{◌++◌, [], ◌∷◌, AtBlock, IX, NL, refl, X}
 use Rattle.gl_modes.specs.declared.refusal.Refusal.TheVariants as no
-use Rattle.gl_model.specs.declared.answers.Detect.TheVariants.{AtBlock}
 use Rattle.gl_steps.specs.declared.command.Answer.TheVariants as answer
 use Rattle.gl_steps.specs.declared.command.Command.TheVariants as command
-use Rattle.gl_steps.proofs.RowWords.{Rows, a, begins, computed, db, done, f1, holds, i1, i1_0, id, indexed, locks, locks_all, prelude, r1, ref}
-use Rattle.gl_steps.proofs.RowWords.{refuses, says, z}
+use Rattle.gl_steps.proofs.RowWords.{a, begins, computed, db, done, f1, holds, i1, i1_0, id, indexed, locks, locks_all, prelude, r1, ref, refuses, Rows, says}
+use Rattle.gl_steps.proofs.RowWords.{z}
 
 -- a record is adopted without a transaction, and is forgotten when nobody holds it any more
 row_adopt_and_forget : Rows AtBlock 1 (indexed ++

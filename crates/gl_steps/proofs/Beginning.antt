@@ -1,9 +1,5 @@
 -- What the two commands leave by which a transaction begins.
-use Rattle.std.specs.Prelude.{◌≡◌, ℕ, ◌+◌, [], Some}
-use Rattle.gl_model.specs.Calls.{begun_since, free_slot}
-use Rattle.gl_model.specs.State.{State}
-use Rattle.gl_model.specs.Tellings.{Told}
-use Rattle.gl_steps.specs.declared.command.Answer.{Answer}
+use Rattle.gl_steps.proofs.Words.{◌+◌, [], ◌≡◌, Answer, begun_since, free_slot, Some, State, Told, ℕ}
 use Rattle.gl_steps.specs.declared.command.Answer.TheVariants as answer
 
 -- a transaction begins in the first free slot, with this `since`

@@ -1,18 +1,12 @@
 -- No definition of the model reads the count of accepted commands.
-use Rattle.gl_waits.specs.declared.victims.Victims.{Victims}
-use Rattle.std.specs.Prelude.{◌≡◌, ℕ, zero, suc}
-use Rattle.std.proofs.Common.{refl, ap, get_or}
-use Rattle.gl_modes.specs.declared.mode.Mode.{Mode}
-use Rattle.gl_modes.specs.declared.node.NodeId.{NodeId}
+use Rattle.gl_steps.proofs.Words.{◌≡◌, ap, AtBlock, ByWatcher, condemned, Detect, enqueued, HasNoCycle, IsLawful, Locks, Mode, NodeId, refl, Settled}
+use Rattle.gl_steps.proofs.Words.{SettledWithin, State, suc, Victims, WaitSettles, wanted, zero, ℕ}
+use Rattle.std.proofs.Common.{get_or}
 use Rattle.gl_model.specs.declared.deadlock.Deadlock.{Deadlock}
 use Rattle.gl_model.specs.declared.deadlock.Stuck.{Stuck}
-use Rattle.gl_model.specs.declared.answers.Detect.{Detect}
-use Rattle.gl_model.specs.declared.answers.Detect.TheVariants.{AtBlock, ByWatcher}
-use Rattle.gl_model.specs.Calls.{Locks, WaitSettles, enqueued, wanted}
 use Rattle.gl_model.specs.Deadlocks.{IsDeadlock, IsStuck, LocksKeeping, SettlesKeeping, SettlesKeepingWithin, WaitSettlesKeeping}
-use Rattle.gl_model.specs.Lawful.{HasNoConflict, IsLawful}
-use Rattle.gl_model.specs.State.{condemned, State, HasNoCycle, IsVictim, Settled, SettledWithin, counting}
-use Rattle.gl_model.specs.Tellings.{told}
+use Rattle.gl_model.specs.Lawful.{HasNoConflict}
+use Rattle.gl_model.specs.State.{counting, IsVictim}
 
 module _ (k : ℕ) where
   -- the law does not
@@ -41,10 +35,6 @@ module _ (k : ℕ) where
   -- nor the waits
   pub no_cycle_counting : (s : State) → HasNoCycle s → HasNoCycle (counting k s)
   no_cycle_counting s none = none
-
-  -- nor what is told
-  pub told_counting : (s s' : State) → told (counting k s) (counting k s') ≡ told s s'
-  told_counting s s' = refl
 
   -- nor settling
   victim_counting : (c : Victims) (s : State) (t v : ℕ) → IsVictim c s t v → IsVictim c (counting k s) t v

@@ -1,16 +1,8 @@
 -- What holds of every command that is accepted holds of every step.
-use Rattle.std.specs.Prelude.{◌≡◌, true, Option, Some, None}
-use Rattle.std.proofs.Common.{refl, sym, subst, ⊎_elim}
-use Rattle.gl_modes.specs.declared.refusal.Refusal.{Refusal}
+use Rattle.gl_steps.proofs.Words.{◌≡◌, ⊎_elim, accepted_once, Accepts, Answer, Answers, Command, Goes, may_lack_memory, None, Option, query_answer, refl}
+use Rattle.gl_steps.proofs.Words.{Refusal, refusal_of, Some, State, Step, subst, sym, Told, true, Unchanged}
 use Rattle.gl_modes.specs.declared.refusal.Refusal.TheVariants as no
-use Rattle.gl_steps.specs.declared.command.Answer.{Answer}
 use Rattle.gl_steps.specs.declared.command.Answer.TheVariants as answer
-use Rattle.gl_steps.specs.declared.command.Command.{Command}
-use Rattle.gl_model.specs.State.{State}
-use Rattle.gl_model.specs.Calls.{accepted_once}
-use Rattle.gl_model.specs.Tellings.{Told}
-use Rattle.gl_steps.specs.Tests.{refusal_of, may_lack_memory}
-use Rattle.gl_steps.specs.Step.{Accepts, Answers, Goes, Step, Unchanged, query_answer}
 
 -- a relation of the state before and after that holds if nothing changes, and that does not read the count of accepted commands
 pub each_step : (After : State → Type 0) (s : State) (c : Command) (a : Answer) (told : Told) (s' : State) → After s

@@ -1,25 +1,17 @@
 -- An escalate lowers the caller's effective mode on no node.
-use Rattle.std.specs.Prelude.{◌≡◌, ℕ, zero, suc, Bool, true, false, not, ◌&&◌, ◌||◌, ◌==◌, List, [], ◌∷◌, ◌++◌, Some, None, is_some, if◌then◌else◌}
-use Rattle.std.specs.List.{list_all, list_any}
-use Rattle.std.proofs.Common.{refl, sym, ap, ap₂, ◌∙◌, rules}
-use mathlib.Core.Bool.{true≢false}
-use Rattle.gl_modes.proofs.NodeLemmas.{same_node-equal, same_node-refl}
-use Rattle.gl_modes.proofs.Words.{split, cases_of, no, or_elim, or_left, or_right, and_both, both, number_same}
-use Rattle.gl_modes.specs.declared.mode.Mode.{Mode}
-use Rattle.gl_modes.specs.declared.mode.Mode.TheVariants.{NL, S, X}
-use Rattle.gl_modes.specs.declared.node.NodeId.{NodeId}
-use Rattle.gl_modes.specs.Modes.{is_at_least, supremum, same_mode}
+use Rattle.gl_steps.proofs.Words.{◌&&◌, ◌++◌, ◌==◌, [], ◌||◌, ◌∙◌, ◌∷◌, ◌≡◌, Active, and_both, ap, ap₂, asked_by_escalation, at_least-refl, Bool, both, eff_s}
+use Rattle.gl_steps.proofs.Words.{eff_s_route, eff_x, effective, EffX, false, granted_at, Graph, holds, if◌then◌else◌, is_among_waiters, is_at_least}
+use Rattle.gl_steps.proofs.Words.{is_at_least_effect, is_child, is_covered, is_live, is_read, is_some, IsLawful, IsRoute, List, list_all, list_any, members}
+use Rattle.gl_steps.proofs.Words.{Mode, NL, no, no_parents, node_at, node_count, NodeId, nodes, None, none_refused, not, not-true, or_elim, or_left, or_no}
+use Rattle.gl_steps.proofs.Words.{or_right, parents_in, parents_of, raised, read_on_eff, refl, rules, S, same_mode, same_node, same_node-equal, same_node-refl}
+use Rattle.gl_steps.proofs.Words.{shed, Some, split, State, status_of, suc, sym, tests_of, true, true≢false, Waiter, waits_at, wanted, X, zero, ℕ}
+use Rattle.gl_modes.proofs.Words.{cases_of, number_same}
+use Rattle.gl_modes.specs.Modes.{supremum}
 use Rattle.gl_model.specs.declared.answers.Effect.TheVariants as effect
-use Rattle.gl_model.specs.declared.txn.Status.TheVariants.{Active}
 use Rattle.gl_steps.specs.declared.command.Command.TheVariants as command
-use Rattle.gl_graph.specs.Graph.{Graph, nodes, node_at, node_count, is_live, parents_in, parents_of, is_child}
-use Rattle.gl_modes.specs.Nodes.{same_node}
-use Rattle.gl_graph.specs.Routes.{IsRoute}
-use Rattle.gl_header.specs.Header.{Members, Waiter, fits, holds, with_mode, front, is_waiter, is_among_waiters}
-use Rattle.gl_model.specs.State.{State, members, status_of, no_parents, is_write, waits_at, front_at, granted_at}
-use Rattle.gl_model.specs.Lawful.{eff_s, eff_x, is_read, effective, EffX, is_at_least_effect, IsLawful}
-use Rattle.gl_model.specs.Calls.{holds_child, is_covered, wanted, asked_by_escalation, raised, shed, no_txn, waiting_test, condemned_test}
-use Rattle.gl_steps.specs.Tests.{worn}
+use Rattle.gl_header.specs.Header.{fits, front, is_waiter, Members, with_mode}
+use Rattle.gl_model.specs.State.{front_at, is_write}
+use Rattle.gl_model.specs.Calls.{holds_child}
 use Rattle.gl_steps.specs.Promises.{EscalateLowersNone}
 use Rattle.gl_graph.proofs.Look.{all_at, child_live}
 use Rattle.gl_graph.proofs.Routes.{join}
@@ -27,14 +19,11 @@ use Rattle.gl_graph.proofs.Moved.{some_at}
 use Rattle.gl_graph.proofs.RouteLengths.{listed}
 use Rattle.gl_model.proofs.law.Effects.{cut_set_on}
 use Rattle.gl_model.proofs.law.Records.{nobody_holds}
-use Rattle.gl_graph.proofs.Unrefused.{not_refused, or_no}
 use Rattle.gl_steps.proofs.EachStep.{each_step}
-use Rattle.gl_steps.proofs.Keeps.{effect_refl, x_more, read_more}
+use Rattle.gl_steps.proofs.Keeps.{effect_refl, read_more, x_more}
 use Rattle.gl_steps.proofs.NotRefused.{active_is}
-use Rattle.gl_modes.proofs.ModeLemmas.{at_least-refl, supremum-above}
-use Rattle.gl_model.proofs.law.Effects.{eff_s_route, read_on_eff}
+use Rattle.gl_modes.proofs.ModeLemmas.{supremum-above}
 use Rattle.gl_model.proofs.queues.Waiters.{grants_other}
-use Rattle.std.proofs.lemmas.Bool.{not-true}
 
 sup_reads : (a b : Mode) → is_read b ≡ true → is_read (supremum a b) ≡ true
 sup_reads a b h = search rules
@@ -197,9 +186,6 @@ escalate_lowers_none t n s s' a told law step q =
     each_step (λ x. is_at_least_effect (effective x t.slot q) (effective s t.slot q) ≡ true) s (command.Escalate t n) a told s'
     (effect_refl (effective s t.slot q)) (λ next same. same)
     (λ free next acc.
-    let t1 = not_refused (worn s) _ free in
-    let t2 = not_refused (no_txn s t) _ t1.1 in
-    let t3 = not_refused (waiting_test (status_of s t.slot)) _ t2.1 in
-    let t4 = not_refused (condemned_test (status_of s t.slot)) _ t3.1 in
-    ap (λ x. is_at_least_effect (effective x t.slot q) (effective s t.slot q)) acc.2 ∙ lowers_none s law t.slot n (active_is s t t2.0 t3.0 t4.0) q)
+    let ok = none_refused (tests_of s (command.Escalate t n)) free in
+    ap (λ x. is_at_least_effect (effective x t.slot q) (effective s t.slot q)) acc.2 ∙ lowers_none s law t.slot n (active_is s t (ok 1) (ok 2) (ok 3)) q)
     step

@@ -1,24 +1,12 @@
 -- The model as a program: what a state answers to a command, and what is left. A new node gets the least key above all others, and settling has as many turns
 -- as there are waiters.
-use Rattle.std.specs.Prelude.{ℕ, false, zero, suc, ◌+◌, ◌-◌, nat_le, List, [], ◌∷◌, length, Option, Some, None, if◌then◌else◌, min}
-use Rattle.std.specs.List.{range_with_len}
-use Rattle.gl_modes.specs.declared.mode.Mode.TheVariants.{X}
-use Rattle.gl_modes.specs.declared.node.NodeId.{NodeId}
-use Rattle.gl_modes.specs.declared.refusal.Refusal.{Refusal}
-use Rattle.gl_steps.specs.declared.command.Answer.{Answer}
+use Rattle.gl_steps.proofs.Words.{◌+◌, ◌-◌, [], ◌∷◌, accepted_once, Answer, begun_since, born_index, Command, deleted, dropped, false, File, free_slot, granted}
+use Rattle.gl_steps.proofs.Words.{if◌then◌else◌, Inner, length, List, lock_answer, min, moved_to, nat_le, Node, NodeId, None, Option, query_answer, raised}
+use Rattle.gl_steps.proofs.Words.{range_with_len, Rec, record_parents, Refusal, refusal_of, rekeyed, rekeyed_parents, released, Shape, shed, Some, State}
+use Rattle.gl_steps.proofs.Words.{status_of, suc, Told, told, told_but, wanted, with_grant, with_graph, with_parents, without_node, X, zero, ℕ}
 use Rattle.gl_steps.specs.declared.command.Answer.TheVariants as answer
-use Rattle.gl_steps.specs.declared.command.Command.{Command}
 use Rattle.gl_steps.specs.declared.command.Command.TheVariants as command
-use Rattle.gl_graph.specs.Shapes.{Shape, Inner, File, Rec}
-use Rattle.gl_graph.specs.Graph.{Node, record_parents}
-use Rattle.gl_graph.specs.Changes.{born_index, rekeyed, rekeyed_parents, with_parents, without_node}
-use Rattle.gl_model.specs.State.{State, status_of, with_grant, with_graph}
-use Rattle.gl_model.specs.Calls.{accepted_once, begun_again, begun_since, cancelled, deleted, free_slot, granted, unlocked, moved_to, raised, released, shed}
-use Rattle.gl_model.specs.Calls.{wanted}
-use Rattle.gl_model.specs.Calls.{dropped, covered_children, held_children}
-use Rattle.gl_model.specs.Tellings.{Told, told, told_but}
-use Rattle.gl_steps.specs.Tests.{refusal_of}
-use Rattle.gl_steps.specs.Step.{lock_answer, query_answer}
+use Rattle.gl_model.specs.Calls.{begun_again, cancelled, covered_children, held_children, unlocked}
 use Rattle.gl_model.proofs.law.Settle.{locked, settled}
 use Rattle.gl_steps.proofs.Made.{adopted, made, next_id}
 

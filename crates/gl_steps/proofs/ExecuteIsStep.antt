@@ -1,33 +1,20 @@
 -- In a lawful state what the program does is a step of the model, so there is a step for every command, and what it does to a list is a run.
-use Rattle.std.specs.Prelude.{◌≡◌, ℕ, zero, suc, ◌+◌, ◌<◌, ◌≤◌, Bool, true, false, not, ◌&&◌, ◌==◌, nat_le, List, [], ◌∷◌, length, Option, Some, None}
-use Rattle.std.specs.Prelude.{if◌then◌else◌, is_none, is_some}
-use Rattle.std.specs.List.{find, list_all, list_any, range_with_len}
+use Rattle.gl_steps.proofs.Words.{◌&&◌, ◌+◌, ◌<◌, ◌==◌, [], ◌∙◌, ◌∷◌, ◌≡◌, ◌≤◌, ⊎_elim, ap, arith, Bool, born_index, both, cases_eq, Command, false, find, Goes}
+use Rattle.gl_steps.proofs.Words.{Graph, if◌then◌else◌, inl, is_none, is_some, IsIndexBorn, IsLawful, IsLawfulGraph, length, List, list_all, list_any, may_lock}
+use Rattle.gl_steps.proofs.Words.{nat_le, nat_tests, no, Node, node_at, NodeId, None, not, not_refused, Option, or_elim, range_with_len, refl, Refusal}
+use Rattle.gl_steps.proofs.Words.{refusal_of, Run, same_number, slots, Some, split, State, Step, suc, sym, test_fails, true, Txn, worn, zero, ℕ}
 use Rattle.std.proofs.lemmas.List.FromFn.{length-range_with_len}
-use Rattle.std.proofs.lemmas.Bool.{cases_eq}
-use Rattle.std.proofs.lemmas.Bool.Decides.{nat_tests}
-use Rattle.std.proofs.Common.{refl, sym, ap, ◌∙◌, arith, inl, ⊎_elim}
-use Rattle.gl_modes.proofs.Words.{split, or_elim, both, no, same_number}
-use Rattle.gl_modes.specs.declared.refusal.Refusal.{Refusal}
 use Rattle.gl_modes.specs.declared.refusal.Refusal.TheVariants as no
-use Rattle.gl_steps.specs.declared.command.Command.{Command}
 use Rattle.gl_steps.specs.declared.command.Command.TheVariants as command
-use Rattle.gl_graph.specs.Graph.{Graph, Node, IsFreeKey, node_at}
-use Rattle.gl_modes.specs.declared.node.NodeId.{NodeId}
-use Rattle.gl_graph.specs.Changes.{are_apart, born_index, IsIndexBorn}
+use Rattle.gl_graph.specs.Graph.{IsFreeKey}
+use Rattle.gl_graph.specs.Changes.{are_apart}
 use Rattle.gl_steps.proofs.Made.{next_id}
-use Rattle.gl_graph.specs.Lawful.{IsLawfulGraph}
-use Rattle.gl_model.specs.State.{State, Txn, slots}
-use Rattle.gl_model.specs.Lawful.{IsLawful}
 use Rattle.gl_model.specs.Calls.{too_many_txns, worn_begins}
-use Rattle.gl_steps.specs.Tests.{refusal_of, worn}
-use Rattle.gl_steps.specs.Step.{Goes, Run, Step}
 use Rattle.gl_steps.specs.Promises.{AlwaysAnswers}
-use Rattle.gl_graph.proofs.Look.{live_node, found_at, there_is}
-use Rattle.gl_graph.proofs.Unrefused.{not_refused, test_fails}
-use Rattle.gl_model.proofs.law.Lock.{may_lock}
+use Rattle.gl_graph.proofs.Look.{found_at, live_node, there_is}
 use Rattle.gl_model.proofs.law.Settle.{locks_some, settles}
 use Rattle.gl_steps.proofs.StepsKeepLaw.{steps_keep_law}
-use Rattle.gl_steps.proofs.Execute.{above_key, after, free_key, greater, interval_keys, execute, replies, slot_or_zero, tested, top}
+use Rattle.gl_steps.proofs.Execute.{above_key, after, execute, free_key, greater, interval_keys, replies, slot_or_zero, tested, top}
 
 -- a key that is above all others is free
 greater_left : (a b : ℕ) → a ≤ greater a b

@@ -1,26 +1,14 @@
 -- Commands that leave the graph: each keeps a transaction that it does not name.
-use Rattle.std.specs.Prelude.{◌≡◌, ◌≢◌, ℕ, Bool, true, false, List, [], ◌∷◌, Option, Some, None, is_none, if◌then◌else◌}
-use Rattle.std.specs.List.{find, list_any}
-use Rattle.std.proofs.Common.{refl, sym, ap, subst, ◌∙◌}
-use mathlib.Core.Bool.{true≢false}
-use Rattle.gl_modes.proofs.Words.{none_some, some_is, split}
-use Rattle.gl_modes.specs.declared.mode.Mode.{Mode}
-use Rattle.gl_modes.specs.declared.node.NodeId.{NodeId}
-use Rattle.gl_model.specs.declared.txn.TxnId.{TxnId}
-use Rattle.gl_steps.specs.declared.command.Answer.{Answer}
-use Rattle.gl_model.specs.declared.txn.Status.TheVariants.{Active, Waiting}
+use Rattle.gl_steps.proofs.Words.{[], ◌∙◌, ◌∷◌, ◌≡◌, ◌≢◌, accepted_once, Accepts, Active, Answer, ap, begun_since, Bool, enqueued, enters_at, false, find}
+use Rattle.gl_steps.proofs.Words.{Follows, follows_trans, free_slot, GrantedTo, if◌then◌else◌, is_live, is_none, IsLawful, List, list_any, live_by, lives, Mode}
+use Rattle.gl_steps.proofs.Words.{NodeId, None, none_some, Option, refl, released, slots, Some, some_is, split, State, status_in, subst, sym, Told, told}
+use Rattle.gl_steps.proofs.Words.{told_but, true, true≢false, Txn, TxnId, Waiting, WaitsWell, wanted, ℕ}
 use Rattle.gl_steps.specs.declared.command.Command.TheVariants as command
-use Rattle.gl_graph.specs.Graph.{is_live}
-use Rattle.gl_model.specs.State.{State, Txn, lives, live_by, status_in, slots}
-use Rattle.gl_model.specs.Lawful.{IsLawful}
-use Rattle.gl_model.specs.Tellings.{told, told_but, Told}
 use Rattle.gl_steps.proofs.Beginning.{Begins}
-use Rattle.gl_steps.specs.Step.{Accepts}
-use Rattle.gl_model.specs.Calls.{accepted_once, begun_since, enters_at, free_slot, wanted, enqueued, released}
-use Rattle.gl_model.proofs.telling.Follows.{Follows, GrantedTo, WaitsWell, lawful_waits, follows_refl, follows_same, follows_trans}
-use Rattle.gl_steps.proofs.OtherChanges.{with_grant_follows, begun_follows, begun_other, enqueued_follows, settled_follows, wait_settles_follows}
-use Rattle.gl_steps.proofs.OtherChanges.{released_follows, escalated_follows, unlocked_follows, cancelled_follows}
-use Rattle.gl_steps.proofs.ToldGrants.{tells, told_of_grant, told_but_of_grant}
+use Rattle.gl_model.proofs.telling.Follows.{follows_refl, follows_same, lawful_waits}
+use Rattle.gl_steps.proofs.OtherChanges.{begun_follows, begun_other, cancelled_follows, enqueued_follows, escalated_follows, released_follows, settled_follows}
+use Rattle.gl_steps.proofs.OtherChanges.{unlocked_follows, wait_settles_follows, with_grant_follows}
+use Rattle.gl_steps.proofs.ToldGrants.{tells, told_but_of_grant, told_of_grant}
 use Rattle.gl_steps.proofs.Keeps.{Keeps, keeps_follows}
 
 accepted_follows : (s next : State) (t : ℕ) → Follows s next t → Follows s (accepted_once next) t

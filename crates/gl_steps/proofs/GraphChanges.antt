@@ -1,31 +1,14 @@
 -- New nodes, a node removed, and a node with other parents: what they leave to a holder t.
-use Rattle.std.specs.Prelude.{◌≡◌, ◌≢◌, ℕ, zero, suc, ◌+◌, ◌≤◌, ◌<◌, Bool, true, false, not, ◌&&◌, ◌||◌, ◌==◌, nat_lt, List, [], ◌∷◌, Option, Some}
-use Rattle.std.specs.Prelude.{None, is_some, if◌then◌else◌}
-use Rattle.std.specs.List.{list_all}
-use Rattle.std.proofs.Common.{refl, sym, ap, ap₂, subst, ◌∙◌, arith, rules}
-use Rattle.std.proofs.lemmas.Bool.Decides.{nat_tests}
-use mathlib.Core.Bool.{true≢false}
-use Rattle.gl_modes.proofs.Words.{split, and_both, no}
-use Rattle.gl_modes.specs.declared.mode.Mode.{Mode}
-use Rattle.gl_modes.specs.declared.mode.Mode.TheVariants.{NL, X}
-use Rattle.gl_modes.specs.declared.node.NodeId.{NodeId}
-use Rattle.gl_modes.specs.Modes.{are_compatible, same_mode}
-use Rattle.gl_graph.specs.Graph.{Graph, Node, node_at, node_count, parents_of, parents_in, shape_of, shape_in, with_key, is_live}
-use Rattle.gl_graph.specs.Shapes.{Rec, is_record_shape}
-use Rattle.gl_modes.specs.Nodes.{same_node}
-use Rattle.gl_graph.specs.Changes.{born_node, born_nodes, rekeyed_node, reparented}
-use Rattle.gl_graph.specs.Lawful.{IsLawfulGraph}
-use Rattle.gl_model.specs.State.{State, no_parents}
-use Rattle.gl_model.specs.Lawful.{IsLawful, eff_x, EffX}
-use Rattle.gl_model.proofs.law.Effects.{no_conflict_law}
-use Rattle.gl_model.proofs.law.Effects.{ReadOn, read_on_eff, eff_x_any}
-use Rattle.gl_model.proofs.law.Searches.{GraphStep}
+use Rattle.gl_steps.proofs.Words.{◌&&◌, ◌+◌, ◌<◌, ◌==◌, [], ◌||◌, ◌∙◌, ◌∷◌, ◌≡◌, ◌≢◌, ◌≤◌, and_both, ap, ap₂, arith, Bool, born_node, born_nodes, eff_x, EffX}
+use Rattle.gl_steps.proofs.Words.{false, Graph, GraphStep, if◌then◌else◌, is_live, is_record_shape, is_some, IsLawful, IsLawfulGraph, List, list_all, Mode}
+use Rattle.gl_steps.proofs.Words.{nat_lt, nat_tests, NL, no, no_parents, Node, node_at, node_count, NodeId, None, not, not-true, Option, or-true, parents_in}
+use Rattle.gl_steps.proofs.Words.{parents_of, read_on_eff, ReadOn, Rec, refl, rekeyed_node, reparented, rules, same_mode, same_node, same_node-equal, shape_in}
+use Rattle.gl_steps.proofs.Words.{shape_of, Some, split, State, subst, suc, sym, true, true≢false, with_key, X, zero, ℕ}
+use Rattle.gl_modes.specs.Modes.{are_compatible}
+use Rattle.gl_model.proofs.law.Effects.{eff_x_any, no_conflict_law}
 use Rattle.gl_graph.proofs.Born.{old_below}
 use Rattle.gl_steps.proofs.Keeps.{read_lives}
 use Rattle.gl_steps.proofs.KeptKinds.{KeepsKind, KeepsKinds, kind_same}
-use Rattle.gl_modes.proofs.NodeLemmas.{same_node-equal}
-use Rattle.std.proofs.lemmas.Bool.{not-true}
-use Rattle.std.proofs.Math.Bool.{or-true}
 
 -- under an effective X of u, t has no effective S
 pub quiet_under : (s : State) → IsLawful s → (u t : ℕ) → u ≢ t → (n : NodeId) → EffX s u n → ReadOn s.graph (s.held t) n → ⊥

@@ -1,37 +1,20 @@
 -- Commands that change the graph: each keeps a transaction that it does not name, if the states before and after are lawful.
-use Rattle.std.specs.Prelude.{◌≡◌, ◌≢◌, ◌⊎◌, ℕ, ◌+◌, ◌<◌, Bool, true, false, not, ◌&&◌, ◌==◌, List, [], ◌∷◌, Option, Some, None, is_some, if◌then◌else◌}
-use Rattle.std.specs.List.{filter, list_all, list_any}
-use Rattle.std.proofs.Common.{refl, sym, ap, ap₂, subst, ◌∙◌, arith, inl, inr}
-use Rattle.std.proofs.Math.Path.{fun_ext}
-use Rattle.std.proofs.lemmas.Bool.Decides.{nat_tests}
-use mathlib.Core.Bool.{true≢false}
-use Rattle.gl_modes.proofs.Words.{split, and_both, clash}
-use Rattle.gl_modes.specs.declared.mode.Mode.TheVariants.{NL, X}
-use Rattle.gl_modes.specs.declared.node.NodeId.{NodeId}
-use Rattle.gl_model.specs.declared.txn.TxnId.{TxnId}
-use Rattle.gl_graph.specs.Changes.{born_index, rekeyed, with_parents, born_node, born_nodes, interval_nodes, rekeyed_keys, rekeyed_parents}
-use Rattle.gl_graph.specs.Changes.{rekeyed_node, reparented}
-use Rattle.gl_graph.specs.Graph.{Graph, Node, node_at, parents_of, parents_in, shape_of, shape_in, with_key, is_live}
-use Rattle.gl_graph.specs.Shapes.{Inner, File, Index, Rec, is_movable_shape, is_record_shape}
-use Rattle.gl_modes.specs.Nodes.{same_node}
-use Rattle.gl_graph.specs.Routes.{IsRoute}
-use Rattle.gl_modes.specs.Modes.{same_mode}
-use Rattle.gl_header.specs.Header.{is_among_waiters}
-use Rattle.gl_model.specs.State.{State, Txn, with_grant, lives, live_by, with_graph, no_parents}
-use Rattle.gl_model.specs.Lawful.{IsLawful, is_read, EffX}
-use Rattle.gl_model.specs.Tellings.{Told}
-use Rattle.gl_model.specs.Calls.{accepted_once, freed, freed_unless, stays, moved_to, deleted, holds_x, some_given}
-use Rattle.gl_model.proofs.law.Effects.{ReadOn}
-use Rattle.gl_model.proofs.telling.Follows.{SameGrants}
+use Rattle.gl_steps.proofs.Words.{◌&&◌, ◌+◌, ◌<◌, ◌==◌, [], ◌∙◌, ◌∷◌, ◌≡◌, ◌≢◌, ◌⊎◌, accepted_once, and_both, ap, ap₂, arith, Bool, born_index, born_node}
+use Rattle.gl_steps.proofs.Words.{born_nodes, clash, deleted, EffX, false, File, filter, freed, freed_unless, fun_ext, Graph, holds_x, if◌then◌else◌, Index}
+use Rattle.gl_steps.proofs.Words.{inl, Inner, inr, interval_nodes, is_among_waiters, is_live, is_movable_shape, is_read, is_record_shape, is_some, IsLawful}
+use Rattle.gl_steps.proofs.Words.{IsRoute, List, list_all, list_any, live_by, lives, moved_to, nat_tests, NL, no_parents, Node, node_at, NodeId, None, not}
+use Rattle.gl_steps.proofs.Words.{Option, parents_in, parents_of, ReadOn, Rec, refl, rekeyed, rekeyed_node, rekeyed_parents, reparented, same_mode, same_node}
+use Rattle.gl_steps.proofs.Words.{same_node-equal, SameGrants, shape_in, shape_of, Some, some_given, split, State, stays, subst, sym, Told, true, true≢false}
+use Rattle.gl_steps.proofs.Words.{Txn, TxnId, with_grant, with_graph, with_key, with_parents, X, ℕ}
+use Rattle.gl_graph.specs.Changes.{rekeyed_keys}
 use Rattle.gl_steps.proofs.OtherChanges.{with_grant_same}
 use Rattle.gl_steps.proofs.Made.{made, next_id}
 use Rattle.gl_steps.proofs.Keeps.{Keeps, keeps_graph}
 use Rattle.gl_steps.proofs.KeptKinds.{KeepsKind, kind_rekeyed, kind_reparented}
-use Rattle.gl_steps.proofs.NotRefused.{OnParents, given_some, record_has_parents}
-use Rattle.gl_steps.proofs.GraphChanges.{quiet_under, x_here, x_on_parents, beside_x, is_new, no_records, born_births, born_old, born_kinds, born_step}
-use Rattle.gl_steps.proofs.GraphChanges.{born_step_records, unborn_shape, KeepsKey, changed_at, changed_here, changed_births, changed_old, changed_kinds}
-use Rattle.gl_steps.proofs.GraphChanges.{changed_step, gone_keeps, rekeyed_keeps, reparented_keeps, rekeyed_parents_in, reparented_parents_in}
-use Rattle.gl_modes.proofs.NodeLemmas.{same_node-equal}
+use Rattle.gl_steps.proofs.NotRefused.{given_some, OnParents, record_has_parents}
+use Rattle.gl_steps.proofs.GraphChanges.{beside_x, born_births, born_kinds, born_old, born_step, born_step_records, changed_at, changed_births, changed_here}
+use Rattle.gl_steps.proofs.GraphChanges.{changed_kinds, changed_old, changed_step, gone_keeps, is_new, KeepsKey, no_records, quiet_under, rekeyed_keeps}
+use Rattle.gl_steps.proofs.GraphChanges.{rekeyed_parents_in, reparented_keeps, reparented_parents_in, unborn_shape, x_here, x_on_parents}
 
 freed_lives : (n : NodeId) (age : ℕ) (x : Option Txn) → live_by age (freed n x) ≡ live_by age x
 freed_lives n age None = refl

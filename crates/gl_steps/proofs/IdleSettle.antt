@@ -1,22 +1,12 @@
 -- A settle of a transaction that is on no cycle.
-use Rattle.std.specs.Prelude.{◌≡◌, true, [], Option, Some, None}
-use Rattle.std.proofs.Common.{sym, ap, ◌∙◌, ⊎_elim}
-use Rattle.gl_modes.specs.declared.refusal.Refusal.{Refusal}
+use Rattle.gl_steps.proofs.Words.{[], ◌∙◌, ◌≡◌, ⊎_elim, accepted_once, Answer, ap, Command, Goes, IsLawful, may_lack_memory, None, Option, Refusal, refusal_of}
+use Rattle.gl_steps.proofs.Words.{Some, State, Step, sym, Told, true, TxnId, Unchanged, waits_for}
 use Rattle.gl_modes.specs.declared.refusal.Refusal.TheVariants as no
 use Rattle.gl_waits.specs.Waits.{IsOnNoCycle}
-use Rattle.gl_model.specs.Calls.{accepted_once}
-use Rattle.gl_model.specs.Lawful.{IsLawful}
-use Rattle.gl_model.specs.State.{State, waits_for}
-use Rattle.gl_model.specs.Tellings.{Told}
-use Rattle.gl_model.specs.declared.txn.TxnId.{TxnId}
 use Rattle.gl_model.proofs.telling.Lists.{settled_same, told_settled_same}
-use Rattle.gl_steps.specs.declared.command.Answer.{Answer}
 use Rattle.gl_steps.specs.declared.command.Answer.TheVariants as answer
-use Rattle.gl_steps.specs.declared.command.Command.{Command}
 use Rattle.gl_steps.specs.declared.command.Command.TheVariants as command
 use Rattle.gl_steps.specs.Promises.{SettlesIdle, SettlesNobody}
-use Rattle.gl_steps.specs.Step.{Goes, Step, Unchanged}
-use Rattle.gl_steps.specs.Tests.{may_lack_memory, refusal_of}
 
 module _ (s s' : State) (t : TxnId) (a : Answer) (told : Told) (law : IsLawful s) (none : IsOnNoCycle (waits_for s) t.slot) where
   abbrev Quiet : Type 0

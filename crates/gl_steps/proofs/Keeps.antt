@@ -1,35 +1,17 @@
 -- What a step leaves to a transaction that it does not name, and the two kinds of steps that leave it.
-use Rattle.gl_model.specs.Tellings.{told}
-use Rattle.std.specs.Prelude.{◌≡◌, ◌⊎◌, ℕ, zero, suc, ◌≤◌, Bool, true, false, not, ◌&&◌, ◌||◌, List, [], ◌∷◌, Option, Some, None, is_some, if◌then◌else◌}
-use Rattle.std.specs.List.{list_all, list_any}
-use Rattle.std.proofs.Common.{refl, sym, ap, ap₂, subst, ◌∙◌, arith, rules, inl, inr}
-use Rattle.std.proofs.Math.Path.{fun_ext}
-use mathlib.Core.Bool.{true≢false}
-use Rattle.gl_modes.proofs.Words.{split, or_elim, and_both}
-use Rattle.gl_modes.specs.declared.mode.Mode.{Mode}
-use Rattle.gl_modes.specs.declared.mode.Mode.TheVariants.{NL, X}
-use Rattle.gl_modes.specs.declared.node.NodeId.{NodeId}
-use Rattle.gl_modes.specs.Modes.{is_at_least, same_mode}
-use Rattle.gl_model.specs.declared.txn.TxnId.{TxnId}
-use Rattle.gl_model.specs.declared.answers.Effect.{Effect}
+use Rattle.gl_steps.proofs.Words.{◌&&◌, [], ◌||◌, ◌∙◌, ◌∷◌, ◌≡◌, ◌≤◌, ◌⊎◌, and_both, ap, ap₂, arith, at_least-refl, Bool, eff_s, eff_s_route, eff_x, Effect}
+use Rattle.gl_steps.proofs.Words.{effective, EffS, false, Follows, fun_ext, GrantedTo, Graph, GraphStep, if◌then◌else◌, inl, inr, is_at_least}
+use Rattle.gl_steps.proofs.Words.{is_at_least_effect, is_grant_to, is_live, is_read, is_some, IsLawful, IsRoute, List, list_all, list_any, lives, Mode, NL}
+use Rattle.gl_steps.proofs.Words.{no_parents, Node, node_at, node_count, NodeId, None, not, Option, or-true, or_elim, parents_in, parents_of, refl, rules}
+use Rattle.gl_steps.proofs.Words.{same_mode, same_node, same_node-equal, SameBelow, SameGrants, Some, split, State, subst, suc, sym, Told, told, true}
+use Rattle.gl_steps.proofs.Words.{true≢false, TxnId, X, zero, ℕ}
 use Rattle.gl_model.specs.declared.answers.Effect.TheVariants as effect
-use Rattle.gl_graph.specs.Graph.{Graph, Node, node_at, node_count, parents_of, parents_in, is_live}
-use Rattle.gl_modes.specs.Nodes.{same_node}
-use Rattle.gl_graph.specs.Routes.{IsRoute}
-use Rattle.gl_model.specs.State.{State, lives, no_parents}
-use Rattle.gl_model.specs.Lawful.{IsLawful, eff_s, eff_x, is_read, EffS, effective, is_at_least_effect, SameBelow}
-use Rattle.gl_model.specs.Tellings.{Told}
-use Rattle.gl_steps.specs.Promises.{is_grant_to}
-use Rattle.gl_model.proofs.law.Effects.{all_from, eff_s_route}
-use Rattle.gl_model.proofs.law.Searches.{GraphStep, effective_same, below_same}
+use Rattle.gl_model.proofs.law.Effects.{all_from}
+use Rattle.gl_model.proofs.law.Searches.{below_same, effective_same}
 use Rattle.gl_steps.proofs.KeptKinds.{KeepsKinds, kinds_same}
-use Rattle.gl_steps.proofs.ToldGrants.{tells, tells_grant, any_weaker}
-use Rattle.gl_model.proofs.telling.Follows.{Follows, SameGrants, GrantedTo}
+use Rattle.gl_steps.proofs.ToldGrants.{any_weaker, tells, tells_grant}
 use Rattle.gl_graph.proofs.Look.{all_at}
-use Rattle.gl_modes.proofs.NodeLemmas.{same_node-equal}
-use Rattle.gl_modes.proofs.ModeLemmas.{at_least-refl}
-use Rattle.gl_graph.proofs.Moved.{some_at, any_found}
-use Rattle.std.proofs.Math.Bool.{or-true}
+use Rattle.gl_graph.proofs.Moved.{any_found, some_at}
 
 abbrev pub ToldGrant : State → State → TxnId → Told → Type 0
 ToldGrant s s' t told' = (g : GrantedTo s s' t.slot) × (list_any (tells t g.node g.mode) told' ≡ true)

@@ -1,12 +1,8 @@
 -- A node that lives on keeps its kind: a record its file, and a file the mark that rows of it were adopted.
-use Rattle.std.specs.Prelude.{◌≡◌, ℕ, Bool, true, false, ◌==◌, List, [], ◌∷◌, Option, Some, None, if◌then◌else◌}
-use Rattle.std.proofs.Common.{refl, sym, ap, ◌∙◌}
-use Rattle.gl_modes.proofs.Words.{clash, no}
-use Rattle.gl_modes.specs.declared.node.NodeId.{NodeId}
-use Rattle.gl_graph.specs.Changes.{born_node, marked, marked_node, marked_shape, rekeyed_node, reparented, without_node}
-use Rattle.gl_graph.specs.Graph.{Graph, Node, first_in, is_live, node_at, parents_in, shape_in, shape_of, with_key}
-use Rattle.gl_graph.specs.Lawful.{IsLawfulGraph}
-use Rattle.gl_graph.specs.Shapes.{Shape, Inner, File, Index, Interval, Rec, is_adopted, is_movable_shape, is_record_shape}
+use Rattle.gl_steps.proofs.Words.{◌==◌, [], ◌∙◌, ◌∷◌, ◌≡◌, ap, Bool, born_node, clash, false, File, first_in, Graph, if◌then◌else◌, is_adopted, is_live}
+use Rattle.gl_steps.proofs.Words.{is_movable_shape, is_record_shape, IsLawfulGraph, List, marked, no, Node, node_at, NodeId, None, Option, parents_in, Rec}
+use Rattle.gl_steps.proofs.Words.{refl, rekeyed_node, reparented, Shape, shape_in, shape_of, Some, sym, true, with_key, without_node, ℕ}
+use Rattle.gl_graph.specs.Changes.{marked_node, marked_shape}
 use Rattle.gl_graph.proofs.Born.{old_same}
 use Rattle.gl_graph.proofs.Marked.{marked_record}
 use Rattle.gl_model.proofs.law.Rows.{left_was, row_parents, with_row}
@@ -40,20 +36,12 @@ kinds_same g g' e n _ _ = kind_same (node_at g n) (node_at g' n) (ap (λ x. node
 
 -- a record has no mark
 unmarked : (o : Option Shape) → is_record_shape o ≡ true → is_adopted o ≡ false
-unmarked None h = refl
-unmarked (Some Inner) h = refl
 unmarked (Some (File adopted)) h = absurd (no h)
-unmarked (Some (Index file bounds)) h = refl
-unmarked (Some (Interval place)) h = refl
-unmarked (Some (Rec keys)) h = refl
+unmarked o h = refl
 
 movable_unrecorded : (o : Option Shape) → is_movable_shape o ≡ true → is_record_shape o ≡ false
-movable_unrecorded None h = refl
-movable_unrecorded (Some Inner) h = refl
-movable_unrecorded (Some (File adopted)) h = refl
-movable_unrecorded (Some (Index file bounds)) h = refl
-movable_unrecorded (Some (Interval place)) h = refl
 movable_unrecorded (Some (Rec keys)) h = absurd (no h)
+movable_unrecorded o h = refl
 
 -- a record has other keys, and parents of which its file is the first
 pub kind_rekeyed : (keys : List ℕ) (ps : List NodeId) (key : ℕ) (o : Option Node) → is_record_shape (shape_in (with_key key o)) ≡ true
@@ -82,11 +70,8 @@ mark_stays : (g : Graph) (f n : NodeId) → is_adopted (shape_of g n) ≡ true �
 mark_stays g f n h = by (n.birth == f.birth)
   where
     shaped : (sh : Shape) → is_adopted (Some sh) ≡ true → is_adopted (Some (marked_shape sh)) ≡ true
-    shaped Inner k = k
     shaped (File adopted) k = refl
-    shaped (Index file bounds) k = k
-    shaped (Interval place) k = k
-    shaped (Rec keys) k = k
+    shaped sh k = k
 
     keyed : (x : Node) (b : Bool) → is_adopted (shape_in (if b then Some x else None)) ≡ true
         → is_adopted (shape_in (if b then Some (record x { shape = marked_shape x.shape }) else None)) ≡ true

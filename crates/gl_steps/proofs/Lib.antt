@@ -1,3 +1,5 @@
+-- the words that proofs use
+pub mod Words
 -- the count of accepted commands, which nothing else reads
 pub mod Counting
 pub mod Accepting

@@ -1,31 +1,18 @@
 -- The two refusals that are far from the empty state: by induction there is a run to a full graph, and one to a count that is worn out.
-use Rattle.gl_waits.specs.declared.victims.Victims.TheVariants.{Youngest}
-use Rattle.std.specs.Prelude.{◌≡◌, ℕ, zero, suc, ◌+◌, ◌<◌, Bool, true, false, ◌==◌, nat_lt, ◌-◌, List, [], ◌∷◌, ◌++◌, Some, None, replicate}
-use Rattle.std.proofs.Common.{refl, ap, ap₂, ◌∙◌, arith, subst}
-use Rattle.std.proofs.lemmas.Bool.Decides.{nat_tests}
+use Rattle.gl_steps.proofs.Words.{◌+◌, ◌++◌, ◌-◌, ◌<◌, ◌==◌, [], ◌∙◌, ◌∷◌, ◌≡◌, accepted_once, Answer, ap, ap₂, arith, AtBlock, Bool, Command, empty-lawful}
+use Rattle.gl_steps.proofs.Words.{empty_state, false, first_refusal, Inner, IsLawful, List, nat_lt, nat_tests, no_txn, node_count, None, refl, refusal_of, Run}
+use Rattle.gl_steps.proofs.Words.{Some, State, subst, suc, Told, true, TxnId, where_true, Youngest, zero, ℕ}
+use Rattle.std.specs.Prelude.{replicate}
 use Rattle.gl_modes.specs.declared.refusal.Refusal.TheVariants as no
-use Rattle.gl_model.specs.declared.answers.Detect.TheVariants.{AtBlock}
-use Rattle.gl_model.specs.declared.txn.TxnId.{TxnId}
-use Rattle.gl_steps.specs.declared.command.Answer.{Answer}
 use Rattle.gl_steps.specs.declared.command.Answer.TheVariants as answer
-use Rattle.gl_steps.specs.declared.command.Command.{Command}
 use Rattle.gl_steps.specs.declared.command.Command.TheVariants as command
-use Rattle.gl_graph.specs.Graph.{node_count}
-use Rattle.gl_graph.specs.Refusals.{first_refusal, max_count, where_true}
-use Rattle.gl_graph.specs.Shapes.{Inner}
-use Rattle.gl_model.specs.State.{State, empty_state}
-use Rattle.gl_model.specs.Calls.{accepted_once, no_txn}
-use Rattle.gl_model.specs.Lawful.{IsLawful}
-use Rattle.gl_model.specs.Tellings.{Told}
-use Rattle.gl_steps.specs.Tests.{refusal_of}
-use Rattle.gl_steps.specs.Step.{Run}
+use Rattle.gl_graph.specs.Refusals.{max_count}
 use Rattle.gl_graph.proofs.Counts.{count_grown}
-use Rattle.gl_model.proofs.law.Takes.{empty-lawful}
 use Rattle.gl_steps.proofs.Made.{made}
-use Rattle.gl_steps.proofs.Execute.{Outcome, after, new_node, execute, replies, tested}
+use Rattle.gl_steps.proofs.Execute.{after, execute, new_node, Outcome, replies, tested}
 use Rattle.gl_steps.proofs.ExecuteIsStep.{execute_runs, execute_steps}
 use Rattle.gl_steps.proofs.StepsKeepLaw.{steps_keep_law}
-use Rattle.gl_steps.proofs.RowWords.{Line, Rows, begins, commands, answers, computed, done, ref, refuses, txn}
+use Rattle.gl_steps.proofs.RowWords.{answers, begins, commands, computed, done, Line, ref, refuses, Rows, txn}
 
 abbrev t : TxnId
 t = txn 0 1

@@ -1,19 +1,9 @@
 -- A transaction that lives on over a step: its age stays, and it begins no wait.
-use Rattle.gl_modes.proofs.Words.{clash, same_number, split}
-use Rattle.gl_waits.specs.declared.victims.Victims.{Victims}
-use Rattle.std.specs.Prelude.{◌≡◌, ℕ, zero, suc, Bool, true, false, ◌==◌, List, Option, Some, None, if◌then◌else◌, is_some}
-use Rattle.std.proofs.Common.{refl, sym, ap, subst, ◌∙◌}
-use Rattle.gl_modes.specs.declared.mode.Mode.{Mode}
-use Rattle.gl_modes.specs.declared.node.NodeId.{NodeId}
-use Rattle.gl_modes.specs.Nodes.{same_node}
-use Rattle.gl_header.specs.Header.{Waiter}
-use Rattle.gl_model.specs.declared.answers.Detect.{Detect}
-use Rattle.gl_model.specs.declared.answers.Detect.TheVariants.{AtBlock, ByWatcher}
-use Rattle.gl_model.specs.declared.txn.Status.{Status}
-use Rattle.gl_model.specs.declared.txn.Status.TheVariants.{Active, Waiting, Condemned}
-use Rattle.gl_model.specs.Calls.{WaitSettles, freed, freed_unless, none_among, freed_among}
-use Rattle.gl_model.specs.State.{condemned, granted_at, is_waiting_at, pumped, without_wait, woken, State, Txn, age_in, live_by, restatus, since_in, status_in}
-use Rattle.gl_model.specs.State.{Settled, SettledWithin}
+use Rattle.gl_steps.proofs.Words.{◌==◌, ◌∙◌, ◌≡◌, Active, age_in, ap, AtBlock, Bool, ByWatcher, clash, Condemned, condemned, Detect, false, freed, freed_among}
+use Rattle.gl_steps.proofs.Words.{freed_unless, granted_at, if◌then◌else◌, is_some, is_waiting_at, List, live_by, Mode, NodeId, None, none_among, Option}
+use Rattle.gl_steps.proofs.Words.{pumped, refl, restatus, same_node, same_number, Settled, SettledWithin, Some, split, State, Status, status_in, subst, suc}
+use Rattle.gl_steps.proofs.Words.{sym, true, Txn, Victims, Waiter, Waiting, WaitSettles, without_wait, woken, zero, ℕ}
+use Rattle.gl_model.specs.State.{since_in}
 use Rattle.gl_model.proofs.law.Keeps.{woken_waits}
 use Rattle.gl_model.proofs.law.Takes.{IsQuiet, restatus_quiet}
 

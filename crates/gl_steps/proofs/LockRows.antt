@@ -1,16 +1,11 @@
 -- Worked rows of one or two roots: conversions, queues, deadlocks, limits and cancels.
-use Rattle.std.specs.Prelude.{◌+◌, [], ◌∷◌, ◌++◌, map}
-use Rattle.std.specs.List.{range_with_len}
-use Rattle.std.proofs.Common.{refl}
-use Rattle.gl_modes.specs.declared.mode.Mode.TheVariants.{NL, IX, S, SIX, X}
-use Rattle.gl_modes.specs.declared.node.NodeId.{NodeId}
+use Rattle.gl_steps.proofs.Words.{◌+◌, ◌++◌, [], ◌∷◌, AtBlock, ByWatcher, IX, map, NL, NodeId, range_with_len, refl, S, TxnId, X}
+use Rattle.gl_modes.specs.declared.mode.Mode.TheVariants.{SIX}
 use Rattle.gl_modes.specs.declared.refusal.Refusal.TheVariants as no
-use Rattle.gl_model.specs.declared.txn.TxnId.{TxnId}
-use Rattle.gl_model.specs.declared.answers.Detect.TheVariants.{AtBlock, ByWatcher}
 use Rattle.gl_model.specs.declared.answers.Notice.TheVariants as notice
 use Rattle.gl_steps.specs.declared.command.Answer.TheVariants as answer
 use Rattle.gl_steps.specs.declared.command.Command.TheVariants as command
-use Rattle.gl_steps.proofs.RowWords.{Rows, begins, computed, done, group, holds, id, locks, refuses, roots, says, tells, txn, waits}
+use Rattle.gl_steps.proofs.RowWords.{begins, computed, done, group, holds, id, locks, refuses, roots, Rows, says, tells, txn, waits}
 
 abbrev db : NodeId
 db = id 1

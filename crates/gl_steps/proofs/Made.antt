@@ -1,12 +1,7 @@
 -- What the commands that make nodes leave, written out.
-use Rattle.std.specs.Prelude.{◌≡◌, ℕ, ◌+◌, List}
-use Rattle.std.proofs.Common.{ap, ap₂, ◌∙◌}
-use Rattle.gl_modes.specs.declared.mode.Mode.TheVariants.{X}
-use Rattle.gl_modes.specs.declared.node.NodeId.{NodeId}
-use Rattle.gl_graph.specs.Shapes.{Rec, Shape}
-use Rattle.gl_graph.specs.Graph.{Node, record_parents}
-use Rattle.gl_graph.specs.Changes.{IsAdopted, IsBorn, IsIndexBorn, born_index, born_node, marked}
-use Rattle.gl_model.specs.State.{State, with_grant, with_graph}
+use Rattle.gl_steps.proofs.Words.{◌+◌, ◌∙◌, ◌≡◌, ap, ap₂, born_index, born_node, IsAdopted, IsIndexBorn, List, marked, Node, NodeId, Rec, record_parents, Shape}
+use Rattle.gl_steps.proofs.Words.{State, with_grant, with_graph, X, ℕ}
+use Rattle.gl_graph.specs.Changes.{IsBorn}
 
 -- the state with a node more
 abbrev pub made : State → Node → State

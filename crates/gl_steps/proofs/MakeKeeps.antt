@@ -1,23 +1,11 @@
 -- New nodes keep the law of a state: inner, file, index and insert.
-use Rattle.std.specs.Prelude.{◌≡◌, ℕ, not, ◌==◌, List, [], ◌∷◌, length, Option, None}
-use denote.Bor.{Bor}
-use Rattle.std.proofs.Common.{sym, subst}
-use Rattle.gl_modes.proofs.Words.{same_number}
-use Rattle.gl_modes.specs.declared.node.NodeId.{NodeId}
-use Rattle.gl_modes.specs.declared.refusal.Refusal.{Refusal}
-use Rattle.gl_model.specs.declared.txn.TxnId.{TxnId}
+use Rattle.gl_steps.proofs.Words.{[], ◌∷◌, ◌≡◌, Bor, first_refusal, IsLawful, List, NodeId, None, none_refused, not_false, not_refused, Option, Refusal}
+use Rattle.gl_steps.proofs.Words.{same_number, State, subst, sym, test_fails, tests_of, TxnId, worn, ℕ}
 use Rattle.gl_steps.specs.declared.command.Command.TheVariants as command
-use Rattle.gl_graph.specs.Graph.{shape_of, indexes_of, record_parents}
-use Rattle.gl_graph.specs.Shapes.{is_file_shape}
-use Rattle.gl_model.specs.State.{State, status_of}
-use Rattle.gl_model.specs.Lawful.{IsLawful}
-use Rattle.gl_graph.specs.Refusals.{file_refusal, first_refusal, index_refusal, inner_refusal, some_no_node, too_many_nodes, where_true, worn_births}
-use Rattle.gl_steps.specs.Tests.{worn}
-use Rattle.gl_model.specs.Calls.{no_txn, waiting_test, condemned_test, first_not_ix}
+use Rattle.gl_graph.specs.Refusals.{file_refusal, index_refusal, inner_refusal}
 use Rattle.gl_steps.proofs.KeepsLaw.{KeepsLaw}
-use Rattle.gl_model.proofs.law.Records.{file-grows, grown-lawful, index-grows, inner-grows}
-use Rattle.gl_model.proofs.law.Records.{placed-lawful}
-use Rattle.gl_graph.proofs.Unrefused.{not_refused, test_fails, not_false, enough_room}
+use Rattle.gl_model.proofs.law.Records.{file-grows, grown-lawful, index-grows, inner-grows, placed-lawful}
+use Rattle.gl_graph.proofs.Unrefused.{enough_room}
 use Rattle.gl_steps.proofs.NotRefused.{active_is}
 
 -- a test that was passed after the count of commands
@@ -42,17 +30,8 @@ index_keeps ps f bs s s' a told law free acc =
 
 pub insert_keeps : (t : TxnId) (f : NodeId) (keys : Bor (List ℕ)) → KeepsLaw (command.Insert t f keys)
 insert_keeps t f keys s s' a told law free acc =
-    let t0 = not_refused (worn s) _ free in
-    let t1 = not_refused (worn_births s.graph) _ t0.1 in
-    let t2 = not_refused (no_txn s t) _ t1.1 in
-    let t3 = not_refused (waiting_test (status_of s t.slot)) _ t2.1 in
-    let t4 = not_refused (condemned_test (status_of s t.slot)) _ t3.1 in
-    let t5 = not_refused (some_no_node s.graph (f ∷ [])) _ t4.1 in
-    let t6 = not_refused (where_true (not (is_file_shape (shape_of s.graph f))) _) _ t5.1 in
-    let t7 = not_refused (where_true (not (length keys.now == length (indexes_of s.graph f))) _) _ t6.1 in
-    let t8 = not_refused (first_not_ix (s.held t.slot) (record_parents s.graph f keys.now)) _ t7.1 in
-    let t9 = not_refused (too_many_nodes s.graph 1) [] t8.1 in
+    let ok = none_refused (tests_of s (command.Insert t f keys)) free in
     subst IsLawful (sym acc.4)
-    (placed-lawful s law f keys.now (not_false _ (test_fails _ _ t6.0)) (same_number _ _ (not_false _ (test_fails _ _ t7.0)))
-    (enough_room s.graph 1 t9.0) s'.graph acc.0 acc.1
-    t.slot (active_is s t t2.0 t3.0 t4.0) t8.0)
+    (placed-lawful s law f keys.now (not_false _ (test_fails _ _ (ok 6))) (same_number _ _ (not_false _ (test_fails _ _ (ok 7))))
+    (enough_room s.graph 1 (ok 9)) s'.graph acc.0 acc.1
+    t.slot (active_is s t (ok 2) (ok 3) (ok 4)) (ok 8))

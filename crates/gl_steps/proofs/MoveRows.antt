@@ -1,17 +1,12 @@
 -- Worked rows of moves: inner nodes, files and indexes get other parents.
-use Rattle.std.specs.Prelude.{List, [], ◌∷◌, ◌++◌}
-use Rattle.std.proofs.Common.{refl}
-use Rattle.gl_modes.specs.declared.mode.Mode.TheVariants.{NL, IS, IX, S, X}
-use Rattle.gl_modes.specs.declared.node.NodeId.{NodeId}
+use Rattle.gl_steps.proofs.Words.{◌++◌, [], ◌∷◌, AtBlock, IS, IX, List, NL, NodeId, refl, S, TxnId, X}
 use Rattle.gl_modes.specs.declared.refusal.Refusal.TheVariants as no
-use Rattle.gl_model.specs.declared.txn.TxnId.{TxnId}
-use Rattle.gl_model.specs.declared.answers.Detect.TheVariants.{AtBlock}
 use Rattle.gl_model.specs.declared.answers.Effect.TheVariants as effect
 use Rattle.gl_model.specs.declared.answers.Notice.TheVariants as notice
 use Rattle.gl_steps.specs.declared.command.Answer.TheVariants as answer
 use Rattle.gl_steps.specs.declared.command.Command.TheVariants as command
-use Rattle.gl_steps.proofs.RowWords.{Line, Rows, begins, computed, done, file, holds, id, inner, locks, locks_all, prelude, ref, refuses, roots}
-use Rattle.gl_steps.proofs.RowWords.{says, tells, txn, waits}
+use Rattle.gl_steps.proofs.RowWords.{begins, computed, done, file, holds, id, inner, Line, locks, locks_all, prelude, ref, refuses, roots, Rows, says, tells}
+use Rattle.gl_steps.proofs.RowWords.{txn, waits}
 use Rattle.gl_steps.proofs.RowWords as words
 
 abbrev db : NodeId

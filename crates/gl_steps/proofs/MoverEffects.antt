@@ -1,27 +1,14 @@
 -- A rekey and a move leave the mover's effective mode on every node as it was.
-use Rattle.std.specs.Prelude.{◌≡◌, ◌≢◌, ℕ, zero, suc, Bool, true, false, not, ◌&&◌, ◌||◌, List, [], ◌∷◌, if◌then◌else◌}
-use Rattle.std.specs.List.{list_all, list_any}
-use Rattle.std.proofs.Math.Path.{fun_ext}
-use Rattle.std.proofs.Common.{refl, sym, ap, ap₂, ◌∙◌, ⊎_elim}
-use mathlib.Core.Bool.{true≢false}
-use Rattle.gl_modes.proofs.NodeLemmas.{same_node-equal, same_node-other}
-use Rattle.gl_modes.proofs.Words.{split, or_left, or_right, and_both, both}
-use Rattle.gl_modes.specs.declared.mode.Mode.{Mode}
-use Rattle.gl_modes.specs.declared.mode.Mode.TheVariants.{X}
-use Rattle.gl_modes.specs.declared.node.NodeId.{NodeId}
+use Rattle.gl_steps.proofs.Words.{◌&&◌, [], ◌||◌, ◌∙◌, ◌∷◌, ◌≡◌, ◌≢◌, ⊎_elim, and_both, ap, ap₂, Bool, both, eff_s, eff_x, effective, false, fun_ext, Graph}
+use Rattle.gl_steps.proofs.Words.{if◌then◌else◌, is_read, List, list_all, list_any, Mode, moved_to, no_parents, Node, node_count, NodeId, not, or_left}
+use Rattle.gl_steps.proofs.Words.{or_right, parents_of, refl, rekeyed, same_mode, same_node, same_node-equal, split, State, suc, sym, true, true≢false}
+use Rattle.gl_steps.proofs.Words.{with_parents, X, zero, ℕ}
+use Rattle.gl_modes.proofs.NodeLemmas.{same_node-other}
 use Rattle.gl_model.specs.declared.answers.Effect.TheVariants as effect
 use Rattle.gl_steps.specs.declared.command.Command.TheVariants as command
-use Rattle.gl_graph.specs.Graph.{Graph, Node, parents_of, node_count}
-use Rattle.gl_modes.specs.Nodes.{same_node}
-use Rattle.gl_graph.specs.Changes.{with_parents, rekeyed}
-use Rattle.gl_modes.specs.Modes.{same_mode}
-use Rattle.gl_model.specs.State.{State, no_parents}
-use Rattle.gl_model.specs.Lawful.{eff_s, eff_x, is_read, effective}
-use Rattle.gl_model.specs.Calls.{moved_to}
 use Rattle.gl_steps.specs.Promises.{MoveKeepsMover, RekeyKeepsMover}
 use Rattle.gl_steps.proofs.EachStep.{each_step}
-use Rattle.gl_model.proofs.law.Move.{HoldsNode, HoldsParents}
-use Rattle.gl_model.proofs.law.Move.{Moves, others_parents, new_parents, count_same, moved_node, rekeyed_to}
+use Rattle.gl_model.proofs.law.Move.{count_same, HoldsNode, HoldsParents, moved_node, Moves, new_parents, others_parents, rekeyed_to}
 use Rattle.gl_steps.proofs.MoveCommands.{move_moves, rekey_moves}
 use Rattle.gl_model.proofs.law.Effects.{x_reads}
 use Rattle.gl_steps.proofs.GraphChanges.{held_x}

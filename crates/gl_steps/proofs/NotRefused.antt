@@ -1,22 +1,10 @@
 -- What is known of a command that is not refused: the requester lives, the nodes live, and a mover holds what it must.
-use Rattle.std.specs.Prelude.{◌≡◌, ◌⊎◌, ℕ, Bool, true, false, not, ◌&&◌, List, [], ◌∷◌, Option, Some, None, ◌≢◌, ◌==◌}
-use Rattle.std.specs.List.{list_all}
-use Rattle.std.proofs.Common.{refl, sym, ap, ◌∙◌, inl, inr, ap₂, arith}
-use Rattle.gl_modes.proofs.Words.{no, none_some, and_both}
-use Rattle.gl_modes.specs.declared.node.NodeId.{NodeId}
-use Rattle.gl_model.specs.declared.txn.TxnId.{TxnId}
-use Rattle.gl_model.specs.declared.txn.Status.{Status}
-use Rattle.gl_model.specs.declared.txn.Status.TheVariants.{Active, Waiting, Condemned}
-use Rattle.gl_graph.specs.Graph.{parents_of, Graph, Node, node_at, is_live, parents_in, shape_of, shape_in}
-use Rattle.gl_model.specs.State.{State, Txn, lives, live_by, status_of, status_in, no_parents}
-use Rattle.gl_model.specs.Calls.{no_txn, waiting_test, condemned_test, need_exclusive, holds_x, holds_x_on_all, some_given}
-use Rattle.gl_graph.proofs.Unrefused.{test_fails, not_false}
-use Rattle.std.proofs.lemmas.Bool.Decides.{nat_tests}
-use mathlib.Core.Bool.{true≢false}
-use Rattle.gl_graph.specs.Shapes.{Shape, Inner, File, Index, Interval, Rec, is_record_shape}
-use Rattle.gl_graph.specs.Lawful.{HasShape, IsLawfulGraph}
-use Rattle.gl_graph.specs.Refusals.{some_no_node}
-use Rattle.gl_steps.specs.Promises.{same_txn}
+use Rattle.gl_steps.proofs.Words.{◌&&◌, ◌==◌, [], ◌∙◌, ◌∷◌, ◌≡◌, ◌≢◌, ◌⊎◌, Active, and_both, ap, ap₂, arith, Bool, Condemned, condemned_test, false, Graph}
+use Rattle.gl_steps.proofs.Words.{holds_x, holds_x_on_all, inl, inr, is_live, is_record_shape, IsLawfulGraph, List, list_all, live_by, lives, nat_tests}
+use Rattle.gl_steps.proofs.Words.{need_exclusive, no, no_parents, no_txn, Node, node_at, NodeId, None, none_some, not, not_false, Option, parents_in}
+use Rattle.gl_steps.proofs.Words.{parents_of, Rec, refl, same_txn, Shape, shape_in, shape_of, Some, some_given, some_no_node, State, Status, status_in}
+use Rattle.gl_steps.proofs.Words.{status_of, sym, test_fails, true, true≢false, Txn, TxnId, Waiting, waiting_test, ℕ}
+use Rattle.gl_graph.specs.Lawful.{HasShape}
 use Rattle.gl_modes.specs.declared.refusal.Refusal.TheVariants as no
 
 -- the three tests of a transaction were passed
@@ -32,9 +20,6 @@ active_is s t h w c = by (s.txns t.slot) (not_false _ (test_fails (not (lives s 
         status Active w'' c'' = refl
         status (Waiting n m) w'' c'' = absurd (none_some (sym w''))
         status Condemned w'' c'' = absurd (none_some (sym c''))
-
-some_none : {A : Type 0} {x : A} → Some x ≡ None → ⊥
-some_none e = cc
 
 pub txn_lives : (s : State) (u : TxnId) → no_txn s u ≡ None → lives s u ≡ true
 txn_lives s u h = not_false _ (test_fails _ no.NoSuchTxn h)
@@ -87,8 +72,5 @@ record_has_parents g law r rec = by (node_at g r) refl rec
     by (Some n) e h = shaped n.shape n.parents (law.well_formed r n e) h
       where
         shaped : (sh : Shape) (ps : List NodeId) → HasShape g r sh ps → is_record_shape (Some sh) ≡ true → not (no_parents ps) ≡ true
-        shaped Inner ps has h = absurd (true≢false (sym h))
-        shaped (File adopted) ps has h = absurd (true≢false (sym h))
-        shaped (Index f bs) ps has h = absurd (true≢false (sym h))
-        shaped (Interval place) ps has h = absurd (true≢false (sym h))
         shaped (Rec keys) ps has h = ap (λ qs. not (no_parents qs)) has.1.parents
+        shaped sh ps has h = absurd (true≢false (sym h))

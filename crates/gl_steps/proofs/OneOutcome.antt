@@ -1,25 +1,12 @@
 -- In a lawful state a command that makes no node has one outcome, since settling ends in one state and all else is an equation.
-use Rattle.gl_modes.proofs.Words.{some_is, split}
-use Rattle.gl_waits.specs.declared.victims.Victims.{Victims}
-use Rattle.std.specs.Prelude.{◌≡◌, ◌+◌, ℕ, [], false, Option, Some, None, min}
-use Rattle.std.proofs.Common.{refl, sym, ap, ◌∙◌}
-use mathlib.Core.Bool.{true≢false}
-use Rattle.gl_modes.specs.declared.refusal.Refusal.{Refusal}
-use Rattle.gl_model.specs.declared.answers.Detect.{Detect}
-use Rattle.gl_model.specs.declared.answers.Detect.TheVariants.{AtBlock, ByWatcher}
-use Rattle.gl_steps.specs.declared.command.Answer.{Answer}
+use Rattle.gl_steps.proofs.Words.{◌+◌, [], ◌∙◌, ◌≡◌, accepted_once, Accepts, Answer, Answers, ap, AtBlock, begun_since, ByWatcher, Command, Detect, enqueued}
+use Rattle.gl_steps.proofs.Words.{enters_at, false, Goes, IsLawful, lock_answer, may_lock, min, None, Option, query_answer, refl, Refusal, refusal_of, Some}
+use Rattle.gl_steps.proofs.Words.{some_is, split, State, status_of, sym, Told, told, told_but, true≢false, Victims, WaitSettles, wanted, worn, ℕ}
 use Rattle.gl_steps.specs.declared.command.Answer.TheVariants as answer
-use Rattle.gl_steps.specs.declared.command.Command.{Command}
 use Rattle.gl_steps.specs.declared.command.Command.TheVariants as command
-use Rattle.gl_model.specs.State.{State, status_of}
-use Rattle.gl_model.specs.Calls.{WaitSettles, begun_since, enqueued, enters_at, wanted, accepted_once}
-use Rattle.gl_model.specs.Lawful.{IsLawful}
-use Rattle.gl_model.specs.Tellings.{Told, told, told_but}
-use Rattle.gl_steps.specs.Tests.{refusal_of, worn}
-use Rattle.gl_steps.specs.Step.{Accepts, Answers, Goes, lock_answer, query_answer}
-use Rattle.gl_steps.specs.Promises.{OneOutcome, makes_node}
+use Rattle.gl_steps.specs.Promises.{makes_node, OneOutcome}
 use Rattle.gl_steps.proofs.Beginning.{Begins}
-use Rattle.gl_model.proofs.law.Lock.{MayLock, may_lock, waiting-lawful}
+use Rattle.gl_model.proofs.law.Lock.{MayLock, waiting-lawful}
 use Rattle.gl_model.proofs.law.Settle.{settled_one}
 
 wait_one : (d : Detect) (c : Victims) (s s₁ s₂ : State) (t : ℕ) → IsLawful s → WaitSettles d c s t s₁ → WaitSettles d c s t s₂ → s₁ ≡ s₂

@@ -1,32 +1,18 @@
 -- One step of a command that does not name t keeps t.
-use Rattle.std.specs.Prelude.{◌≡◌, ◌≢◌, ◌+◌, min, Bool, true, false, List, [], ◌∷◌, Option, Some, None}
-use Rattle.std.proofs.Common.{refl, sym, subst, inl, inr}
-use Rattle.gl_modes.proofs.Words.{and_both}
-use Rattle.gl_modes.specs.declared.refusal.Refusal.{Refusal}
+use Rattle.gl_steps.proofs.Words.{◌+◌, [], ◌∷◌, ◌≡◌, ◌≢◌, accepted_once, and_both, Answer, Answers, Bool, Command, false, first_refusal, Goes, inl, inr}
+use Rattle.gl_steps.proofs.Words.{is_of_rows, IsLawful, List, lives, min, names, no_txn, None, not_false, Option, or_no, query_answer, refl, Refusal}
+use Rattle.gl_steps.proofs.Words.{refusal_of, same_txn, shape_of, Some, State, Step, subst, sym, test_fails, tests_of, Told, true, TxnId}
 use Rattle.gl_modes.specs.declared.refusal.Refusal.TheVariants as no
-use Rattle.gl_model.specs.declared.txn.TxnId.{TxnId}
-use Rattle.gl_steps.specs.declared.command.Answer.{Answer}
-use Rattle.gl_steps.specs.declared.command.Command.{Command}
 use Rattle.gl_steps.specs.declared.command.Command.TheVariants as command
-use Rattle.gl_model.specs.State.{State, lives}
-use Rattle.gl_model.specs.Lawful.{IsLawful}
-use Rattle.gl_steps.specs.Step.{Step, Goes, Answers, query_answer}
-use Rattle.gl_model.specs.Tellings.{Told}
-use Rattle.gl_model.specs.Calls.{accepted_once, no_txn}
-use Rattle.gl_graph.specs.Refusals.{first_refusal}
-use Rattle.gl_steps.specs.Tests.{tests_of, refusal_of}
-use Rattle.gl_steps.specs.Promises.{is_of_rows, names, same_txn}
 use Rattle.gl_steps.proofs.Keeps.{Keeps}
-use Rattle.gl_steps.proofs.Made.{adopted_is, made_is, indexed_is, inserted_is, indexed_by_is}
-use Rattle.gl_steps.proofs.NotRefused.{txn_lives, nodes_live, differ, exclusive}
-use Rattle.gl_steps.proofs.GrantCommands.{lock_keeps, try_keeps, unlock_keeps, escalate_keeps, cancel_keeps, release_keeps, settle_keeps}
-use Rattle.gl_steps.proofs.GrantCommands.{begin_keeps, renew_keeps, same_keeps}
-use Rattle.gl_steps.proofs.GraphCommands.{inner_keeps, file_keeps, index_keeps, insert_keeps, delete_keeps, rekey_keeps, move_keeps}
-use Rattle.gl_graph.specs.Graph.{shape_of}
+use Rattle.gl_steps.proofs.Made.{adopted_is, indexed_by_is, indexed_is, inserted_is, made_is}
+use Rattle.gl_steps.proofs.NotRefused.{differ, exclusive, nodes_live, txn_lives}
+use Rattle.gl_steps.proofs.GrantCommands.{begin_keeps, cancel_keeps, escalate_keeps, lock_keeps, release_keeps, renew_keeps, same_keeps, settle_keeps}
+use Rattle.gl_steps.proofs.GrantCommands.{try_keeps, unlock_keeps}
+use Rattle.gl_steps.proofs.GraphCommands.{delete_keeps, file_keeps, index_keeps, inner_keeps, insert_keeps, move_keeps, rekey_keeps}
 use Rattle.gl_steps.proofs.SchemaKeeps.{itself_locked}
 use Rattle.gl_steps.proofs.SchemaSteps.{drop_keeps, index_by_keeps}
 use Rattle.gl_steps.proofs.RowSteps.{adopt_keeps, forget_keeps}
-use Rattle.gl_graph.proofs.Unrefused.{test_fails, not_false, or_no}
 
 -- each of these passed
 abbrev pub AllNone : List (Option Refusal) → Type 0
@@ -89,9 +75,6 @@ module _ (s : State) (law : IsLawful s) (t : TxnId) (alive : lives s t ≡ true)
       finish ans.0 ans.2 (λ l. move_keeps s law t alive ans.0 l _ u.slot n ps.now (other_slot u apart passed.1.0)
       (and_both _ _ (nodes_live s (n ∷ ps.now) passed.1.1.1.1.0)).0
       (not_false _ (or_no _ _ (test_fails _ no.BadParents passed.1.1.1.1.1.0)).0) (exclusive s u.slot n _ ps.now passed.1.1.1.1.1.1.0) ans.1.2)
-  accepted (command.Group n) apart passed ans = same_keeps s law t alive s' told' s' ans.same
-  accepted (command.Held u n) apart passed ans = same_keeps s law t alive s' told' s' ans.same
-  accepted (command.Effective u n) apart passed ans = same_keeps s law t alive s' told' s' ans.same
   accepted (command.Adopt f keys) apart passed ans =
       finish ans.0 ans.2 (λ l. adopt_keeps s law t alive ans.0 l _ ans.1.0.key f keys.now (adopted_is s ans.0 ans.1.1 ans.1.4))
   accepted (command.Forget r) apart passed ans =
@@ -103,6 +86,7 @@ module _ (s : State) (law : IsLawful s) (t : TxnId) (alive : lives s t ≡ true)
   accepted (command.IndexBy u ps f bs) apart passed ans =
       finish ans.0 ans.2 (λ l. index_by_keeps s law t alive ans.0 l _ u.slot ans.1.0.key ps.now f bs.now ans.1.1.interval_keys
       (other_slot u apart passed.1.1.0) (indexed_by_is s ans.0 u.slot ans.1.1 ans.1.4))
+  accepted c apart passed ans = same_keeps s law t alive s' told' s' ans.same
 
   -- each command, and a step that changes nothing
   pub step_keeps : (c : Command) → names t c ≡ false → Step s c a told' s' → Kept (is_of_rows c) s'

@@ -1,27 +1,16 @@
 -- How another transaction's command changes grants, queues and slots, and what it leaves to a slot t that it does not name.
-use Rattle.gl_modes.proofs.Words.{split, and_both, same_number}
-use Rattle.gl_waits.specs.declared.victims.Victims.{Victims}
+use Rattle.gl_steps.proofs.Words.{◌&&◌, ◌+◌, ◌==◌, [], ◌||◌, ◌∙◌, ◌∷◌, ◌≡◌, ◌≢◌, Active, and_both, ap, arith, AtBlock, begun_since, Bool, ByWatcher, Condemned}
+use Rattle.gl_steps.proofs.Words.{condemned, Detect, enqueued, false, Follows, follows_trans, holds, if◌then◌else◌, inl, is_covered, is_waiting_at, List}
+use Rattle.gl_steps.proofs.Words.{live_by, members, Mode, nat_tests, NL, NodeId, None, Option, pumped, raised, refl, released, restatus, same_node}
+use Rattle.gl_steps.proofs.Words.{same_node-equal, same_number, SameGrants, Settled, SettledWithin, shed, Some, split, State, Status, status_in, status_of}
+use Rattle.gl_steps.proofs.Words.{subst, suc, sym, true, true≢false, Txn, Victims, Waiting, waits_for, WaitSettles, WaitsWell, with_grant, without_wait, zero}
+use Rattle.gl_steps.proofs.Words.{ℕ}
 use Rattle.gl_waits.proofs.VictimLemmas.{candidate-on_cycle}
-use Rattle.std.specs.Prelude.{◌≡◌, ◌≢◌, ℕ, zero, suc, ◌+◌, Bool, true, false, ◌&&◌, ◌||◌, ◌==◌, List, [], ◌∷◌, Option, Some, None, if◌then◌else◌}
-use Rattle.std.proofs.Common.{refl, sym, ap, subst, ◌∙◌, arith, inl}
-use Rattle.std.proofs.lemmas.Bool.Decides.{nat_tests}
-use mathlib.Core.Bool.{true≢false}
-use Rattle.gl_modes.specs.declared.mode.Mode.{Mode}
-use Rattle.gl_modes.specs.declared.mode.Mode.TheVariants.{NL}
-use Rattle.gl_modes.specs.declared.node.NodeId.{NodeId}
-use Rattle.gl_model.specs.declared.txn.Status.{Status}
-use Rattle.gl_model.specs.declared.txn.Status.TheVariants.{Active, Waiting, Condemned}
-use Rattle.gl_model.specs.declared.answers.Detect.{Detect}
-use Rattle.gl_model.specs.declared.answers.Detect.TheVariants.{AtBlock, ByWatcher}
-use Rattle.gl_modes.specs.Nodes.{same_node}
-use Rattle.gl_header.specs.Header.{holds, placed, without_waiter}
-use Rattle.gl_model.specs.State.{State, Txn, members, live_by, status_of, status_in, restatus, with_grant, is_waiting_at, pumped, without_wait, condemned}
-use Rattle.gl_model.specs.Calls.{is_covered, begun_since, enqueued, released, shed, raised, WaitSettles}
-use Rattle.gl_model.specs.State.{blocks, waits_for, SettledWithin, Settled}
+use Rattle.gl_header.specs.Header.{placed, without_waiter}
+use Rattle.gl_model.specs.State.{blocks}
 use Rattle.gl_waits.specs.Waits.{IsWalk}
-use Rattle.gl_model.proofs.queues.Waiters.{waits_of, without_other, without_self, placed_other}
-use Rattle.gl_model.proofs.telling.Follows.{WaitsWell, Follows, SameGrants, follows_trans, follows_same, absent_well, pumped_follows, Waits}
-use Rattle.gl_modes.proofs.NodeLemmas.{same_node-equal}
+use Rattle.gl_model.proofs.queues.Waiters.{placed_other, waits_of, without_other, without_self}
+use Rattle.gl_model.proofs.telling.Follows.{absent_well, follows_same, pumped_follows, Waits}
 
 pub other : (u t : ℕ) → u ≢ t → (t == u) ≡ false
 other u t ne = grind (arith, nat_tests)

@@ -1,27 +1,15 @@
 -- What others cannot do below what a transaction reads, over a run: records are added and removed there by adopt and forget alone.
-use Rattle.std.specs.Prelude.{◌≡◌, ◌≤◌, Bool, true, false, List, [], ◌∷◌}
-use Rattle.std.specs.List.{list_any}
-use Rattle.std.proofs.Common.{refl, sym, ap, subst, ◌∙◌, inl, inr, ⊎_elim, arith}
+use Rattle.gl_steps.proofs.Words.{[], ◌∙◌, ◌∷◌, ◌≡◌, ◌≤◌, ⊎_elim, Adopts, Answer, ap, arith, Bool, clash, Command, EffS, false, first_parent, Forgets, Graph}
+use Rattle.gl_steps.proofs.Words.{inl, inr, is_adopted, is_live, is_of_rows, IsBelow, IsLawful, keys_in, List, list_any, lives, names, NodeId, or_no, refl, Run}
+use Rattle.gl_steps.proofs.Words.{SameBelow, shape_of, split, State, Step, subst, sym, Told, true}
 use Rattle.gl_modes.proofs.NodeLemmas.{same_node-from_equal}
-use Rattle.gl_modes.proofs.Words.{clash, not_true, split}
-use Rattle.gl_modes.specs.declared.node.NodeId.{NodeId}
-use Rattle.gl_graph.specs.Graph.{Graph, first_parent, is_live, shape_of}
-use Rattle.gl_graph.specs.Routes.{IsBelow}
-use Rattle.gl_graph.specs.Shapes.{is_adopted, keys_in}
-use Rattle.gl_graph.proofs.Unrefused.{or_no}
-use Rattle.gl_model.specs.Lawful.{EffS, IsLawful, SameBelow}
-use Rattle.gl_model.specs.State.{State, lives}
-use Rattle.gl_model.specs.Tellings.{Told}
-use Rattle.gl_steps.specs.declared.command.Answer.{Answer}
-use Rattle.gl_steps.specs.declared.command.Command.{Command}
+use Rattle.gl_modes.proofs.Words.{not_true}
 use Rattle.gl_steps.specs.declared.command.Command.TheVariants as command
-use Rattle.gl_steps.specs.Promises.{Adopts, Forgets, LeavesBelow, OthersKeepBelow, OthersKeepFile, OthersLeaveBelow, SameBelowOf, SomeStep}
-use Rattle.gl_steps.specs.Promises.{is_of_rows, is_of_rows_of, names}
-use Rattle.gl_steps.specs.Step.{Run, Step}
+use Rattle.gl_steps.specs.Promises.{is_of_rows_of, LeavesBelow, OthersKeepBelow, OthersKeepFile, OthersLeaveBelow, SameBelowOf, SomeStep}
 use Rattle.gl_steps.proofs.KeptKinds.{KeepsKinds}
 use Rattle.gl_steps.proofs.OneStep.{step_keeps}
 use Rattle.gl_steps.proofs.OthersKeep.{birth_of, run_keeps}
-use Rattle.gl_steps.proofs.StepBelow.{StepBelow, above_stands, below_stands, file_stands, plain_below, read_stands, reads_on, rows_below}
+use Rattle.gl_steps.proofs.StepBelow.{above_stands, below_stands, file_stands, plain_below, read_stands, reads_on, rows_below, StepBelow}
 use Rattle.gl_steps.proofs.StepsKeepLaw.{runs_keep_law, steps_keep_law}
 
 -- Many steps.

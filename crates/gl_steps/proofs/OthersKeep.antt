@@ -1,29 +1,15 @@
 -- What others cannot do to a holder, over a run: its effective modes stay, and what lives on keeps its kind.
-use Rattle.std.specs.Prelude.{◌≡◌, ◌⊎◌, ℕ, ◌≤◌, Bool, true, false, ◌||◌, List, [], ◌∷◌, Option, Some, None, is_some}
-use Rattle.std.specs.List.{list_any}
-use Rattle.std.proofs.Common.{refl, sym, subst, ◌∙◌, arith, rules, inl, inr}
-use mathlib.Core.Bool.{true≢false}
-use Rattle.gl_modes.specs.declared.node.NodeId.{NodeId}
-use Rattle.gl_modes.specs.Modes.{is_at_least}
-use Rattle.gl_model.specs.declared.txn.TxnId.{TxnId}
-use Rattle.gl_model.specs.declared.answers.Effect.{Effect}
-use Rattle.gl_steps.specs.declared.command.Answer.{Answer}
-use Rattle.gl_steps.specs.declared.command.Command.{Command}
-use Rattle.gl_graph.specs.Graph.{Graph, Node, is_live, node_at, with_key}
-use Rattle.gl_graph.specs.Lawful.{IsLawfulGraph}
-use Rattle.gl_model.specs.State.{State, lives}
-use Rattle.gl_model.specs.Lawful.{IsLawful, effective, is_at_least_effect}
-use Rattle.gl_steps.specs.Step.{Run}
-use Rattle.gl_model.specs.Tellings.{Told}
-use Rattle.gl_steps.specs.Promises.{names, is_grant_to, is_of_rows, told_granted, OthersKeepEffects}
-use Rattle.gl_steps.proofs.ToldGrants.{tells, tells_grant, any_weaker}
-use Rattle.gl_model.proofs.telling.Follows.{SameGrants, GrantedTo}
-use Rattle.gl_steps.proofs.Keeps.{Keeps, ToldGrant, grown, effect_refl}
+use Rattle.gl_steps.proofs.Words.{[], ◌||◌, ◌∙◌, ◌∷◌, ◌≡◌, ◌≤◌, ◌⊎◌, Answer, arith, at_least-refl, Bool, Command, Effect, effective, false, GrantedTo, Graph}
+use Rattle.gl_steps.proofs.Words.{inl, inr, is_at_least, is_at_least_effect, is_grant_to, is_live, is_of_rows, is_some, IsLawful, IsLawfulGraph, List, list_any}
+use Rattle.gl_steps.proofs.Words.{lives, names, Node, node_at, NodeId, None, Option, or_no, refl, rules, Run, SameGrants, Some, State, subst, sym, Told, true}
+use Rattle.gl_steps.proofs.Words.{true≢false, TxnId, with_key, ℕ}
+use Rattle.gl_steps.specs.Promises.{OthersKeepEffects, told_granted}
+use Rattle.gl_steps.proofs.ToldGrants.{any_weaker, tells, tells_grant}
+use Rattle.gl_steps.proofs.Keeps.{effect_refl, grown, Keeps, ToldGrant}
 use Rattle.gl_steps.proofs.KeptKinds.{KeepsKinds, kind_trans, kinds_same}
 use Rattle.gl_steps.proofs.OneStep.{step_keeps}
 use Rattle.gl_steps.proofs.StepsKeepLaw.{steps_keep_law}
-use Rattle.gl_modes.proofs.ModeLemmas.{at_least-refl, at_least-transitive}
-use Rattle.gl_graph.proofs.Unrefused.{or_no}
+use Rattle.gl_modes.proofs.ModeLemmas.{at_least-transitive}
 
 -- the same of many steps
 pub record KeepsOver (s s' : State) (t : TxnId) (granted : Bool) : Type 0 where

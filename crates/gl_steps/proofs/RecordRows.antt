@@ -1,15 +1,12 @@
 -- Worked rows with records: the rule of the graph, effective modes, keys that change, escalation, records that are added and removed.
-use Rattle.std.specs.Prelude.{[], ◌∷◌, ◌++◌}
-use Rattle.std.proofs.Common.{refl}
-use Rattle.gl_modes.specs.declared.mode.Mode.TheVariants.{NL, IS, IX, S, X}
+use Rattle.gl_steps.proofs.Words.{◌++◌, [], ◌∷◌, AtBlock, IS, IX, NL, refl, S, X}
 use Rattle.gl_modes.specs.declared.refusal.Refusal.TheVariants as no
-use Rattle.gl_model.specs.declared.answers.Detect.TheVariants.{AtBlock}
 use Rattle.gl_model.specs.declared.answers.Effect.TheVariants as effect
 use Rattle.gl_model.specs.declared.answers.Notice.TheVariants as notice
 use Rattle.gl_steps.specs.declared.command.Answer.TheVariants as answer
 use Rattle.gl_steps.specs.declared.command.Command.TheVariants as command
-use Rattle.gl_steps.proofs.RowWords.{Rows, a, b, begins, c, computed, db, done, f1, holds, i1, i1_0, i1_1, locks, locks_all, prelude, r1, r2, ref}
-use Rattle.gl_steps.proofs.RowWords.{refuses, says, tells, waits}
+use Rattle.gl_steps.proofs.RowWords.{a, b, begins, c, computed, db, done, f1, holds, i1, i1_0, i1_1, locks, locks_all, prelude, r1, r2, ref, refuses, Rows}
+use Rattle.gl_steps.proofs.RowWords.{says, tells, waits}
 
 -- X needs IX on every parent, S on one; a node is left after its children
 row_graph_rule : Rows AtBlock 1 (prelude ++

@@ -1,16 +1,10 @@
 -- For each refusal runs from the empty state in which it is the answer, by the commands that can answer it. The two that only a full graph and a worn
 -- out count can meet are in Limits.
-use Rattle.std.specs.Prelude.{[], ◌∷◌, ◌++◌}
-use Rattle.std.proofs.Common.{refl}
-use Rattle.gl_modes.specs.declared.mode.Mode.TheVariants.{NL, IS, IX, S, X}
-use Rattle.gl_modes.specs.declared.node.NodeId.{NodeId}
+use Rattle.gl_steps.proofs.Words.{◌++◌, [], ◌∷◌, AtBlock, ByWatcher, IS, IX, NL, NodeId, refl, S, TxnId, X}
 use Rattle.gl_modes.specs.declared.refusal.Refusal.TheVariants as no
-use Rattle.gl_model.specs.declared.answers.Detect.TheVariants.{AtBlock, ByWatcher}
-use Rattle.gl_model.specs.declared.txn.TxnId.{TxnId}
 use Rattle.gl_steps.specs.declared.command.Answer.TheVariants as answer
 use Rattle.gl_steps.specs.declared.command.Command.TheVariants as command
-use Rattle.gl_steps.proofs.RowWords.{Rows, a, b, begins, computed, db, f1, holds, i1, id, indexed, locks, locks_all, prelude, r1, ref, refuses}
-use Rattle.gl_steps.proofs.RowWords.{says, waits, z}
+use Rattle.gl_steps.proofs.RowWords.{a, b, begins, computed, db, f1, holds, i1, id, indexed, locks, locks_all, prelude, r1, ref, refuses, Rows, says, waits, z}
 
 -- names a node that never was, and a transaction that has ended
 abbrev nowhere : NodeId

@@ -1,32 +1,12 @@
 -- Rows are adopted and forgotten: the law of a state is kept, and only records without locks are added and removed.
-use Rattle.gl_steps.specs.Promises.{ChangesIdleRows, RowsComeAndGo, is_of_rows}
-use Rattle.gl_steps.specs.Step.{Accepts}
-use Rattle.gl_steps.specs.declared.command.Answer.{Answer}
-use Rattle.gl_steps.specs.declared.command.Command.{Command}
-use Rattle.gl_graph.proofs.Removed.{was_live}
-use Rattle.gl_graph.specs.Changes.{IsAdopted, without_node}
-use Rattle.gl_graph.specs.Graph.{Graph, Node, parents_in, record_parents, shape_in}
-use Rattle.gl_graph.specs.Shapes.{Rec, keys_in}
-use Rattle.gl_model.specs.Calls.{accepted_once}
-use Rattle.gl_model.specs.State.{with_graph}
-use Rattle.gl_model.specs.Tellings.{Told}
-use Rattle.std.specs.Prelude.{◌≡◌, ℕ, true, not, List, [], None}
-use denote.Bor.{Bor}
-use Rattle.std.proofs.Common.{refl, sym, ap, subst}
-use Rattle.gl_modes.proofs.Words.{clash}
-use Rattle.gl_modes.specs.declared.node.NodeId.{NodeId}
-use Rattle.gl_modes.specs.declared.refusal.Refusal.TheVariants as no
-use Rattle.gl_graph.specs.Graph.{shape_of}
-use Rattle.gl_graph.specs.Refusals.{record_refusal, where_true}
-use Rattle.gl_graph.specs.Shapes.{is_record_shape}
-use Rattle.gl_graph.proofs.Unrefused.{not_false, not_refused, test_fails}
-use Rattle.gl_model.specs.Calls.{is_idle, no_node}
-use Rattle.gl_model.specs.Lawful.{IsLawful}
-use Rattle.gl_model.specs.State.{State}
+use Rattle.gl_steps.proofs.Words.{◌≡◌, accepted_once, Accepts, Answer, ap, Bor, ChangesIdleRows, clash, Command, Graph, is_idle, is_of_rows, is_record_shape}
+use Rattle.gl_steps.proofs.Words.{IsAdopted, IsLawful, keys_in, List, Node, NodeId, None, none_refused, not_false, parents_in, Rec, record_parents}
+use Rattle.gl_steps.proofs.Words.{record_refusal, refl, refusal_of, shape_in, shape_of, State, subst, sym, test_fails, tests_of, Told, true, was_live}
+use Rattle.gl_steps.proofs.Words.{with_graph, without_node, ℕ}
+use Rattle.gl_steps.specs.Promises.{RowsComeAndGo}
 use Rattle.gl_model.proofs.law.Records.{adopted-lawful, forgotten-lawful}
 use Rattle.gl_model.proofs.law.Rows.{dead-idle, gone_is, left_was, row_came, row_keys, row_live, row_parents}
 use Rattle.gl_steps.specs.declared.command.Command.TheVariants as command
-use Rattle.gl_steps.specs.Tests.{refusal_of, worn}
 use Rattle.gl_steps.proofs.KeepsLaw.{KeepsLaw}
 use Rattle.gl_steps.proofs.MakeKeeps.{behind_worn}
 use Rattle.gl_steps.proofs.EachStep.{each_step}
@@ -42,11 +22,8 @@ pub record MayForget (s : State) (r : NodeId) : Type 0 where
 
 pub may_forget : (s : State) (r : NodeId) → refusal_of s (command.Forget r) ≡ None → MayForget s r
 may_forget s r free =
-    let t1 = not_refused (worn s) _ free in
-    let t2 = not_refused (no_node s r) _ t1.1 in
-    let t3 = not_refused (where_true (not (is_record_shape (shape_of s.graph r))) no.BadParents) _ t2.1 in
-    let t4 = not_refused (where_true (not (is_idle s r)) no.RecordInUse) [] t3.1 in
-    record { rec = not_false _ (test_fails _ _ t3.0); idle = not_false _ (test_fails _ _ t4.0) }
+    let ok = none_refused (tests_of s (command.Forget r)) free in
+    record { rec = not_false _ (test_fails _ _ (ok 2)); idle = not_false _ (test_fails _ _ (ok 3)) }
 
 pub forget_keeps : (r : NodeId) → KeepsLaw (command.Forget r)
 forget_keeps r s s' a told law free acc = let may = may_forget s r free in subst IsLawful (sym acc.2) (forgotten-lawful s law r may.rec may.idle)

@@ -1,36 +1,22 @@
 -- Which record an adopt makes and a forget removes: the one that is named, and no other.
-use Rattle.std.specs.Prelude.{◌≡◌, ℕ, zero, suc, ◌+◌, true, false, List, [], ◌∷◌, Some, is_some}
-use Rattle.std.proofs.Common.{refl, sym, ap, subst, ◌∙◌, arith}
+use Rattle.gl_steps.proofs.Words.{◌+◌, [], ◌∙◌, ◌∷◌, ◌≡◌, Adopts, Answer, ap, arith, Bor, born_node, clash, Command, false, first_in, first_parent, Forgets}
+use Rattle.gl_steps.proofs.Words.{is_adopted, is_file_shape, is_idle, is_live, is_of_rows, is_some, IsLawful, List, Node, node_at, NodeId, none_some}
+use Rattle.gl_steps.proofs.Words.{parents_in, record_parents, record_refusal, refl, shape_in, shape_of, Some, some_is, State, Step, subst, suc, sym, Told, true}
+use Rattle.gl_steps.proofs.Words.{was_live, with_graph, without_node, zero, ℕ}
 use Rattle.gl_modes.proofs.NodeLemmas.{node_is}
-use Rattle.gl_modes.proofs.Words.{clash, none_some, some_is}
-use Rattle.gl_modes.specs.declared.node.NodeId.{NodeId}
-use Rattle.gl_graph.specs.Changes.{born_node, without_node}
-use Rattle.gl_graph.specs.Graph.{Node, first_in, first_parent, is_live, node_at, parents_in, record_parents, shape_in, shape_of}
-use Rattle.gl_graph.specs.Shapes.{is_adopted, is_file_shape}
 use Rattle.gl_graph.proofs.Born.{old_or_new, old_same, place_in}
 use Rattle.gl_graph.proofs.KindRules.{file_plain, plain_live}
 use Rattle.gl_graph.proofs.Look.{live_node}
 use Rattle.gl_graph.proofs.Marked.{marked_first_parent, marked_is_adopted, marked_live}
-use Rattle.gl_graph.proofs.Removed.{was_live}
 use Rattle.gl_graph.proofs.Unrefused.{record_unrefused}
-use Rattle.gl_graph.specs.Refusals.{record_refusal}
-use Rattle.gl_model.specs.Calls.{is_idle}
-use Rattle.gl_model.specs.Lawful.{IsLawful}
-use Rattle.gl_model.specs.State.{State, with_graph}
-use Rattle.gl_model.specs.Tellings.{Told}
 use Rattle.gl_model.proofs.law.Rows.{dead-idle, gone_is, row_live, with_row}
-use denote.Bor.{Bor}
-use Rattle.gl_steps.specs.declared.command.Answer.{Answer}
 use Rattle.gl_steps.specs.declared.command.Answer.TheVariants as answer
-use Rattle.gl_steps.specs.declared.command.Command.{Command}
 use Rattle.gl_steps.specs.declared.command.Command.TheVariants as command
-use Rattle.gl_steps.specs.Promises.{Adopts, Forgets, is_of_rows}
-use Rattle.gl_steps.specs.Step.{Step}
 use Rattle.gl_steps.proofs.EachStep.{each_step}
 use Rattle.gl_steps.proofs.GraphCommands.{new_record}
 use Rattle.gl_steps.proofs.Made.{adopted, adopted_is}
 use Rattle.gl_steps.proofs.MakeKeeps.{behind_worn}
-use Rattle.gl_steps.proofs.RowKeeps.{MayForget, may_forget}
+use Rattle.gl_steps.proofs.RowKeeps.{may_forget, MayForget}
 
 -- what is added is adopted by the step, as a record of its file, which is marked, and what is removed is forgotten by it
 pub record NamesRows (s : State) (c : Command) (x : Answer × Told) (s' : State) : Type 0 where

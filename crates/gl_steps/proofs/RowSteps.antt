@@ -1,24 +1,13 @@
 -- Rows are adopted and forgotten: each step keeps a transaction, whose effective modes on the nodes that live on stay.
-use Rattle.std.specs.Prelude.{is_some}
-use Rattle.std.specs.Prelude.{◌≡◌, ◌≤◌, ℕ, true, List, [], ◌∷◌}
-use Rattle.std.proofs.Common.{sym, ap, subst, ◌∙◌, arith, inl}
-use mathlib.Core.Bool.{true≢false}
-use Rattle.gl_modes.specs.declared.node.NodeId.{NodeId}
-use Rattle.gl_graph.specs.Changes.{born_node, without_node}
-use Rattle.gl_graph.specs.Graph.{Graph, is_live, record_parents, shape_of}
-use Rattle.gl_graph.specs.Shapes.{is_record_shape}
+use Rattle.gl_steps.proofs.Words.{[], ◌∙◌, ◌∷◌, ◌≡◌, ◌≤◌, accepted_once, ap, arith, born_node, effective, Graph, inl, is_at_least_effect, is_live}
+use Rattle.gl_steps.proofs.Words.{is_record_shape, is_some, IsLawful, List, live_by, lives, NodeId, record_parents, shape_of, State, subst, sym, Told, true}
+use Rattle.gl_steps.proofs.Words.{true≢false, TxnId, was_live, with_graph, without_node, ℕ}
 use Rattle.gl_graph.proofs.Marked.{marked_live}
-use Rattle.gl_graph.proofs.Removed.{was_live}
-use Rattle.gl_model.specs.declared.txn.TxnId.{TxnId}
-use Rattle.gl_model.specs.Calls.{accepted_once}
-use Rattle.gl_model.specs.Lawful.{IsLawful, effective, is_at_least_effect}
-use Rattle.gl_model.specs.State.{State, live_by, lives, with_graph}
-use Rattle.gl_model.specs.Tellings.{Told}
-use Rattle.gl_model.proofs.law.Rows.{LeavesParents, effective_left, forgotten_leaves, row_leaves}
+use Rattle.gl_model.proofs.law.Rows.{effective_left, forgotten_leaves, LeavesParents, row_leaves}
 use Rattle.gl_steps.proofs.GraphChanges.{born_nodes_at, born_nodes_births}
 use Rattle.gl_steps.proofs.GraphCommands.{new_record}
-use Rattle.gl_steps.proofs.Keeps.{Keeps, effect_refl}
-use Rattle.gl_steps.proofs.KeptKinds.{KeepsKinds, forgotten_kinds, row_kinds}
+use Rattle.gl_steps.proofs.Keeps.{effect_refl, Keeps}
+use Rattle.gl_steps.proofs.KeptKinds.{forgotten_kinds, KeepsKinds, row_kinds}
 use Rattle.gl_steps.proofs.Made.{adopted}
 
 module _ (s : State) (law : IsLawful s) (t : TxnId) (alive : lives s t ≡ true) (next : State) (law' : IsLawful (accepted_once next)) (told' : Told) where

@@ -1,23 +1,8 @@
 -- Words for worked rows: commands with what is answered to them, as runs from the empty state.
-use Rattle.gl_waits.specs.declared.victims.Victims.TheVariants.{Youngest}
-use Rattle.std.specs.Prelude.{◌≡◌, ℕ, ◌-◌, List, [], ◌∷◌, ◌++◌, map}
-use Rattle.std.proofs.Common.{subst}
-use denote.Bor.{Bor}
-use Rattle.gl_modes.specs.declared.mode.Mode.{Mode}
-use Rattle.gl_modes.specs.declared.mode.Mode.TheVariants.{IX}
-use Rattle.gl_modes.specs.declared.node.NodeId.{NodeId}
-use Rattle.gl_modes.specs.declared.refusal.Refusal.{Refusal}
-use Rattle.gl_model.specs.declared.txn.TxnId.{TxnId}
-use Rattle.gl_model.specs.declared.answers.Detect.{Detect}
-use Rattle.gl_model.specs.declared.answers.Notice.{Notice}
-use Rattle.gl_steps.specs.declared.command.Answer.{Answer}
+use Rattle.gl_steps.proofs.Words.{◌++◌, ◌-◌, [], ◌∷◌, ◌≡◌, Answer, Bor, Command, Detect, empty-lawful, empty_state, IX, List, map, Mode, NodeId, Notice}
+use Rattle.gl_steps.proofs.Words.{Refusal, Run, State, subst, Told, TxnId, Youngest, ℕ}
 use Rattle.gl_steps.specs.declared.command.Answer.TheVariants as answer
-use Rattle.gl_steps.specs.declared.command.Command.{Command}
 use Rattle.gl_steps.specs.declared.command.Command.TheVariants as command
-use Rattle.gl_model.specs.State.{State, empty_state}
-use Rattle.gl_model.specs.Tellings.{Told}
-use Rattle.gl_steps.specs.Step.{Run}
-use Rattle.gl_model.proofs.law.Takes.{empty-lawful}
 use Rattle.gl_steps.proofs.Execute.{after, replies}
 use Rattle.gl_steps.proofs.ExecuteIsStep.{execute_runs}
 

@@ -1,15 +1,11 @@
 -- Worked rows of a schema that changes: how a drop is refused, its notices, and an index that its maker holds.
-use Rattle.std.specs.Prelude.{[], ◌∷◌, ◌++◌}
-use Rattle.std.proofs.Common.{refl}
-use Rattle.gl_modes.specs.declared.mode.Mode.TheVariants.{IS, IX, X}
-use Rattle.gl_modes.specs.declared.node.NodeId.{NodeId}
+use Rattle.gl_steps.proofs.Words.{◌++◌, [], ◌∷◌, AtBlock, IS, IX, NodeId, refl, X}
 use Rattle.gl_modes.specs.declared.refusal.Refusal.TheVariants as no
-use Rattle.gl_model.specs.declared.answers.Detect.TheVariants.{AtBlock}
 use Rattle.gl_model.specs.declared.answers.Notice.TheVariants as notice
 use Rattle.gl_steps.specs.declared.command.Answer.TheVariants as answer
 use Rattle.gl_steps.specs.declared.command.Command.TheVariants as command
-use Rattle.gl_steps.proofs.RowWords.{Rows, a, b, begins, computed, db, done, f1, holds, i1, i1_0, i1_1, id, indexed, locks, locks_all, prelude, r1, r2}
-use Rattle.gl_steps.proofs.RowWords.{ref, refuses, roots, says, tells, waits, z}
+use Rattle.gl_steps.proofs.RowWords.{a, b, begins, computed, db, done, f1, holds, i1, i1_0, i1_1, id, indexed, locks, locks_all, prelude, r1, r2, ref, refuses}
+use Rattle.gl_steps.proofs.RowWords.{roots, Rows, says, tells, waits, z}
 
 -- the index that is made again, with the key of the first node that was freed
 abbrev again : NodeId

@@ -1,29 +1,14 @@
 -- A schema changes under the lock of another: nodes are dropped, and an index is made that its maker holds. What it leaves to a holder t.
-use Rattle.std.specs.Prelude.{◌≡◌, ◌≢◌, ℕ, Bool, true, false, not, ◌&&◌, List, [], ◌∷◌, Option, Some, None, is_some, if◌then◌else◌}
-use Rattle.std.specs.List.{list_all, list_any}
-use Rattle.std.proofs.Common.{refl, sym, ap, ap₂, subst, ◌∙◌, arith, rules}
-use Rattle.gl_modes.proofs.Words.{clash, no, not_true, or_elim, split}
-use Rattle.gl_modes.proofs.NodeLemmas.{same_node-equal}
-use Rattle.gl_modes.specs.declared.mode.Mode.{Mode}
-use Rattle.gl_modes.specs.declared.mode.Mode.TheVariants.{IS, NL, X}
-use Rattle.gl_modes.specs.declared.node.NodeId.{NodeId}
-use Rattle.gl_modes.specs.Modes.{is_at_least, same_mode}
-use Rattle.gl_modes.specs.Nodes.{same_node}
-use Rattle.gl_graph.specs.Changes.{born_index, interval_nodes, without_branch}
-use Rattle.gl_graph.specs.Graph.{Graph, Node, is_child, is_live, node_at, node_count, parents_in, shape_of}
-use Rattle.gl_graph.specs.Refusals.{is_in_use}
-use Rattle.gl_graph.specs.Routes.{IsRoute}
-use Rattle.gl_graph.specs.Shapes.{Index, is_movable_shape}
+use Rattle.gl_steps.proofs.Words.{◌&&◌, [], ◌∙◌, ◌∷◌, ◌≡◌, ◌≢◌, accepted_once, ap, ap₂, arith, Bool, born_index, clash, dropped, EffX, false, freed_among}
+use Rattle.gl_steps.proofs.Words.{goes_with, Graph, GraphStep, if◌then◌else◌, Index, interval_nodes, IS, is_at_least, is_child, is_in_use, is_live}
+use Rattle.gl_steps.proofs.Words.{is_movable_shape, is_read, is_some, IsLawful, IsRoute, List, list_all, list_any, live_by, lives, Mode, NL, no, no_parents}
+use Rattle.gl_steps.proofs.Words.{Node, node_at, node_count, NodeId, None, not, Option, or_elim, parents_in, ReadOn, refl, rules, same_mode, same_node}
+use Rattle.gl_steps.proofs.Words.{same_node-equal, SameGrants, shape_of, Some, split, State, subst, sym, Told, true, Txn, TxnId, with_grant, with_graph}
+use Rattle.gl_steps.proofs.Words.{without_branch, X, ℕ}
+use Rattle.gl_modes.proofs.Words.{not_true}
 use Rattle.gl_graph.proofs.Branch.{left_is, left_live, left_was_live, live}
-use Rattle.gl_model.specs.declared.txn.TxnId.{TxnId}
-use Rattle.gl_model.specs.Calls.{accepted_once, dropped, freed_among, goes_with}
-use Rattle.gl_model.specs.Lawful.{EffX, IsLawful, is_read}
-use Rattle.gl_model.specs.State.{State, Txn, live_by, lives, no_parents, with_grant, with_graph}
-use Rattle.gl_model.specs.Tellings.{Told}
-use Rattle.gl_model.proofs.law.Effects.{ReadOn, none_held}
+use Rattle.gl_model.proofs.law.Effects.{none_held}
 use Rattle.gl_model.proofs.law.Schema.{only_parent}
-use Rattle.gl_model.proofs.law.Searches.{GraphStep}
-use Rattle.gl_model.proofs.telling.Follows.{SameGrants}
 use Rattle.gl_steps.proofs.GraphChanges.{born_births, born_kinds, born_old, born_step, is_new, quiet_under, x_here, x_on_parents}
 use Rattle.gl_steps.proofs.GraphCommands.{plain_intervals}
 use Rattle.gl_steps.proofs.Keeps.{Keeps, keeps_graph}

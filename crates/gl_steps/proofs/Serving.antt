@@ -1,27 +1,15 @@
 -- A step counts a command exactly if it accepts it.
-use Rattle.std.specs.Prelude.{◌≡◌, ◌+◌, Bool, true, false, not, ◌&&◌, Option, Some, None}
-use Rattle.std.proofs.Common.{refl, ap, ⊎_elim, ◌∙◌}
-use Rattle.gl_modes.specs.declared.mode.Mode.{Mode}
-use Rattle.gl_modes.specs.declared.refusal.Refusal.{Refusal}
+use Rattle.gl_steps.proofs.Words.{◌&&◌, ◌+◌, ◌∙◌, ◌≡◌, ⊎_elim, Accepts, Active, Answer, Answers, ap, Bool, Command, false, Goes, lock_answer, may_lack_memory}
+use Rattle.gl_steps.proofs.Words.{Mode, None, not, Option, query_answer, refl, Refusal, refusal_of, Some, State, Status, status_of, Step, Told, true, Unchanged}
 use Rattle.gl_modes.specs.declared.refusal.Refusal.TheVariants as no
-use Rattle.gl_model.specs.declared.txn.Status.{Status}
-use Rattle.gl_model.specs.declared.txn.Status.TheVariants.{Active, Waiting, Condemned}
-use Rattle.gl_model.specs.State.{State, status_of}
-use Rattle.gl_model.specs.Tellings.{Told}
-use Rattle.gl_steps.specs.declared.command.Answer.{Answer}
 use Rattle.gl_steps.specs.declared.command.Answer.TheVariants as answer
-use Rattle.gl_steps.specs.declared.command.Command.{Command}
 use Rattle.gl_steps.specs.declared.command.Command.TheVariants as command
-use Rattle.gl_steps.specs.Step.{Accepts, Answers, Goes, Step, Unchanged, lock_answer, query_answer}
-use Rattle.gl_steps.specs.Tests.{may_lack_memory, refusal_of}
 use Rattle.gl_steps.proofs.Accepting.{accepting_keeps_count}
-use Rattle.gl_steps.specs.Served.{Counts, accepts, is_query, is_refused}
+use Rattle.gl_steps.specs.Served.{accepts, Counts, is_query, is_refused}
 
 lock_not_refused : (m : Mode) (o : Option Status) → is_refused (lock_answer m o) ≡ false
-lock_not_refused m None = refl
 lock_not_refused m (Some Active) = refl
-lock_not_refused m (Some (Waiting n w)) = refl
-lock_not_refused m (Some Condemned) = refl
+lock_not_refused m o = refl
 
 -- an accepted command is not answered with a refusal
 not_refused : (s : State) (c : Command) (a : Answer) (told : Told) (s' : State) → Accepts s c a told s' → is_refused a ≡ false

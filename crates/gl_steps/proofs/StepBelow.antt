@@ -1,24 +1,11 @@
 -- What one step leaves below what a transaction reads, if it does not name it.
-use Rattle.std.specs.Prelude.{◌≡◌, ◌⊎◌, ℕ, Bool, true, false, not, List, [], ◌∷◌}
-use Rattle.std.specs.List.{list_any}
-use Rattle.std.proofs.Common.{refl, sym, ap, ◌∙◌, inl, inr, ⊎_elim}
-use Rattle.gl_modes.proofs.NodeLemmas.{same_node-refl}
-use Rattle.gl_modes.proofs.Words.{clash, no, or_left}
-use Rattle.gl_modes.specs.declared.node.NodeId.{NodeId}
-use Rattle.gl_modes.specs.Nodes.{same_node}
-use Rattle.gl_graph.specs.Graph.{Graph, first_in, first_parent, is_child, is_live, node_count, parents_of, shape_of}
-use Rattle.gl_graph.specs.Lawful.{IsLawfulGraph}
-use Rattle.gl_graph.specs.Routes.{IsBelow, IsRoute}
-use Rattle.gl_graph.specs.Shapes.{is_adopted, is_record_shape}
+use Rattle.gl_steps.proofs.Words.{[], ◌∙◌, ◌∷◌, ◌≡◌, ◌⊎◌, ⊎_elim, Adopts, Answer, ap, Bool, ChangesIdleRows, clash, Command, eff_s, eff_s_route, eff_x}
+use Rattle.gl_steps.proofs.Words.{effective, EffS, false, first_in, first_parent, Forgets, Graph, inl, inr, is_adopted, is_at_least_effect, is_child, is_live}
+use Rattle.gl_steps.proofs.Words.{is_of_rows, is_record_shape, IsBelow, IsLawful, IsLawfulGraph, IsRoute, List, list_any, no, no_parents, node_count, NodeId}
+use Rattle.gl_steps.proofs.Words.{not, or_left, parents_of, read_on_eff, refl, same_node, same_node-refl, SameBelow, shape_of, State, Step, sym, Told, true, ℕ}
 use Rattle.gl_graph.proofs.Removed.{rec_live}
-use Rattle.gl_model.specs.Lawful.{EffS, IsLawful, SameBelow, eff_s, eff_x, effective, is_at_least_effect}
-use Rattle.gl_model.specs.State.{State, no_parents}
-use Rattle.gl_model.specs.Tellings.{Told}
-use Rattle.gl_model.proofs.law.Effects.{eff_s_route, eff_x_route, read_on_eff}
-use Rattle.gl_steps.specs.declared.command.Answer.{Answer}
-use Rattle.gl_steps.specs.declared.command.Command.{Command}
-use Rattle.gl_steps.specs.Promises.{Adopts, ChangesIdleRows, Forgets, StaysBelow, is_of_rows}
-use Rattle.gl_steps.specs.Step.{Step}
+use Rattle.gl_model.proofs.law.Effects.{eff_x_route}
+use Rattle.gl_steps.specs.Promises.{StaysBelow}
 use Rattle.gl_steps.proofs.Keeps.{effect_of, read_lives}
 use Rattle.gl_steps.proofs.KeptKinds.{KeepsKinds}
 use Rattle.gl_steps.proofs.NotRefused.{record_has_parents}

@@ -1,16 +1,13 @@
 -- Each step of each command keeps the law of a state, and so does each run.
-use Rattle.std.specs.Prelude.{◌+◌, [], ◌∷◌}
-use Rattle.std.proofs.Common.{sym, subst}
-use Rattle.gl_steps.specs.declared.command.Command.{Command}
+use Rattle.gl_steps.proofs.Words.{◌+◌, [], ◌∷◌, Command, IsLawful, subst, sym}
 use Rattle.gl_steps.specs.declared.command.Command.TheVariants as command
-use Rattle.gl_model.specs.Lawful.{IsLawful}
-use Rattle.gl_steps.specs.Promises.{StepsKeepLaw, RunsKeepLaw}
+use Rattle.gl_steps.specs.Promises.{RunsKeepLaw, StepsKeepLaw}
 use Rattle.gl_steps.proofs.Counting.{lawful_counting}
 use Rattle.gl_steps.proofs.EachStep.{each_step}
 use Rattle.gl_steps.proofs.KeepsLaw.{KeepsLaw}
-use Rattle.gl_steps.proofs.LockCommands.{begin_keeps, lock_keeps, try_keeps, unlock_keeps, escalate_keeps, cancel_keeps, commit_keeps, abort_keeps}
-use Rattle.gl_steps.proofs.LockCommands.{begin_again_keeps, renew_keeps, settle_keeps}
-use Rattle.gl_steps.proofs.MakeKeeps.{inner_keeps, file_keeps, index_keeps, insert_keeps}
+use Rattle.gl_steps.proofs.LockCommands.{abort_keeps, begin_again_keeps, begin_keeps, cancel_keeps, commit_keeps, escalate_keeps, lock_keeps, renew_keeps}
+use Rattle.gl_steps.proofs.LockCommands.{settle_keeps, try_keeps, unlock_keeps}
+use Rattle.gl_steps.proofs.MakeKeeps.{file_keeps, index_keeps, inner_keeps, insert_keeps}
 use Rattle.gl_steps.proofs.DeleteKeeps.{delete_keeps}
 use Rattle.gl_steps.proofs.MoveCommands.{move_keeps, rekey_keeps}
 use Rattle.gl_steps.proofs.SchemaKeeps.{drop_keeps_law, index_by_keeps_law}
@@ -36,13 +33,11 @@ accepted_keeps (command.Insert t f keys) = insert_keeps t f keys
 accepted_keeps (command.Delete t r) = delete_keeps t r
 accepted_keeps (command.Rekey t r i key) = rekey_keeps t r i key
 accepted_keeps (command.Move t n ps) = move_keeps t n ps
-accepted_keeps (command.Group n) = λ s s' a told law free acc. absurd acc
-accepted_keeps (command.Held t n) = λ s s' a told law free acc. absurd acc
-accepted_keeps (command.Effective t n) = λ s s' a told law free acc. absurd acc
 accepted_keeps (command.Adopt f keys) = adopt_keeps f keys
 accepted_keeps (command.Forget r) = forget_keeps r
 accepted_keeps (command.Drop t n) = drop_keeps_law t n
 accepted_keeps (command.IndexBy t ps f bs) = index_by_keeps_law t ps f bs
+accepted_keeps c = λ s s' a told law free acc. absurd acc
 
 pub steps_keep_law : StepsKeepLaw
 steps_keep_law s s' c a told law step =

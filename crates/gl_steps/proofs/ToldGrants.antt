@@ -1,29 +1,13 @@
 -- One that was granted a mode for which it waited is told so.
-use Rattle.std.specs.Prelude.{◌≡◌, ◌≢◌, ℕ, zero, suc, ◌+◌, ◌<◌, ◌≤◌, Bool, true, false, not, ◌&&◌, ◌||◌, ◌==◌, List, [], ◌∷◌, Option, Some, None}
-use Rattle.std.specs.Prelude.{if◌then◌else◌, is_some}
-use Rattle.std.specs.List.{cons_option, filter, filter_map, list_any, range_with_len}
-use Rattle.std.proofs.Common.{refl, sym, ap, ap₂, ◌∙◌, arith, ⊎_elim}
-use Rattle.std.proofs.lemmas.Bool.{cases_eq}
-use Rattle.std.proofs.lemmas.Bool.Decides.{nat_tests}
-use mathlib.Core.Bool.{true≢false}
-use Rattle.gl_modes.proofs.Words.{split, or_elim, and_both}
-use Rattle.gl_modes.specs.declared.mode.Mode.{Mode}
-use Rattle.gl_modes.specs.declared.node.NodeId.{NodeId}
-use Rattle.gl_model.specs.declared.txn.TxnId.{TxnId}
-use Rattle.gl_model.specs.declared.answers.Notice.{Notice}
+use Rattle.gl_steps.proofs.Words.{◌&&◌, ◌+◌, ◌<◌, ◌==◌, [], ◌||◌, ◌∙◌, ◌∷◌, ◌≡◌, ◌≢◌, ◌≤◌, ⊎_elim, addressed, age_in, age_of, and_both, ap, ap₂, arith, Bool}
+use Rattle.gl_steps.proofs.Words.{cases_eq, false, filter, GrantedTo, if◌then◌else◌, is_grant_to, is_live, is_some, IsLawful, List, list_any, live_by, lives}
+use Rattle.gl_steps.proofs.Words.{Mode, nat_tests, NodeId, None, not, Notice, notice_of, Option, or-true, or_elim, range_with_len, refl, same_mode, same_node}
+use Rattle.gl_steps.proofs.Words.{same_node-refl, same_txn, Some, split, State, status_of, suc, sym, told, told_but, told_from, true, true≢false, Txn, TxnId}
+use Rattle.gl_steps.proofs.Words.{zero, ℕ}
+use Rattle.std.specs.List.{cons_option, filter_map}
 use Rattle.gl_model.specs.declared.answers.Notice.TheVariants as notice
-use Rattle.gl_graph.specs.Graph.{is_live}
-use Rattle.gl_modes.specs.Nodes.{same_node}
-use Rattle.gl_modes.specs.Modes.{same_mode}
-use Rattle.gl_model.specs.State.{State, Txn, lives, live_by, status_of, age_of, age_in}
-use Rattle.gl_model.specs.Lawful.{IsLawful}
-use Rattle.gl_model.specs.Tellings.{told, told_but, told_from, notice_of, addressed}
-use Rattle.gl_steps.specs.Promises.{is_grant_to, same_txn}
 use Rattle.gl_model.proofs.queues.Waiters.{one_among}
-use Rattle.gl_model.proofs.telling.Follows.{GrantedTo}
-use Rattle.gl_modes.proofs.NodeLemmas.{same_node-refl}
 use Rattle.gl_modes.proofs.ModeLemmas.{same_mode-refl}
-use Rattle.std.proofs.Math.Bool.{or-true}
 
 -- a notice to t of this grant
 abbrev pub tells : TxnId → NodeId → Mode → TxnId × Notice → Bool
@@ -33,9 +17,7 @@ tells t n m (u, x) = false
 -- a notice of this grant is a notice of a grant
 pub tells_grant : (t : TxnId) (n : NodeId) (m : Mode) (x : TxnId × Notice) → tells t n m x ≡ true → is_grant_to t x ≡ true
 tells_grant t n m (u, notice.Granted q w) h = (and_both _ _ h).0
-tells_grant t n m (u, notice.Victim) h = h
-tells_grant t n m (u, notice.Moved) h = h
-tells_grant t n m (u, notice.Gone) h = h
+tells_grant t n m x h = h
 
 -- a weaker test passes too
 pub any_weaker : {Y : Type 0} (p q : Y → Bool) (xs : List Y) → ((y : Y) → p y ≡ true → q y ≡ true) → list_any p xs ≡ true → list_any q xs ≡ true
@@ -100,9 +82,7 @@ module _ (s s' : State) (law : IsLawful s) (t : TxnId) (alive : lives s t ≡ tr
       let both = and_both _ _ h in
       let same : t.slot ≡ v.slot = (let e : (t.slot == v.slot) ≡ true = both.0 in grind (arith, nat_tests)) in
       split (v.slot == u) (λ e. let at : v.slot ≡ u = grind (arith, nat_tests) in absurd (ne (sym (same ∙ at)))) (λ e. ap not e)
-  other_told u ne (v, notice.Victim) h = absurd (true≢false (sym h))
-  other_told u ne (v, notice.Moved) h = absurd (true≢false (sym h))
-  other_told u ne (v, notice.Gone) h = absurd (true≢false (sym h))
+  other_told u ne x h = absurd (true≢false (sym h))
 
   -- and so has the list without the caller's
   pub told_but_of_grant : (u : ℕ) → u ≢ t.slot → list_any (tells t g.node g.mode) (told_but u s s') ≡ true

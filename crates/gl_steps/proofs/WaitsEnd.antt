@@ -1,53 +1,31 @@
 -- A wait that a step ends is told, or its transaction is named by a cancel or an abort.
-use Rattle.std.specs.Prelude.{◌≡◌, ◌≢◌, ℕ, ◌+◌, Bool, true, false, not, ◌&&◌, ◌||◌, ◌==◌, Option, Some, None, if◌then◌else◌, min, ◌⊎◌, [], ◌∷◌, is_some}
-use Rattle.std.specs.List.{filter, list_any}
-use Rattle.std.proofs.Common.{refl, sym, ap, ap₂, arith, subst, ◌∙◌, inl, inr, ⊎_elim}
-use Rattle.std.proofs.lemmas.Bool.Decides.{nat_tests}
-use mathlib.Core.Bool.{true≢false}
-use Rattle.gl_modes.proofs.Words.{and_both, both, none_some, or_left, or_right, split, or_elim, clash, number_same, no}
-use Rattle.gl_modes.specs.declared.mode.Mode.{Mode}
-use Rattle.gl_modes.specs.declared.mode.Mode.TheVariants.{NL}
-use Rattle.gl_modes.specs.declared.node.NodeId.{NodeId}
-use Rattle.gl_modes.specs.Modes.{same_mode}
-use Rattle.gl_modes.specs.Nodes.{same_node}
-use Rattle.gl_modes.proofs.NodeLemmas.{same_node-refl, same_node-equal, same_node-sym}
-use Rattle.gl_graph.specs.Graph.{is_live, Graph, with_key, Node, parents_in, is_child}
-use Rattle.gl_graph.specs.Changes.{rekeyed_parents, without_node, without_branch}
-use Rattle.gl_header.specs.Header.{holds, is_among_waiters}
-use Rattle.gl_model.specs.declared.answers.Notice.{Notice}
+use Rattle.gl_steps.proofs.Words.{◌&&◌, ◌+◌, ◌==◌, [], ◌||◌, ◌∙◌, ◌∷◌, ◌≡◌, ◌≢◌, ◌⊎◌, ⊎_elim, Accepts, Active, addressed, age_of, and_both, Answer, ap, ap₂}
+use Rattle.gl_steps.proofs.Words.{arith, Bool, both, clash, Command, Condemned, enqueued, enters_at, false, filter, Follows, follows_trans, freed, freed_among}
+use Rattle.gl_steps.proofs.Words.{freed_unless, goes_with, granted, granted_at, Graph, holds, if◌then◌else◌, inl, inr, is_among_waiters, is_child, is_covered}
+use Rattle.gl_steps.proofs.Words.{is_live, is_some, is_waiting_at, IsLawful, list_any, live_by, lives, Locks, members, min, Mode, nat_tests, NL, no, no_txn}
+use Rattle.gl_steps.proofs.Words.{Node, NodeId, None, none_among, none_some, not, Notice, notice_of, Option, or_elim, or_left, or_right, parents_in, raised}
+use Rattle.gl_steps.proofs.Words.{refl, rekeyed_parents, released, restatus, same_mode, same_node, same_node-equal, same_node-refl, same_txn, Some, split}
+use Rattle.gl_steps.proofs.Words.{State, Status, status_in, status_of, stays, Step, stripped, subst, sym, tests_of, Told, told, told_but, told_from, true}
+use Rattle.gl_steps.proofs.Words.{true≢false, Txn, TxnId, Waiting, waiting_test, waits_at, WaitsWell, wanted, with_grant, with_key, without_branch}
+use Rattle.gl_steps.proofs.Words.{without_node, woken, ℕ}
+use Rattle.gl_modes.proofs.Words.{number_same}
+use Rattle.gl_modes.proofs.NodeLemmas.{same_node-sym}
 use Rattle.gl_model.specs.declared.answers.Notice.TheVariants as notice
-use Rattle.gl_model.specs.declared.txn.Status.{Status}
-use Rattle.gl_model.specs.declared.txn.Status.TheVariants.{Active, Waiting, Condemned}
-use Rattle.gl_model.specs.declared.txn.TxnId.{TxnId}
-use Rattle.gl_model.specs.Calls.{Locks, enqueued, enters_at, granted, raised, released, stays, wanted, is_covered, no_txn, waiting_test, freed_among, freed}
-use Rattle.gl_model.specs.Calls.{none_among}
-use Rattle.gl_model.specs.Calls.{freed_unless}
-use Rattle.gl_model.specs.Lawful.{IsLawful}
-use Rattle.gl_model.specs.State.{granted_at, is_waiting_at, waits_at, woken}
-use Rattle.gl_model.specs.State.{State, Txn, age_of, live_by, lives, members, restatus, status_in, status_of, with_grant}
-use Rattle.gl_model.specs.Tellings.{stripped, Told, addressed, notice_of, told, told_but, told_from}
 use Rattle.gl_model.proofs.law.Keeps.{waiting_is}
-use Rattle.gl_steps.specs.declared.command.Answer.{Answer}
-use Rattle.gl_steps.specs.declared.command.Command.{Command}
 use Rattle.gl_steps.specs.declared.command.Command.TheVariants as command
-use Rattle.gl_steps.specs.Promises.{EndsWaits, ends_wait_of, is_told, same_txn, waits_on, is_told_that, same_notice, IsToldEnd, moves_node}
+use Rattle.gl_steps.specs.Promises.{ends_wait_of, EndsWaits, is_told, is_told_that, IsToldEnd, moves_node, same_notice, waits_on}
 use Rattle.gl_steps.proofs.Beginning.{Begins}
-use Rattle.gl_steps.specs.Step.{Accepts, Step}
-use Rattle.gl_steps.specs.Tests.{tests_of}
 use Rattle.gl_steps.proofs.EachStep.{each_step}
 use Rattle.gl_steps.proofs.GrantCommands.{free_differs}
-use Rattle.gl_model.specs.Calls.{goes_with}
-use Rattle.gl_steps.proofs.LivesOn.{GoesOn, LivesOn, freed_on, lives_on_same, lives_on_trans, over_goes_on, pumped_goes_on, settled_goes_on, freed_among_on}
+use Rattle.gl_steps.proofs.LivesOn.{freed_among_on, freed_on, GoesOn, lives_on_same, lives_on_trans, LivesOn, over_goes_on, pumped_goes_on, settled_goes_on}
 use Rattle.gl_steps.proofs.LivesOn.{unless_on, wait_settles_goes_on, woken_on}
 use Rattle.gl_steps.proofs.NotRefused.{differ, txn_lives}
-use Rattle.gl_steps.proofs.OneStep.{AllNone, all_none}
-use Rattle.gl_steps.proofs.OtherChanges.{begun_other, other, with_grant_follows, enqueued_follows, settled_follows, wait_settles_follows, released_follows}
-use Rattle.gl_steps.proofs.OtherChanges.{cancelled_follows}
-use Rattle.gl_steps.proofs.OtherChanges.{unlocked_follows}
-use Rattle.gl_steps.proofs.OtherChanges.{escalated_follows}
+use Rattle.gl_steps.proofs.OneStep.{all_none, AllNone}
+use Rattle.gl_steps.proofs.OtherChanges.{begun_other, cancelled_follows, enqueued_follows, escalated_follows, other, released_follows, settled_follows}
+use Rattle.gl_steps.proofs.OtherChanges.{unlocked_follows, wait_settles_follows, with_grant_follows}
 use Rattle.gl_steps.proofs.ToldGrants.{age_is, any_filtered, any_mapped, txn_there}
 use Rattle.gl_modes.proofs.ModeLemmas.{same_mode-refl}
-use Rattle.gl_model.proofs.telling.Follows.{Follows, WaitsWell, lawful_waits, follows_trans}
+use Rattle.gl_model.proofs.telling.Follows.{lawful_waits}
 
 -- each notice is itself
 same_notice-refl : (x : Notice) → same_notice x x ≡ true
@@ -279,10 +257,6 @@ module _ (s : State) (law : IsLawful s) (t : TxnId) (alive : lives s t ≡ true)
     begins c since acc = unmoved _ acc.4 (begun_other s acc.0 since t.slot (free_differs s t alive acc.0 acc.1)) c
 
     accepted : (c : Command) → AllNone (tests_of s c) → Accepts s c a list next → Ended c
-    accepted (command.Inner ps) passed acc = unmoved _ acc.4 refl (command.Inner ps)
-    accepted (command.File ps) passed acc = unmoved _ acc.4 refl (command.File ps)
-    accepted (command.Index ps f bs) passed acc = unmoved _ acc.4 refl (command.Index ps f bs)
-    accepted (command.Insert u f ks) passed acc = unmoved _ acc.4 refl (command.Insert u f ks)
     accepted command.Begin passed acc = begins command.Begin (s.begins + 1) acc
     accepted (command.BeginAgain since) passed acc = begins (command.BeginAgain since) (min since (s.begins + 1)) acc
     accepted (command.Lock u q w) passed acc =
@@ -328,16 +302,15 @@ module _ (s : State) (law : IsLawful s) (t : TxnId) (alive : lives s t ≡ true)
         let keeps : ℕ → Bool = λ v. is_among_waiters v (filter (stays s ps.now) (s.queue x)) in
         let on = on_is _ acc.2 (unless_on keeps x t.slot (s.txns t.slot)) in
         all_told (command.Move u x ps) acc.1 on (λ e. moved_by keeps x (ap (λ (y : State). y.txns t.slot) acc.2) on)
-    accepted (command.Group q) passed acc = absurd acc
-    accepted (command.Held u q) passed acc = absurd acc
-    accepted (command.Effective u q) passed acc = absurd acc
-    accepted (command.Adopt f ks) passed acc = unmoved _ acc.4 refl (command.Adopt f ks)
     accepted (command.Forget r) passed acc = unmoved _ acc.2 refl (command.Forget r)
     accepted (command.Drop u x) passed acc =
         let on = on_is _ acc.2 (freed_among_on (goes_with s.graph x) (s.txns t.slot)) in
         all_told (command.Drop u x) acc.1 on (gone_by (goes_with s.graph x) (ap (λ (y : State). y.txns t.slot) acc.2) on (command.Drop u x)
         (λ e. ap (λ (y : State). is_live y.graph n) acc.2 ∙ dropped_dead s.graph x n e))
-    accepted (command.IndexBy u ps f bs) passed acc = unmoved _ acc.4 refl (command.IndexBy u ps f bs)
+    accepted (command.Group q) passed acc = absurd acc
+    accepted (command.Held u q) passed acc = absurd acc
+    accepted (command.Effective u q) passed acc = absurd acc
+    accepted c passed acc = unmoved _ acc.4 refl c
 
 pub waits_end_so : EndsWaits
 waits_end_so s s' c a list t n m law step alive waits over =

@@ -1,14 +1,12 @@
 -- Rows of a snapshot.
-use Rattle.std.proofs.Common.{◌≡◌, ◌≢◌, ℕ, ◌<◌, ◌≤◌, ⊎_elim, Bool, true, false, List, length, get_or, map, replicate, set, sym, ap, ◌∙◌, arith}
+use Rattle.gl_waits.proofs.Words.{◌<◌, ◌∙◌, ◌≡◌, ◌≢◌, ◌≤◌, ⊎_elim, ap, arith, Bool, cases_lt, false, false_from_ne_true, get_or, get_or-set_other}
+use Rattle.gl_waits.proofs.Words.{get_or-set_same, has_bit, has_slot, length, length-replicate, List, most_slots, no_slots, row_edge, set, Slots, sym, true, ℕ}
+use Rattle.std.proofs.Common.{map, replicate}
 use Rattle.std.specs.List.{range_with_len}
-use Rattle.std.proofs.lemmas.Bool.{cases_lt, false_from_ne_true}
 use Rattle.std.proofs.lemmas.List.FromFn.{get_or-map-range_with_len, length-map-range_with_len}
-use Rattle.std.proofs.lemmas.List.{get_or_default, get_or_past, get_or-replicate, get_or-set_other, get_or-set_same, length-replicate}
-use Rattle.gl_slots.specs.declared.slots.Slots.{Slots}
-use Rattle.gl_slots.specs.Limit.{most_slots}
-use Rattle.gl_slots.specs.Slots.{Bits, bits_of, has_bit, has_slot, no_bits, no_slots}
+use Rattle.std.proofs.lemmas.List.{get_or-replicate, get_or_default, get_or_past}
+use Rattle.gl_slots.specs.Slots.{Bits, bits_of, no_bits}
 use Rattle.gl_slots.proofs.SlotLemmas.{bits_of-above, has_bit-bits_of, no_bits-none, no_slots-none}
-use Rattle.gl_waits.specs.Boards.{row_edge}
 
 empty_row : (rows : List Slots) (s u : ℕ) → get_or rows s no_slots ≡ no_slots → row_edge rows s u ≡ false
 empty_row rows s u e = ap (λ set. has_slot set u) e ∙ no_slots-none u

@@ -1,13 +1,9 @@
 -- The latest of the slots that were tried so far, from the lowest on.
-use Rattle.std.proofs.Common.{◌≡◌, ◌≢◌, ◌⊎◌, ⊎_elim, inl, inr, ℕ, ◌<◌, ◌≤◌, ◌↔◌, true, false, not, ◌&&◌, ◌==◌, Option, Some, None}
-use Rattle.std.proofs.Common.{IsNone, IsTrue, IfSome, refl, sym, ◌∙◌, subst, arith}
+use Rattle.gl_waits.proofs.Words.{◌&&◌, ◌<◌, ◌==◌, ◌↔◌, ◌∙◌, ◌≡◌, ◌≢◌, ◌≤◌, ◌⊎◌, ⊎_elim, and_parts, arith, cases_eq, false, has_slot, IfSome, inl, inr}
+use Rattle.gl_waits.proofs.Words.{is_earlier, IsLowestLatest, IsTrue, most_slots, nat_tests, None, not, Option, refl, Slots, Some, subst, sym, true, ℕ}
+use Rattle.std.proofs.Common.{IsNone}
 use Rattle.std.specs.Option.{option_map_or}
-use Rattle.std.proofs.lemmas.Bool.{and_parts, cases_eq}
-use Rattle.std.proofs.lemmas.Bool.Decides.{nat_tests}
-use Rattle.gl_slots.specs.declared.slots.Slots.{Slots}
-use Rattle.gl_slots.specs.Limit.{most_slots}
-use Rattle.gl_slots.specs.Slots.{HasNoSlot, IsLowest, has_slot}
-use Rattle.gl_waits.specs.Waits.{IsLowestLatest, is_earlier}
+use Rattle.gl_slots.specs.Slots.{HasNoSlot, IsLowest}
 use Rattle.gl_waits.proofs.Earlier.{earlier-itself, earlier-not_back, earlier-over, latest-from, not_later}
 
 -- v was tried; of those tried none is later, and none as late is below it; nor is any that is left

@@ -1,8 +1,7 @@
 -- Cycles: what a set of slots computed from a snapshot means, and cycles of a relation that changed.
-use Rattle.std.proofs.Common.{◌≡◌, ◌≢◌, ◌⊎◌, ℕ, ◌↔◌, Bool, true, false, List, [], ◌∷◌, IsTrue, subst, ⊎_elim, inl, inr}
-use Rattle.std.proofs.lemmas.Bool.{and_from, cases_eq, false_from_ne_true}
-use Rattle.gl_waits.specs.Waits.{IsWalk, Reaches, IsOnCycleOf, IsOnCycle, IsOnNoCycle, IsYoungest, IsLowestYoungest, waits_of}
-use Rattle.gl_waits.proofs.WalkLemmas.{reaches_join, reaches_among, reaches_more, reaches_of}
+use Rattle.gl_waits.proofs.Words.{[], ◌↔◌, ◌∷◌, ◌≡◌, ◌≢◌, ◌⊎◌, ⊎_elim, and_from, Bool, cases_eq, false, false_from_ne_true, inl, inr, IsLowestYoungest}
+use Rattle.gl_waits.proofs.Words.{IsOnCycle, IsOnCycleOf, IsOnNoCycle, IsTrue, IsWalk, IsYoungest, List, Reaches, subst, true, waits_of, ℕ}
+use Rattle.gl_waits.proofs.WalkLemmas.{reaches_among, reaches_join, reaches_more, reaches_of}
 
 -- a set with exactly the slots on a cycle with t, as `on_cycle` answers
 module _ (edge : ℕ → ℕ → Bool) (t : ℕ) (member : ℕ → Bool) (exact : (u : ℕ) → IsTrue (member u) ↔ IsOnCycleOf edge t u) where
@@ -11,21 +10,6 @@ module _ (edge : ℕ → ℕ → Bool) (t : ℕ) (member : ℕ → Bool) (exact 
 
   pub no_cycle-empty : IsOnNoCycle edge t → (u : ℕ) → member u ≡ false
   no_cycle-empty none u = false_from_ne_true (member u) (λ h. none u ((exact u).0 h))
-
-  -- the one that `youngest` answers for it is the youngest on the cycle
-  pub youngest-on_cycle : (age : ℕ → ℕ) (v : ℕ) → IsLowestYoungest (λ u. IsTrue (member u)) age v → IsYoungest (IsOnCycleOf edge t) age v
-  youngest-on_cycle age v best = record {
-    is_member = (exact v).0 best.youngest.is_member;
-    greatest = λ u on. best.youngest.greatest u ((exact u).1 on);
-  }
-
--- a set with exactly the slots on some cycle, as `suspects` answers
-module _ (edge : ℕ → ℕ → Bool) (member : ℕ → Bool) (exact : (s : ℕ) → IsTrue (member s) ↔ IsOnCycle edge s) where
-  pub no_suspect-no_cycle : ((u : ℕ) → member u ≡ false) → (t : ℕ) → IsOnNoCycle edge t
-  no_suspect-no_cycle none t v on = cc ((exact t).1 (v, on), none t)
-
-  pub no_cycle-no_suspect : ((t : ℕ) → IsOnNoCycle edge t) → (u : ℕ) → member u ≡ false
-  no_cycle-no_suspect none s = false_from_ne_true (member s) (λ h. let on = (exact s).0 h in none s on.0 on.1)
 
 -- with more waits a cycle stays, so with fewer none appears
 pub cycle-more : (edge more : ℕ → ℕ → Bool) → ((x y : ℕ) → edge x y ≡ true → more x y ≡ true) → (t v : ℕ) → IsOnCycleOf edge t v → IsOnCycleOf more t v

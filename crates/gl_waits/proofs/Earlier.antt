@@ -1,7 +1,6 @@
 -- The order in which transactions keep their turn: by since, and then by age.
-use Rattle.std.proofs.Common.{◌≡◌, ◌≢◌, ℕ, ◌≤◌, Bool, true, false, nat_lt, refl, arith}
-use Rattle.std.proofs.lemmas.Bool.Decides.{nat_tests}
-use Rattle.gl_waits.specs.Waits.{IsLatest, IsYoungest, is_earlier}
+use Rattle.gl_waits.proofs.Words.{◌≡◌, ◌≢◌, ◌≤◌, arith, Bool, false, is_earlier, IsYoungest, nat_lt, nat_tests, refl, true, ℕ}
+use Rattle.gl_waits.specs.Waits.{IsLatest}
 
 module _ (since age : ℕ → ℕ) where
   -- no slot is earlier than itself

@@ -1,3 +1,5 @@
+-- the words that proofs use
+pub mod Words
 pub mod WalkLemmas
 pub mod CycleLemmas
 pub mod VictimLemmas

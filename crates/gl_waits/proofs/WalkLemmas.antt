@@ -1,7 +1,6 @@
 -- Paths of waits: joined, read backwards, and in a relation with more waits.
-use Rattle.std.proofs.Common.{◌≡◌, ℕ, Bool, true, false, List, [], ◌∷◌, ◌++◌, refl}
-use Rattle.std.proofs.lemmas.Bool.{and_from, and_parts}
-use Rattle.gl_waits.specs.Waits.{IsWalk, Reaches, IsOnCycle, IsOnNoCycle, waits_of}
+use Rattle.gl_waits.proofs.Words.{[], ◌∷◌, ◌≡◌, and_from, and_parts, Bool, false, IsOnCycle, IsOnNoCycle, IsWalk, List, Reaches, refl, true, waits_of, ℕ}
+use Rattle.std.proofs.Common.{◌++◌}
 
 walk_join : (edge : ℕ → ℕ → Bool) (a b c : ℕ) (path more : List ℕ) → IsWalk edge a path b → IsWalk edge b more c → IsWalk edge a (path ++ b ∷ more) c
 walk_join edge a b c [] more h k = (h, k)

@@ -1,51 +1,10 @@
 -- Bits of numbers: union, intersection, one bit more or less, the lowest bit.
-use Rattle.std.proofs.Common.{
-  ◌≡◌,
-  ◌≢◌,
-  ℕ,
-  zero,
-  suc,
-  ◌+◌,
-  ◌-◌,
-  ◌*◌,
-  ◌/◌,
-  ◌%◌,
-  ◌^◌,
-  ◌<◌,
-  Bool,
-  true,
-  false,
-  cond,
-  not,
-  ◌&&◌,
-  ◌||◌,
-  ◌==◌,
-  bit_and,
-  bit_or,
-  sym,
-  ap,
-  ◌∙◌,
-  pow-suc,
-  arith,
-}
+use Rattle.std.proofs.Common.{◌%◌, ◌&&◌, ◌*◌, ◌+◌, ◌-◌, ◌/◌, ◌<◌, ◌==◌, ◌^◌, ◌||◌, ◌∙◌, ◌≡◌, ◌≢◌, ap, arith, bit_and, bit_or, Bool, cond, false, not, pow-suc}
+use Rattle.std.proofs.Common.{suc, sym, true, zero, ℕ}
 use Rattle.std.specs.Int.{bit_at, bit_not, w64}
 use Rattle.std.proofs.lemmas.Nat.{one_shl, pow_pos}
-use Rattle.std.proofs.lemmas.Nat.Bits.{
-  bit_at-zero,
-  bit_at-suc,
-  bit_at_lowest,
-  bit_at_not,
-  bit_at-lt,
-  bit_at_and,
-  bit_at_or,
-  bit_at_set_same,
-  bit_at_set_other,
-  bit_at_clear_same,
-  bit_at_clear_other,
-  bit_at_ones,
-  and_pow,
-  same_from_bits_below,
-}
+use Rattle.std.proofs.lemmas.Nat.Bits.{and_pow, bit_at-lt, bit_at-suc, bit_at-zero, bit_at_and, bit_at_clear_other, bit_at_clear_same, bit_at_lowest}
+use Rattle.std.proofs.lemmas.Nat.Bits.{bit_at_not, bit_at_ones, bit_at_or, bit_at_set_other, bit_at_set_same, same_from_bits_below}
 use Rattle.std.proofs.lemmas.Bool.Decides.{nat_tests}
 use Rattle.gl_wide_slots.specs.Bits.{in_bits, bits_below}
 

@@ -8,17 +8,8 @@ use Rattle.gl_wide_slots.specs.declared.slots.Slots.{Slots}
 use Rattle.gl_wide_slots.specs.Words.{words_below}
 use Rattle.gl_wide_slots.specs.Slots.{HasNoSlot, IsLowest, bits_of, has_bit, has_none, has_slot, no_bits, no_slots, number_of, slot_limit, slots_of, words_of}
 use Rattle.gl_wide_slots.specs.Limit.{most_slots, most_words}
-use Rattle.gl_wide_slots.proofs.WordLemmas.{
-  idle-none,
-  in_words-past,
-  in_words-words_below,
-  in_words-zeros,
-  length-words_below,
-  none-idle,
-  words_below-is,
-  words_below-none,
-  words_below-same,
-}
+use Rattle.gl_wide_slots.proofs.WordLemmas.{idle-none, in_words-past, in_words-words_below, in_words-zeros, length-words_below, none-idle, words_below-is}
+use Rattle.gl_wide_slots.proofs.WordLemmas.{words_below-none, words_below-same}
 
 -- the limit of slots is their number
 pub slot_limit-is : slot_limit ≡ most_slots

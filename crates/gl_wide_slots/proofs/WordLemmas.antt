@@ -1,50 +1,7 @@
 -- Bits of words: one bit more or less, union, intersection, the lowest bit.
-use Rattle.std.proofs.Common.{
-  ◌≡◌,
-  ◌≢◌,
-  ℕ,
-  zero,
-  suc,
-  ◌+◌,
-  ◌-◌,
-  ◌*◌,
-  ◌/◌,
-  ◌%◌,
-  ◌^◌,
-  ◌<◌,
-  ◌≤◌,
-  Bool,
-  true,
-  false,
-  not,
-  ◌&&◌,
-  ◌||◌,
-  ◌==◌,
-  bit_and,
-  bit_or,
-  ⊎_elim,
-  sym,
-  ap,
-  ap₂,
-  ◌∙◌,
-  List,
-  length,
-  get_or,
-  set,
-  replicate,
-  [],
-  ◌∷◌,
-  Option,
-  Some,
-  None,
-  IfSome,
-  IfNone,
-  IsTrue,
-  is_some,
-  refl,
-  mod-lt,
-  arith,
-}
+use Rattle.std.proofs.Common.{◌%◌, ◌&&◌, ◌*◌, ◌+◌, ◌-◌, ◌/◌, ◌<◌, ◌==◌, [], ◌^◌, ◌||◌, ◌∙◌, ◌∷◌, ◌≡◌, ◌≢◌, ◌≤◌, ⊎_elim, ap, ap₂, arith, bit_and, bit_or, Bool}
+use Rattle.std.proofs.Common.{false, get_or, IfNone, IfSome, is_some, IsTrue, length, List, mod-lt, None, not, Option, refl, replicate, set, Some, suc, sym}
+use Rattle.std.proofs.Common.{true, zero, ℕ}
 use Rattle.std.specs.Int.{bit_at, bit_not, trailing_zeros, w64}
 use Rattle.std.proofs.lemmas.List.{get_or-set_same, get_or-set_other, get_or_past, get_or-replicate, length-replicate}
 use Rattle.std.specs.List.{list_all}
@@ -56,20 +13,8 @@ use Rattle.std.proofs.lemmas.Bool.Decides.{nat_tests}
 use Rattle.gl_wide_slots.specs.Bits.{in_bits, bits_below}
 use Rattle.gl_wide_slots.specs.Limit.{most_slots}
 use Rattle.gl_wide_slots.specs.Words.{IsFirstWord, in_words, words_below}
-use Rattle.gl_wide_slots.proofs.BitLemmas.{
-  in_bits-zero,
-  in_bits-or,
-  in_bits-and,
-  in_bits-set,
-  in_bits-clear,
-  in_bits-test,
-  in_bits-ones,
-  in_bits-not,
-  in_bits-bits_below,
-  bits_below-lt,
-  bits_below-is,
-  same_slots_below,
-}
+use Rattle.gl_wide_slots.proofs.BitLemmas.{bits_below-is, bits_below-lt, in_bits-and, in_bits-bits_below, in_bits-clear, in_bits-not, in_bits-ones, in_bits-or}
+use Rattle.gl_wide_slots.proofs.BitLemmas.{in_bits-set, in_bits-test, in_bits-zero, same_slots_below}
 
 -- words that are 0 have no bit
 pub in_words-none : (ws : List ℕ) (u : ℕ) → get_or ws (u / 64) 0 ≡ 0 → in_words ws u ≡ false

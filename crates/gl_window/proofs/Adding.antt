@@ -1,13 +1,11 @@
 -- The exchange that adds a snapshot keeps the rule.
-use Rattle.std.proofs.Common.{◌≡◌, ℕ, ◌+◌, ◌-◌, ◌<◌, ◌==◌, Bool, true, false, List, [], ◌∷◌, ◌++◌, length, refl, ap, sym, subst, arith, inl}
-use Rattle.std.proofs.Common.{length-append, None}
+use Rattle.gl_window.proofs.Words.{◌+◌, ◌++◌, ◌<◌, ◌==◌, [], ◌∷◌, ◌≡◌, ap, arith, Board, Bool, false, inl, IsPrefix, length, length-append, List, nat_tests}
+use Rattle.gl_window.proofs.Words.{None, refl, subst, sym, true, ℕ}
+use Rattle.std.proofs.Common.{◌-◌}
 use Rattle.std.proofs.lemmas.List.{append-nil}
-use Rattle.std.proofs.lemmas.Bool.Decides.{nat_tests}
-use mathlib.Core.List.{IsPrefix}
 use prog.Atomic.{either}
-use Rattle.logbook.specs.Pages.{Cell, cell, keeps, no_nib, step, Moves, Goes}
-use Rattle.gl_waits.specs.declared.board.Board.{Board}
-use Rattle.gl_window.specs.Rules.{IsKept, Adds}
+use Rattle.logbook.specs.Pages.{Cell, cell, Goes, keeps, Moves, no_nib, step}
+use Rattle.gl_window.specs.Rules.{Adds, IsKept}
 use Rattle.gl_window.proofs.Fronts.{prefix_whole}
 
 abbrev pub shown : List Board → List Board

@@ -1,10 +1,8 @@
 -- What calls that test for emptiness answer: by their contracts alone, whatever a set is made of.
-use Rattle.std.specs.Prelude.{◌≡◌, ◌↔◌, ◌==◌, Bool, true, false, IsTrue, List, [], ◌∷◌, length}
-use Rattle.std.proofs.Common.{arith, refl, sym}
+use Rattle.gl_window.proofs.Words.{◌==◌, [], ◌∷◌, ◌≡◌, arith, Bool, false, has_none, is_empty, length, List, refl, Slots, sym, true}
+use Rattle.std.specs.Prelude.{◌↔◌, IsTrue}
 use Rattle.gl_slots.proofs.SlotLemmas.{none-test, test-none}
-use Rattle.gl_slots.specs.Slots.{HasNoSlot, has_none}
-use Rattle.gl_slots.specs.declared.slots.Slots.{Slots}
-use Rattle.gl_header.specs.Header.{is_empty}
+use Rattle.gl_slots.specs.Slots.{HasNoSlot}
 
 -- the test whether a set has no slot
 pub tests_none : (set : Slots) (b : Bool) → IsTrue b ↔ HasNoSlot set → b ≡ has_none set

@@ -1,21 +1,10 @@
 -- A table in which nobody waits, and its snapshot: for when watchers need not be told.
-use Rattle.std.specs.Prelude.{◌≡◌, ◌||◌, ℕ, Bool, true, false, Option, Some, None}
-use Rattle.std.proofs.Common.{refl, sym, ap, ◌∙◌}
-use mathlib.Core.Bool.{true≢false}
-use Rattle.gl_model.specs.declared.txn.Status.{Status}
-use Rattle.gl_model.specs.declared.txn.Status.TheVariants.{Active, Waiting, Condemned}
-use Rattle.gl_table.specs.Table.{board_of}
-use Rattle.gl_model.specs.State.{State, status_of, is_wait}
-use Rattle.gl_model.specs.Tellings.{Told}
+use Rattle.gl_window.proofs.Words.{◌||◌, ◌∙◌, ◌≡◌, Active, Answer, ap, board_of, Bool, Command, Condemned, false, is_wait, IsLawfulManager, leaves_waiting}
+use Rattle.gl_window.proofs.Words.{ManagerView, NobodyWaits, None, Option, refl, Some, State, state_of, Status, status_of, Step, sym, Told, true, true≢false}
+use Rattle.gl_window.proofs.Words.{Waiting, ℕ}
 use Rattle.gl_model.proofs.law.Settle.{waits_for_one}
-use Rattle.gl_steps.specs.declared.command.Answer.{Answer}
-use Rattle.gl_steps.specs.declared.command.Command.{Command}
-use Rattle.gl_catalog.specs.Manager.{IsLawfulManager, ManagerView, state_of}
-use Rattle.gl_steps.specs.Promises.{NobodyWaits}
-use Rattle.gl_steps.specs.Step.{Step}
 use Rattle.gl_steps.proofs.WaitsBegin.{nobody_waits_on}
 use Rattle.gl_waits.specs.Boards.{ShowsNobody}
-use Rattle.gl_steps.specs.Served.{leaves_waiting}
 use Rattle.gl_window.specs.Tellings.{is_due}
 use Rattle.gl_window.specs.declared.telling.Telling.{Telling}
 use Rattle.gl_window.specs.declared.telling.Telling.TheVariants.{Always, WhileWaiting}

@@ -1,3 +1,5 @@
+-- the words that proofs use
+pub mod Words
 pub mod Adding
 pub mod Emptiness
 pub mod Fronts

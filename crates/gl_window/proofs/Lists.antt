@@ -1,11 +1,9 @@
 -- Lists of snapshots and one more.
-use Rattle.std.proofs.Common.{◌≡◌, ℕ, ◌+◌, ◌≤◌, Bool, true, false, MatchBool, List, [], ◌∷◌, ◌++◌, length, refl, sym, ap, ◌∙◌, subst, arith, zero-le}
-use Rattle.std.proofs.Common.{le_refl, le_trans, length-append, ◌⊎◌, ⊎_elim}
-use mathlib.Core.List.{IsPrefix}
-use Rattle.gl_waits.specs.declared.board.Board.{Board}
-use Rattle.gl_model.specs.declared.answers.Detect.{Detect}
-use Rattle.gl_window.specs.Boards.{Fine, last_epoch, Rising, Ends, AllFine, IsLawful}
-use Rattle.gl_window.proofs.Fronts.{prefix_trans, prefix_length, prefix_shorter, prefix_whole}
+use Rattle.gl_window.proofs.Words.{◌+◌, ◌++◌, [], ◌∙◌, ◌∷◌, ◌≡◌, ◌≤◌, ◌⊎◌, ⊎_elim, AllFine, ap, arith, Board, Bool, Detect, Ends, false, Fine, IsPrefix}
+use Rattle.gl_window.proofs.Words.{last_epoch, length, length-append, List, refl, Rising, subst, sym, true, ℕ}
+use Rattle.std.proofs.Common.{le_refl, le_trans, MatchBool, zero-le}
+use Rattle.gl_window.specs.Boards.{IsLawful}
+use Rattle.gl_window.proofs.Fronts.{prefix_shorter, prefix_whole}
 
 pub rising_more : (e : ℕ) (xs : List Board) (y : Board) → Rising e xs → last_epoch e xs ≤ y.epoch → Rising e (xs ++ y ∷ [])
 rising_more e [] y r le = (le, tt)
@@ -28,15 +26,6 @@ pub epoch_after : (list new : List Board) (b : Board) → (new ≡ list) ⊎ (ne
 epoch_after list new b h le = ⊎_elim (λ e. subst (λ l. last_epoch 0 l ≤ b.epoch) (sym e) le)
     (λ e. let same = ap (last_epoch 0) e ∙ last_of 0 list b in omega (arith, same)) h
 
--- a lawful list and one more snapshot
-pub lawful_more : (detect : Detect) (first : Board) (list : List Board) (last y : Board) → IsLawful detect first list → Ends list last → last.epoch ≤ y.epoch
-    → Fine detect y → IsLawful detect first (list ++ y ∷ [])
-lawful_more detect first list last y law ends le fine = record {
-  begins = prefix_trans (first ∷ []) list (list ++ y ∷ []) law.begins (y ∷ [], refl);
-  rising = rising_more 0 list y law.rising (subst (λ (e : ℕ). e ≤ y.epoch) (sym (last_ends list last ends)) le);
-  fine = fine_more detect list y law.fine fine;
-}
-
 -- the table's first list
 pub lawful_one : (detect : Detect) (first : Board) → Fine detect first → IsLawful detect first (first ∷ [])
 lawful_one detect first fine = record { begins = ([], refl); rising = (zero-le, tt); fine = (fine, tt) }
@@ -52,9 +41,6 @@ prefix_up e (x ∷ xs) [] p r = absurd (cc (p.1))
 prefix_up e (x ∷ xs) (y ∷ ys) p r =
     let heads : x ≡ y = cc (p.1) in
     subst (λ (b : Board). last_epoch b.epoch xs ≤ last_epoch y.epoch ys) (sym heads) (prefix_up y.epoch xs ys (p.0, cc (p.1)) r.1)
-
-pub later_up : (detect : Detect) (first : Board) (xs ys : List Board) → IsPrefix xs ys → IsLawful detect first ys → last_epoch 0 xs ≤ last_epoch 0 ys
-later_up detect first xs ys p law = prefix_up 0 xs ys p law.rising
 
 -- a list that is one snapshot longer
 one_longer : (xs rest front : List Board) (b : Board) → length rest ≡ 1 → xs ++ rest ≡ front ++ b ∷ [] → xs ++ rest ≡ xs ++ b ∷ []
@@ -72,14 +58,6 @@ follows xs ys b p len ends =
     let one : length p.0 ≡ 1 = omega (arith, ap length p.1, length-append xs p.0) in
     sym p.1 ∙ one_longer xs p.0 ends.0 b one (p.1 ∙ ends.1)
 
--- the longer of two lists, one of which is one snapshot longer
-pub follows_either : (xs ys both : List Board) (b : Board) → IsPrefix xs both → IsPrefix ys both → (both ≡ xs) ⊎ (both ≡ ys) → length ys ≡ length xs + 1
-    → Ends ys b → both ≡ xs ++ b ∷ []
-follows_either xs ys both b p q either len ends = ⊎_elim
-    (λ (t : both ≡ xs). absurd (let le = prefix_length ys both q in omega (arith, ap length t, le, len)))
-    (λ (t : both ≡ ys). t ∙ follows xs ys b (subst (IsPrefix xs) t p) len ends)
-    either
-
 -- after a snapshot of epoch n was added to the list, or was not
 pub told_epoch : (told : Bool) (list after : List Board) (board : Board) (n : ℕ) → MatchBool told (after ≡ list ++ board ∷ []) (after ≡ list)
     → last_epoch 0 list ≤ n → board.epoch ≡ n → last_epoch 0 after ≤ n
@@ -89,16 +67,6 @@ told_epoch false list after board n is le epoch = subst (λ (l : List Board). la
 -- two prefixes of one list with the same length
 pub same_length : (xs ys both : List Board) → IsPrefix xs both → IsPrefix ys both → length ys ≡ length xs → ys ≡ xs
 same_length xs ys both p q len = prefix_whole ys xs (prefix_shorter ys xs both q p (omega (arith, len))) (omega (arith, len))
-
-pub told_lawful : (told : Bool) (detect : Detect) (first : Board) (list after : List Board) (board : Board) (n : ℕ)
-    → MatchBool told (after ≡ list ++ board ∷ []) (after ≡ list) → last_epoch 0 list ≤ n → board.epoch ≡ n → Fine detect board → IsLawful detect first list
-    → IsLawful detect first after
-told_lawful true detect first list after board n is le epoch fine law = subst (IsLawful detect first) (sym is) (record {
-  begins = prefix_trans (first ∷ []) list (list ++ board ∷ []) law.begins (board ∷ [], refl);
-  rising = rising_more 0 list board law.rising (subst (λ (e : ℕ). last_epoch 0 list ≤ e) (sym epoch) le);
-  fine = fine_more detect list board law.fine fine;
-})
-told_lawful false detect first list after board n is le epoch fine law = subst (IsLawful detect first) (sym is) law
 
 -- the same, in the terms of a table
 pub lawful_here : (detect d : Detect) (first b : Board) (list : List Board) → list ≡ b ∷ [] → b ≡ first → d ≡ detect → Fine d b → IsLawful detect first list

@@ -1,29 +1,19 @@
 -- The snapshot of every manager is fine: its waits are the waits of the state.
-use Rattle.gl_slots.specs.Limit.{most_slots}
-use Rattle.std.specs.Prelude.{◌≡◌, ℕ, ◌<◌, ◌≤◌, Bool, true, false, not, ◌&&◌, is_some}
-use Rattle.std.proofs.Common.{refl, sym, ap, subst, ◌∙◌, arith}
+use Rattle.gl_window.proofs.Words.{◌&&◌, ◌<◌, ◌∙◌, ◌≡◌, ◌≤◌, age_of, ap, are_compatible, arith, AtBlock, blocks, board_of, Bool, clash, false, Fine, holds}
+use Rattle.gl_window.proofs.Words.{is_some, IsLawful, IsLawfulManager, lawful_orderly, ManagerView, members, most_slots, not, not-true, number_same, refl}
+use Rattle.gl_window.proofs.Words.{ShowsWaits, split, State, state_of, status_of, subst, sym, true, waits_for, ℕ}
 use Rattle.std.proofs.Math.Path.{fun_ext}
 use Rattle.std.proofs.lemmas.List.FromFn.{get_or-map-range_with_len}
-use Rattle.std.proofs.lemmas.Bool.{not-true}
 use Rattle.gl_modes.proofs.ModeLemmas.{NL-compatible}
-use Rattle.gl_modes.specs.Modes.{are_compatible}
-use Rattle.gl_modes.proofs.Words.{number_same, or_elim, split, clash}
-use Rattle.gl_header.specs.Header.{holds}
+use Rattle.gl_modes.proofs.Words.{or_elim}
 use Rattle.gl_waits.specs.Boards.{age_in, board_edge}
 use Rattle.gl_waits.specs.Waits.{IsOnNoCycle}
 use Rattle.gl_waits.proofs.BoardLemmas.{shown_rows-edge}
-use Rattle.gl_model.specs.declared.answers.Detect.TheVariants.{AtBlock}
-use Rattle.gl_table.specs.Table.{board_of}
-use Rattle.gl_model.specs.Lawful.{IsLawful}
-use Rattle.gl_model.specs.State.{State, age_of, members, status_of, HasNoCycle, blocks, waits_for}
+use Rattle.gl_model.specs.State.{HasNoCycle}
 use Rattle.gl_model.proofs.law.Edges.{step_is}
-use Rattle.gl_model.proofs.law.Keeps.{txn_there}
-use Rattle.gl_model.proofs.law.Keeps.{nl_is}
+use Rattle.gl_model.proofs.law.Keeps.{nl_is, txn_there}
 use Rattle.gl_model.proofs.telling.Fronts.{waits_there}
 use Rattle.gl_model.proofs.queues.Waiters.{ahead_is, ahead_second}
-use Rattle.gl_model.proofs.law.Orderly.{lawful_orderly}
-use Rattle.gl_catalog.specs.Manager.{IsLawfulManager, ManagerView, state_of}
-use Rattle.gl_window.specs.Boards.{Fine, ShowsWaits}
 
 module _ (s : State) (law : IsLawful s) (few : s.most ≤ most_slots) where
   -- a waiter lives, and so does the transaction for which it waits

@@ -1,17 +1,15 @@
 -- Each step at the seats keeps their rule.
-use Rattle.std.proofs.Common.{◌≡◌, ◌≢◌, ℕ, zero, suc, ◌+◌, ◌*◌, ◌%◌, ◌^◌, ◌<◌, max, List, [], ◌∷◌, ◌++◌, get_or, set, sym, refl, ap, ◌∙◌, subst}
-use Rattle.std.proofs.Common.{arith, length-set, get_or-set_same, Some, None, bit_and, bit_or, bit_xor}
+use Rattle.gl_window.proofs.Words.{◌+◌, ◌++◌, ◌<◌, [], ◌∙◌, ◌∷◌, ◌≡◌, ap, arith, bit_at, List, nat_tests, None, one_shl, refl, Sitter, Some, subst, suc, sym}
+use Rattle.gl_window.proofs.Words.{zero, ℕ}
+use Rattle.std.proofs.Common.{◌%◌, ◌*◌, ◌^◌, ◌≢◌, bit_and, bit_or, bit_xor, get_or, get_or-set_same, length-set, max, set}
 use mathlib.Core.Logic.{dite}
 use mathlib.Core.Option.{none, some, some-injective, some-ne-none}
 use native.Mathlib.Decide.{ℕ_discrete}
 use lib.ListN.{get_elem?}
-use Rattle.std.specs.Int.{bit_at}
-use Rattle.std.proofs.lemmas.Nat.{one_shl, pow_pos}
-use Rattle.std.proofs.lemmas.Nat.Bits.{bit_at-lt, bit_at_or, bit_at_xor, bit_at-pow_same, bit_at-pow_other, and_pow}
-use Rattle.std.proofs.lemmas.Bool.Decides.{nat_tests}
-use Rattle.atomic_table.specs.Table.{State, step, keeps, stepped, Allows, Enters}
-use Rattle.gl_window.specs.declared.seats.Sitter.{Sitter}
-use Rattle.gl_window.specs.Seats.{Leaves, Seated, Takes, Token, one_at, sitting}
+use Rattle.std.proofs.lemmas.Nat.{pow_pos}
+use Rattle.std.proofs.lemmas.Nat.Bits.{and_pow, bit_at-lt, bit_at-pow_other, bit_at-pow_same, bit_at_or, bit_at_xor}
+use Rattle.atomic_table.specs.Table.{Allows, Enters, keeps, State, step, stepped}
+use Rattle.gl_window.specs.Seats.{Leaves, one_at, Seated, sitting, Takes, Token}
 
 abbrev St : Type 0
 St = State (Unit {0}) Sitter

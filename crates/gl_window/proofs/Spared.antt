@@ -1,52 +1,32 @@
 -- Commands that change no wait if nobody is told. For watchers that are told only if waits may have changed.
-use Rattle.gl_slots.specs.Limit.{most_slots}
-use Rattle.std.specs.Prelude.{◌≡◌, ℕ, ◌+◌, ◌≤◌, ◌==◌, ◌||◌, ◌&&◌, not, Bool, true, false, [], ◌∷◌, min}
-use Rattle.std.specs.Prelude.{Option, Some, None, if◌then◌else◌, is_some}
-use Rattle.std.proofs.Common.{refl, sym, ap, subst, ◌∙◌, inl, ⊎_elim, arith}
-use Rattle.std.proofs.lemmas.Bool.{not-true}
-use mathlib.Core.Bool.{true≢false}
-use Rattle.gl_modes.proofs.Words.{and_both, both, clash, no, none_some, number_same, same_number, split}
-use Rattle.gl_modes.specs.Nodes.{same_node}
-use Rattle.gl_modes.specs.declared.mode.Mode.{Mode}
-use Rattle.gl_modes.specs.declared.mode.Mode.TheVariants.{NL, X}
-use Rattle.gl_modes.specs.declared.node.NodeId.{NodeId}
-use Rattle.gl_modes.specs.declared.refusal.Refusal.{Refusal}
+use Rattle.gl_window.proofs.Words.{◌&&◌, ◌+◌, ◌==◌, [], ◌||◌, ◌∙◌, ◌∷◌, ◌≡◌, ◌≤◌, ⊎_elim, accepted_once, Active, age_in, age_of, Answer, ap, arith, begun_since}
+use Rattle.gl_window.proofs.Words.{Bool, clash, Command, enters_at, false, grants, Graph, has_none, has_slot, HasParties, holds, if◌then◌else◌, inl, is_empty}
+use Rattle.gl_window.proofs.Words.{is_some, is_wait, is_waiting_at, IsLawful, lawful_orderly, leaves_waiting, leaves_waits, members, Mode, most_slots, NL, no}
+use Rattle.gl_window.proofs.Words.{NodeId, None, none_some, not, not-true, number_same, Option, refl, Refusal, same_node, Slots, Some, spares_waits, split}
+use Rattle.gl_window.proofs.Words.{State, Status, status_in, status_of, Step, subst, sym, Told, true, true≢false, Txn, TxnId, unlocked, waiting_is, wanted}
+use Rattle.gl_window.proofs.Words.{with_grant, with_graph, ℕ}
+use Rattle.std.specs.Prelude.{min}
+use Rattle.gl_modes.proofs.Words.{and_both, both, same_number}
+use Rattle.gl_modes.specs.declared.mode.Mode.TheVariants.{X}
 use Rattle.gl_modes.specs.declared.refusal.Refusal.TheVariants as no
-use Rattle.gl_slots.specs.Slots.{has_none, has_slot}
-use Rattle.gl_slots.specs.declared.slots.Slots.{Slots}
 use Rattle.gl_graph.proofs.Unrefused.{not_false, test_fails}
-use Rattle.gl_graph.specs.Graph.{Graph}
-use Rattle.gl_header.specs.Header.{holds, is_empty, without_waiter}
-use Rattle.gl_model.proofs.law.Keeps.{waiting_is}
+use Rattle.gl_header.specs.Header.{without_waiter}
 use Rattle.gl_model.proofs.law.Lock.{free_slot as first_free}
-use Rattle.gl_model.proofs.law.Orderly.{lawful_orderly}
 use Rattle.gl_model.proofs.queues.Edits.{without_none}
 use Rattle.gl_model.proofs.telling.Fronts.{in_no_queue}
-use Rattle.gl_model.specs.Calls.{accepted_once, begun_since, enters_at, granted, released, would_block, unlocked, wanted}
-use Rattle.gl_model.specs.Lawful.{IsLawful}
-use Rattle.gl_model.specs.State.{State, Txn, age_in, age_of, is_wait, is_waiting_at, live_by, lives}
-use Rattle.gl_model.specs.State.{members, status_in, status_of, with_grant, with_graph}
-use Rattle.gl_model.specs.Tellings.{Told}
-use Rattle.gl_model.specs.declared.txn.Status.{Status}
-use Rattle.gl_model.specs.declared.txn.Status.TheVariants.{Active}
-use Rattle.gl_model.specs.declared.txn.TxnId.{TxnId}
-use Rattle.gl_catalog.specs.Counters.{grants}
+use Rattle.gl_model.specs.Calls.{granted, released, would_block}
+use Rattle.gl_model.specs.State.{live_by, lives}
 use Rattle.gl_steps.proofs.NotRefused.{active_is}
-use Rattle.gl_steps.proofs.OneStep.{AllNone, all_none}
+use Rattle.gl_steps.proofs.OneStep.{all_none, AllNone}
 use Rattle.gl_steps.proofs.WaitsBegin.{nobody_waits_on}
 use Rattle.gl_steps.proofs.WaitsEnd.{ends_waits}
 use Rattle.gl_steps.specs.Promises.{ends_wait_of, is_told, waits_on}
-use Rattle.gl_steps.specs.Served.{leaves_waiting}
-use Rattle.gl_steps.specs.Step.{Accepts, Answers, Goes, Step, Unchanged, query_answer}
+use Rattle.gl_steps.specs.Step.{Accepts, Answers, Goes, query_answer, Unchanged}
 use Rattle.gl_steps.specs.Tests.{may_lack_memory, refusal_of, tests_of}
-use Rattle.gl_steps.specs.declared.command.Answer.{Answer}
 use Rattle.gl_steps.specs.declared.command.Answer.TheVariants as answer
-use Rattle.gl_steps.specs.declared.command.Command.{Command}
 use Rattle.gl_steps.specs.declared.command.Command.TheVariants as command
-use Rattle.gl_window.proofs.Waits.{Spares, begun_spares, free_holds, free_idle, counted, enters_alone, enters_now, granted_spares, nobody_spared, none_waits}
-use Rattle.gl_window.proofs.Waits.{regraphed, released_spares, spared_itself, unborn, unlock_releases}
-use Rattle.gl_window.specs.Boards.{HasParties}
-use Rattle.gl_window.specs.Tellings.{leaves_waits, spares_waits}
+use Rattle.gl_window.proofs.Waits.{begun_spares, counted, enters_alone, enters_now, free_holds, free_idle, granted_spares, nobody_spared, none_waits, regraphed}
+use Rattle.gl_window.proofs.Waits.{released_spares, spared_itself, Spares, unborn, unlock_releases}
 
 -- Steps.
 

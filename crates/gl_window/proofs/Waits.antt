@@ -1,50 +1,35 @@
 -- Changes that keep all waits, so that a snapshot of the waits before shows those after: grants to and releases of a transaction that is no party to a wait.
-use Rattle.gl_slots.specs.Limit.{most_slots}
-use Rattle.std.specs.Prelude.{◌≡◌, ◌⊎◌, ℕ, zero, suc, ◌+◌, ◌≤◌, ◌<◌, ◌==◌, ◌||◌, ◌&&◌, not, Bool, true, false, List, [], ◌∷◌, drop, length}
-use Rattle.std.specs.Prelude.{Option, Some, None, if◌then◌else◌, is_some}
+use Rattle.gl_window.proofs.Words.{◌&&◌, ◌+◌, ◌<◌, ◌==◌, [], ◌||◌, ◌∙◌, ◌∷◌, ◌≡◌, ◌≤◌, ◌⊎◌, ⊎_elim, accepted_once, Active, age_in, age_of, Answer, ap}
+use Rattle.gl_window.proofs.Words.{are_compatible, AtBlock, begun_since, blocks, Board, Bool, clash, Condemned, Detect, enters_at, false, grants, Graph}
+use Rattle.gl_window.proofs.Words.{has_none, has_slot, HasParties, holds, if◌then◌else◌, inl, is_empty, is_some, is_wait, is_waiting_at, IsLawful}
+use Rattle.gl_window.proofs.Words.{lawful_orderly, length, List, members, Mode, NL, no, NobodyWaits, NodeId, None, none_some, not, not-true, number_same}
+use Rattle.gl_window.proofs.Words.{Option, refl, same_node, ShowsWaits, Slots, Some, split, State, Status, status_in, status_of, subst, suc, sym, true}
+use Rattle.gl_window.proofs.Words.{true≢false, Txn, unlocked, Waiting, waiting_is, waits_at, waits_for, wanted, with_grant, with_graph, zero, ℕ}
+use Rattle.std.specs.Prelude.{drop}
 use Rattle.std.specs.List.{filter}
-use Rattle.std.proofs.Common.{refl, sym, ap, ap₂, subst, ◌∙◌, inl, inr, ⊎_elim}
-use Rattle.std.proofs.lemmas.Bool.{not-true}
-use mathlib.Core.Bool.{true≢false}
+use Rattle.std.proofs.Common.{ap₂, inr}
 use Rattle.gl_modes.proofs.ModeLemmas.{NL-compatible}
 use Rattle.gl_modes.proofs.NodeLemmas.{same_node-equal, same_node-refl}
-use Rattle.gl_modes.proofs.Words.{and_both, clash, no, none_some, number_same, or_elim, or_left, or_right, same_number, some_is, split}
-use Rattle.gl_modes.specs.Modes.{are_compatible, same_mode}
-use Rattle.gl_modes.specs.Nodes.{same_node}
-use Rattle.gl_modes.specs.declared.mode.Mode.{Mode}
-use Rattle.gl_modes.specs.declared.mode.Mode.TheVariants.{NL}
-use Rattle.gl_modes.specs.declared.node.NodeId.{NodeId}
+use Rattle.gl_modes.proofs.Words.{and_both, or_elim, or_left, or_right, same_number, some_is}
+use Rattle.gl_modes.specs.Modes.{same_mode}
 use Rattle.gl_slots.proofs.SlotLemmas.{test-none}
-use Rattle.gl_slots.specs.Slots.{has_none, has_slot}
-use Rattle.gl_slots.specs.declared.slots.Slots.{Slots}
-use Rattle.gl_graph.specs.Graph.{Graph, is_live}
-use Rattle.gl_header.specs.Header.{Waiter, after_grants, holds, is_ahead, is_among_waiters, is_empty, is_waiter, fits}
+use Rattle.gl_graph.specs.Graph.{is_live}
+use Rattle.gl_header.specs.Header.{after_grants, fits, is_ahead, is_among_waiters, is_waiter, Waiter}
 use Rattle.gl_waits.proofs.VictimLemmas.{candidate-on_cycle}
 use Rattle.gl_waits.specs.Waits.{IsWalk}
-use Rattle.gl_waits.specs.declared.board.Board.{Board}
 use Rattle.gl_waits.specs.declared.victims.Victims.{Victims}
 use Rattle.gl_model.proofs.law.Edges.{idle_no_step, is_step, step_is}
-use Rattle.gl_model.proofs.law.Keeps.{nl_is, waiting_is}
-use Rattle.gl_model.proofs.law.Orderly.{lawful_orderly}
+use Rattle.gl_model.proofs.law.Keeps.{nl_is}
 use Rattle.gl_model.proofs.law.Takes.{restatus_is}
 use Rattle.gl_model.proofs.queues.Waiters.{ahead_is, ahead_second, among_by_filter}
 use Rattle.gl_model.proofs.telling.Fronts.{in_no_queue, waits_there}
 use Rattle.gl_model.proofs.telling.Between.{granted_stands, without_wait_other, without_wait_own, woken_same, woken_up}
-use Rattle.gl_model.specs.Calls.{Locks, WaitSettles, accepted_once, begun_since, enqueued, enters_at, unlocked, wanted}
-use Rattle.gl_model.specs.Lawful.{IsLawful}
-use Rattle.gl_model.specs.State.{SettledWithin, State, Txn, age_in, age_of, awake, blocks, condemned, granted_at, is_wait, is_waiting_at}
-use Rattle.gl_model.specs.State.{members, pumped, restatus, status_in, status_of, waits_at, waits_for, with_grant, with_graph, without_wait, woken}
-use Rattle.gl_model.specs.declared.answers.Detect.{Detect}
-use Rattle.gl_model.specs.declared.answers.Detect.TheVariants.{AtBlock, ByWatcher}
-use Rattle.gl_model.specs.declared.txn.Status.{Status}
-use Rattle.gl_model.specs.declared.txn.Status.TheVariants.{Active, Waiting, Condemned}
-use Rattle.gl_catalog.specs.Counters.{grants}
+use Rattle.gl_model.specs.Calls.{enqueued, Locks, WaitSettles}
+use Rattle.gl_model.specs.State.{awake, condemned, granted_at, pumped, restatus, SettledWithin, without_wait, woken}
+use Rattle.gl_model.specs.declared.answers.Detect.TheVariants.{ByWatcher}
 use Rattle.gl_steps.proofs.GraphChanges.{not_born}
-use Rattle.gl_steps.specs.Promises.{NobodyWaits}
 use Rattle.gl_steps.specs.Step.{lock_answer}
-use Rattle.gl_steps.specs.declared.command.Answer.{Answer}
-use Rattle.gl_window.proofs.RealBoards.{awaited_lives}
-use Rattle.gl_window.specs.Boards.{EndsWithWaits, HasParties, ShowsWaits}
+use Rattle.gl_window.specs.Boards.{EndsWithWaits}
 
 -- the waits of two states are the same, and so are the ages of each waiter and of the transaction for which it waits
 pub record SameWaits (s s' : State) : Type 0 where

@@ -1,15 +1,13 @@
 -- Nodes are removed with all their grants and waits, each with all below it: the law of a state is kept, and no wait is added.
-use Rattle.gl_model.proofs.Words.{[], ◌∙◌, ◌≡◌, ◌≤◌, age_in, ap, arith, Bool, false, filter, Graph, HasNoCycle, holds, if◌then◌else◌, intends}
-use Rattle.gl_model.proofs.Words.{intends_over, is_ahead, is_among_waiters, is_at_least, is_child, is_live, is_record_shape, is_some, is_waiter, IsLawful}
-use Rattle.gl_model.proofs.Words.{IsLawfulGraph, less-no_cycle, members, Mode, ModeFitsKind, nat_tests, NL, node_at, NodeId, not, Option, parents_in}
-use Rattle.gl_model.proofs.Words.{parents_of}
-use Rattle.gl_model.proofs.Words.{same_mode, shape_in, Some, State, status_in, status_of, subst, sym, true, Txn, Waiting, waits_at, waits_for, ℕ}
-use Rattle.gl_model.proofs.Words.{◌||◌, Active, Condemned, fun_ext, IsOrderly, None, or-true, refl, Status}
+use Rattle.gl_model.proofs.Words.{[], ◌||◌, ◌∙◌, ◌≡◌, ◌≤◌, Active, age_in, ap, arith, Bool, Condemned, false, filter, fun_ext, Graph, HasNoCycle, holds}
+use Rattle.gl_model.proofs.Words.{if◌then◌else◌, intends, intends_over, is_ahead, is_among_waiters, is_at_least, is_child, is_live, is_record_shape, is_some}
+use Rattle.gl_model.proofs.Words.{is_waiter, IsLawful, IsLawfulGraph, IsOrderly, less-no_cycle, members, Mode, ModeFitsKind, nat_tests, NL, node_at, NodeId}
+use Rattle.gl_model.proofs.Words.{None, not, Option, or-true, parents_in, parents_of, refl, same_mode, shape_in, since_in, Some, State, Status, status_in}
+use Rattle.gl_model.proofs.Words.{status_of, subst, sym, true, Txn, Waiting, waits_at, waits_for, ℕ}
 use Rattle.gl_model.specs.Calls.{departed, freed_among, none_among}
 use Rattle.gl_model.proofs.law.Edges.{is_step, step_is}
 use Rattle.gl_model.proofs.law.Keeps.{rule_same}
 use Rattle.gl_model.proofs.queues.Waiters.{among_by_filter}
-use Rattle.gl_model.specs.State.{since_in}
 
 -- this graph has all nodes that are not removed, and none that stays was below a removed one
 pub record GoAway (g : Graph) (goes : NodeId → Bool) (g' : Graph) : Type 0 where

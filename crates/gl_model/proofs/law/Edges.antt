@@ -1,10 +1,10 @@
 -- Who waits for whom after each change. For cycles and snapshots.
-use Rattle.gl_model.proofs.Words.{[], ⊎_elim, ◌&&◌, ◌++◌, ◌+◌, ◌==◌, ◌||◌, ◌∙◌, ◌∷◌, ◌≡◌, ◌≢◌, ◌⊎◌, Active, and_both, ap, append-nil, ap₂, are_compatible}
+use Rattle.gl_model.proofs.Words.{◌&&◌, ◌+◌, ◌++◌, ◌==◌, [], ◌||◌, ◌∙◌, ◌∷◌, ◌≡◌, ◌≢◌, ◌⊎◌, ⊎_elim, Active, and_both, ap, append-nil, ap₂, are_compatible}
 use Rattle.gl_model.proofs.Words.{arith, begun_since, blocks, Bool, clash, Condemned, differ-false, drop, enqueued, false, filter, granted_at, holds}
 use Rattle.gl_model.proofs.Words.{if◌then◌else◌, inr, is_ahead, is_among_waiters, is_waiter, IsLawful, length, List, Members, members, Mode, nat_tests}
-use Rattle.gl_model.proofs.Words.{NL-compatible, NodeId, None, not, not-true, number_other, Option, or_elim, or_left, or_right, placed, pumped, refl}
-use Rattle.gl_model.proofs.Words.{restatus, same_node, same_node-equal, Some, split, State, Status, status_in, status_of, sym, true, Txn, Waiter, Waiting}
-use Rattle.gl_model.proofs.Words.{waits_for, with_grant, ℕ}
+use Rattle.gl_model.proofs.Words.{NL-compatible, NodeId, None, not, not-true, number_other, Option, or_elim, or_left, or_right, placed, pumped, refl, restatus}
+use Rattle.gl_model.proofs.Words.{same_node, same_node-equal, Some, split, State, Status, status_in, status_of, sym, true, Txn, Waiter, Waiting, waits_for}
+use Rattle.gl_model.proofs.Words.{with_grant, ℕ}
 use Rattle.gl_model.proofs.law.Keeps.{grant_case, granted_rest, IsLawfulBut, IsLess, woken_waits}
 use Rattle.gl_model.proofs.queues.Edits.{ahead_within, any_left, chosen_is, HoldersFirst, keep_ahead}
 use Rattle.gl_model.proofs.queues.Waiters.{ahead, ahead_across, ahead_after, ahead_first, ahead_is, among_append, among_by_filter, placed_case}

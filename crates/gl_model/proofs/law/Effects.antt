@@ -1,5 +1,5 @@
 -- Effective modes, and that no two transactions conflict by them. For the laws and for `effective`.
-use Rattle.gl_model.proofs.Words.{[], ⊎_elim, ◌&&◌, ◌||◌, ◌∙◌, ◌∷◌, ◌≡◌, ◌≤◌, ◌⊎◌, all_at, and_both, any_found, ap, ap₂, are_compatible, arith, Bool, CutSetLaw}
+use Rattle.gl_model.proofs.Words.{◌&&◌, [], ◌||◌, ◌∙◌, ◌∷◌, ◌≡◌, ◌≤◌, ◌⊎◌, ⊎_elim, all_at, and_both, any_found, ap, ap₂, are_compatible, arith, Bool, CutSetLaw}
 use Rattle.gl_model.proofs.Words.{eff_s, eff_x, EffX, false, Graph, inl, inr, intends_over, IS, is_at_least, is_live, is_read, is_write, IsLawful}
 use Rattle.gl_model.proofs.Words.{IsLawfulGraph, IsRoute, IX, LawfulCutSet, LawfulNoConflict, length, List, list_all, list_any, live_end, Mode, nat_tests, NL}
 use Rattle.gl_model.proofs.Words.{no_parents, NoConflictLaw, node_count, NodeId, not, or-true, or_elim, or_no, parents_of, refl, route_short, rules, same_mode}

@@ -1,17 +1,16 @@
 -- What a grant and a loss keep of the law, and how fronts that grant bring the whole law back. For every change.
-use Rattle.gl_model.proofs.Words.{[], ⊎_elim, ◌&&◌, ◌++◌, ◌<◌, ◌==◌, ◌||◌, ◌∙◌, ◌∷◌, ◌≡◌, ◌≢◌, ◌≤◌, ◌⊎◌, Active, after_grants, age_in, age_of, and_both, ap}
+use Rattle.gl_model.proofs.Words.{◌&&◌, ◌++◌, ◌<◌, ◌==◌, [], ◌||◌, ◌∙◌, ◌∷◌, ◌≡◌, ◌≢◌, ◌≤◌, ◌⊎◌, ⊎_elim, Active, after_grants, age_in, age_of, and_both, ap}
 use Rattle.gl_model.proofs.Words.{ap₂, are_compatible, arith, at_least-refl, at_least-transitive, Bool, clash, compatible-symmetric, cond, Condemned, drop}
 use Rattle.gl_model.proofs.Words.{false, filter, filter-append, fits, fits-all, front, front-after_front, front_at, granted_at, holds, if◌then◌else◌, intends}
 use Rattle.gl_model.proofs.Words.{intends_over, IS, is_ahead, is_among_waiters, is_at_least, is_child, is_live, is_some, is_waiter, is_waiting_at, is_write}
 use Rattle.gl_model.proofs.Words.{IsCompatible, IsLawful, IsLawfulGraph, IsWithin, IX, length, List, list_all, list_any, Members, members, Mode, ModeFitsKind}
 use Rattle.gl_model.proofs.Words.{nat_tests, NL, NL-compatible, no_parents, NodeId, None, not, Option, or_elim, or_left, or_right, parents_of, pumped}
-use Rattle.gl_model.proofs.Words.{pumped-compatible, range_with_len, refl, rules, same_mode, same_node, same_node-equal, same_node-refl, same_number, Some}
-use Rattle.gl_model.proofs.Words.{split, State, Status, status_in, status_of, subst, sym, true, true≢false, Txn, Waiter, Waiting, waits_at, with_grant, woken}
-use Rattle.gl_model.proofs.Words.{ℕ}
+use Rattle.gl_model.proofs.Words.{pumped-compatible, range_with_len, refl, rules, same_mode, same_node, same_node-equal, same_node-refl, same_number, since_in}
+use Rattle.gl_model.proofs.Words.{since_of, Some, split, State, Status, status_in, status_of, subst, sym, true, true≢false, Txn, Waiter, Waiting, waits_at}
+use Rattle.gl_model.proofs.Words.{with_grant, woken, ℕ}
 use Rattle.gl_model.proofs.queues.Waiters.{ahead, ahead_after, ahead_first, ahead_is, ahead_second, all_weaker, among_append, any_weaker, grants_one}
 use Rattle.gl_model.proofs.queues.Waiters.{grants_other, if-false, if-true, no_cons, none_filtered, not_among, one_in_first}
 use Rattle.gl_model.proofs.queues.Fronts.{granted_parts}
-use Rattle.gl_model.specs.State.{since_in, since_of}
 use Rattle.gl_model.specs.Lawful.{AreKnown}
 
 -- one that does not hold has NL

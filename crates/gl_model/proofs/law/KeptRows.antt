@@ -1,5 +1,5 @@
 -- The last deadlock, while its rows are written and while a slot is settled. For deadlocks.
-use Rattle.gl_model.proofs.Words.{[], ◌&&◌, ◌++◌, ◌<◌, ◌==◌, ◌||◌, ◌↔◌, ◌∙◌, ◌∷◌, ◌≡◌, ◌≤◌, All-nil, All-push, All-same, all_pairs_push, AllPairs, and_both, ap}
+use Rattle.gl_model.proofs.Words.{◌&&◌, ◌++◌, ◌<◌, ◌==◌, [], ◌||◌, ◌↔◌, ◌∙◌, ◌∷◌, ◌≡◌, ◌≤◌, All-nil, All-push, All-same, all_pairs_push, AllPairs, and_both, ap}
 use Rattle.gl_model.proofs.Words.{ap₂, arith, Bool, candidate-on_cycle, clash, condemned, Deadlock, false, get_or, has_row, has_slot, HasNoSlot, IsDeadlock}
 use Rattle.gl_model.proofs.Words.{IsLowest, IsOnCycleOf, IsStuck, IsTrue, IsVictim, IsWalk, length, length-append, List, list_any, list_any-append, name_at}
 use Rattle.gl_model.proofs.Words.{nat_tests, not, not-true, or_elim, or_right, reaches_join, RowsLeadOn, same_number, Settled, SettledWithin, SettlesKeeping}

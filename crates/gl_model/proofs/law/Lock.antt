@@ -1,13 +1,12 @@
 -- A lock and an unlock keep the law, and no command on locks leaves a cycle. For the table's law.
-use Rattle.gl_model.proofs.Words.{[], ◌&&◌, ◌++◌, ◌+◌, ◌<◌, ◌==◌, ◌∙◌, ◌∷◌, ◌≡◌, Active, active_on, and_both, ap, arith, at_one-no_cycle, AtBlock, bad_mode}
+use Rattle.gl_model.proofs.Words.{◌&&◌, ◌+◌, ◌++◌, ◌<◌, ◌==◌, [], ◌∙◌, ◌∷◌, ◌≡◌, Active, active_on, and_both, ap, arith, at_one-no_cycle, AtBlock, bad_mode}
 use Rattle.gl_model.proofs.Words.{begun_since, Bool, ByWatcher, choosing, Condemned, condemned, Detect, empty_state, EmptyHasNoCycle, enqueued, enters_at}
 use Rattle.gl_model.proofs.Words.{false, find, first_refusal, HasNoCycle, held_child, if◌then◌else◌, intends, is_child, is_covered, is_live, is_none, is_some}
-use Rattle.gl_model.proofs.Words.{is_waiting_at, IsLawful, IsOnNoCycle, less-no_cycle, List, Mode, nat_tests, need_parents, NL, no_step-no_cycle, NodeId}
+use Rattle.gl_model.proofs.Words.{is_waiting_at, IsLawful, IsOnNoCycle, less-no_cycle, List, Locks, Mode, nat_tests, need_parents, NL, no_step-no_cycle, NodeId}
 use Rattle.gl_model.proofs.Words.{None, not_refused, not_true, number_same, Option, parents_of, pumped, range_with_len, refl, Refusal, released, restatus}
-use Rattle.gl_model.proofs.Words.{same_node, same_node-equal, same_node-sym, Settled, SettledWithin, SettlingFrees, shed, Some, split, State, Status}
-use Rattle.gl_model.proofs.Words.{status_in, status_of, subst, suc, supremum-above, sym, true, Txn, TxnId, Victims, Waiter, waits_for, WaitSettles, wanted}
-use Rattle.gl_model.proofs.Words.{with_grant, without_wait, without_waiter, zero, ℕ}
-use Rattle.gl_model.specs.Calls.{Locks}
+use Rattle.gl_model.proofs.Words.{same_node, same_node-equal, same_node-sym, Settled, SettledWithin, SettlingFrees, shed, Some, split, State, Status, status_in}
+use Rattle.gl_model.proofs.Words.{status_of, subst, suc, supremum-above, sym, true, Txn, TxnId, Victims, Waiter, waits_for, WaitSettles, wanted, with_grant}
+use Rattle.gl_model.proofs.Words.{without_wait, without_waiter, zero, ℕ}
 use Rattle.gl_model.proofs.law.Edges.{begun_steps, enqueued_steps, granted_steps, idle_no_step, less_steps, pumped_steps}
 use Rattle.gl_model.proofs.law.Keeps.{apart, IsLess, less-lawful, pumped-lawful, with_grant-lawful}
 use Rattle.gl_model.proofs.law.Takes.{at_all, condemned-lawful, enqueued-lawful, IsQuiet, released-less, settled-lawful, taken-less, without_wait-less}

@@ -1,5 +1,5 @@
 -- A node gets other parents: the law is kept, and no step of a wait is new. For moves.
-use Rattle.gl_model.proofs.Words.{[], ⊎_elim, ◌&&◌, ◌<◌, ◌==◌, ◌||◌, ◌∙◌, ◌∷◌, ◌≡◌, ◌≢◌, ◌≤◌, ◌⊎◌, Active, age_of, and_both, ap, are_compatible}
+use Rattle.gl_model.proofs.Words.{◌&&◌, ◌<◌, ◌==◌, [], ◌||◌, ◌∙◌, ◌∷◌, ◌≡◌, ◌≢◌, ◌≤◌, ◌⊎◌, ⊎_elim, Active, age_of, and_both, ap, are_compatible}
 use Rattle.gl_model.proofs.Words.{AreInnerParents, arith, at_here, at_other, Bool, cases_of, cond, false, file_of_record, filter, first_cycle, fits, front}
 use Rattle.gl_model.proofs.Words.{Graph, HasNoCycle, holds, holds_x, holds_x_on_all, if◌then◌else◌, inl, inner_live, inr, intends, intends_over, IS, is_ahead}
 use Rattle.gl_model.proofs.Words.{is_among_waiters, is_at_least, is_live, is_movable_shape, is_record_shape, is_some, is_waiter, is_waiting_at, is_write}
@@ -8,8 +8,8 @@ use Rattle.gl_model.proofs.Words.{Mode, ModeFitsKind, movable_alike, move_lawful
 use Rattle.gl_model.proofs.Words.{no_parents, Node, node_at, node_count, NodeId, nodes, nodes_same, None, not, not_false, Option, or_elim, or_left, or_right}
 use Rattle.gl_model.proofs.Words.{other_number, parents_in, parents_of, range-each, Rec, rec_alike, rec_same, record_shape, refl, rekey_lawful, rekeyed}
 use Rattle.gl_model.proofs.Words.{rekeyed_is, rekeyed_keys, rekeyed_parents, rules, same_mode, same_node, same_node-equal, same_node-other, same_number, Shape}
-use Rattle.gl_model.proofs.Words.{shape_in, shape_of, Some, some_given, some_is, split, State, status_of, stays, subst, sym, test_fails, there_is, true}
-use Rattle.gl_model.proofs.Words.{true≢false, Waiting, waits_at, waits_for, with_node, with_parents, with_parents_is, X, ℕ}
+use Rattle.gl_model.proofs.Words.{shape_in, shape_of, since_of, Some, some_given, some_is, split, State, status_of, stays, subst, sym, test_fails, there_is}
+use Rattle.gl_model.proofs.Words.{true, true≢false, Waiting, waits_at, waits_for, with_node, with_parents, with_parents_is, X, ℕ}
 use Rattle.gl_model.proofs.law.Edges.{is_step, step_is}
 use Rattle.gl_model.proofs.law.Effects.{any_all, holds_one, x_blocks, x_is}
 use Rattle.gl_model.proofs.law.Keeps.{apart, nl_is, txn_there, waiting_is}
@@ -17,7 +17,6 @@ use Rattle.gl_model.proofs.law.Strays.{all_filtered, all_of_some, all_waits, stu
 use Rattle.gl_model.proofs.law.Tests.{all_ix}
 use Rattle.gl_model.proofs.queues.Edits.{any_left, filtered_ahead, one_left, one_stays, unless_age, unless_since, unless_some, unless_waits, waits_unless}
 use Rattle.gl_model.proofs.queues.Waiters.{ahead_first, ahead_is, all_weaker, if-true}
-use Rattle.gl_model.specs.State.{since_of}
 
 -- What a transaction holds that may give a node other parents.
 
@@ -54,9 +53,6 @@ x_above a b h k = search rules
 
 x_writes : (a : Mode) → same_mode a X ≡ true → is_write a ≡ true
 x_writes a h = search rules
-
-x_at_least_is : (a : Mode) → same_mode a X ≡ true → is_at_least a IS ≡ true
-x_at_least_is a h = search rules
 
 all_x_ix : (held : NodeId → Mode) (ps : List NodeId) → list_all (λ p. same_mode (held p) X) ps ≡ true → list_all (λ p. is_at_least (held p) IX) ps ≡ true
 all_x_ix held ps h = all_weaker (λ p. same_mode (held p) X) (λ p. is_at_least (held p) IX) ps (λ p. x_is (held p)) h

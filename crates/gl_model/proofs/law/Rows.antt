@@ -1,5 +1,5 @@
 -- Records without locks are added and removed, and all others keep their parents: effective modes stay. For rows that are adopted and forgotten.
-use Rattle.gl_model.proofs.Words.{[], ◌&&◌, ◌||◌, ◌∙◌, ◌∷◌, ◌≡◌, ap, ap₂, arith, clash, eff_s, eff_x, effective, false, Graph, if◌then◌else◌, is_idle, is_live}
+use Rattle.gl_model.proofs.Words.{◌&&◌, [], ◌||◌, ◌∙◌, ◌∷◌, ◌≡◌, ap, ap₂, arith, clash, eff_s, eff_x, effective, false, Graph, if◌then◌else◌, is_idle, is_live}
 use Rattle.gl_model.proofs.Words.{is_read, is_record_shape, is_some, IsLawful, IsLawfulGraph, keys_in, list_all, list_any, live_node, marked, marked_live}
 use Rattle.gl_model.proofs.Words.{marked_parents, marked_record, Mode, nat_tests, no_parents, Node, node_at, node_count, NodeId, not, old_same, parent_plain}
 use Rattle.gl_model.proofs.Words.{parents_in, parents_of, refl, same_mode, same_node, same_node-equal, shape_in, shape_of, Some, State, suc, sym, true}

@@ -1,19 +1,13 @@
 -- A schema changes under the lock of a transaction: nodes are dropped, and an index is made that its maker holds. The law of a state is kept.
-use Rattle.gl_model.proofs.Words.{[], ◌+◌, ◌∙◌, ◌∷◌, ◌≡◌, Active, and_both, ap, are_compatible, arith, false, first_not_ix, fits-from_all, Graph, HasNoCycle}
-use Rattle.gl_model.proofs.Words.{Index, intends_over, interval_nodes, is_at_least, is_live, is_movable_shape, is_some, IsIndexBorn, IsLawful, IsLawfulGraph}
-use Rattle.gl_model.proofs.Words.{List}
-use Rattle.gl_model.proofs.Words.{list_any, members, new_id, new_node, NL, Node, node_at, node_is, NodeId, None, old_below, Option, is_child, or_no}
-use Rattle.gl_model.proofs.Words.{parents_in, parents_of, refl, same_node, same_node-equal, shape_in, shape_of, Some}
-use Rattle.gl_model.proofs.Words.{State, status_of, sym, true, with_grant, with_graph, X, ℕ}
-use Rattle.std.proofs.lemmas.Bool.{not-true}
-use Rattle.gl_modes.proofs.Words.{no, or_elim}
+use Rattle.gl_model.proofs.Words.{◌+◌, [], ◌∙◌, ◌∷◌, ◌≡◌, Active, and_both, ap, are_compatible, arith, false, File, first_not_ix, fits-from_all, Graph}
+use Rattle.gl_model.proofs.Words.{HasNoCycle, HasShape, Index, index_lawful, Inner, intends_over, Interval, interval_nodes, is_at_least, is_child, is_live}
+use Rattle.gl_model.proofs.Words.{is_movable_shape, is_some, IsIndexBorn, IsLawful, IsLawfulGraph, List, list_any, members, new_id, new_node, NL, no, Node}
+use Rattle.gl_model.proofs.Words.{node_at, node_is, NodeId, None, not-true, old_below, Option, or_elim, or_no, parents_in, parents_of, Rec, refl, same_node}
+use Rattle.gl_model.proofs.Words.{same_node-equal, Shape, shape_in, shape_of, Some, State, status_of, sym, true, with_grant, with_graph, X, ℕ}
 use Rattle.gl_graph.proofs.Branch.{children_are, is_interval_shape, left_lawful, left_live, live, stays_left}
-use Rattle.gl_graph.proofs.NewIndex.{index_lawful}
 use Rattle.gl_graph.proofs.Unrefused.{IsRoomyIndex}
 use Rattle.gl_graph.specs.Changes.{without_branch}
-use Rattle.gl_graph.specs.Lawful.{HasShape}
 use Rattle.gl_graph.specs.Refusals.{is_in_use}
-use Rattle.gl_graph.specs.Shapes.{File, Inner, Interval, Rec, Shape}
 use Rattle.gl_model.specs.Calls.{dropped, goes_with}
 use Rattle.gl_model.proofs.law.Departures.{departed-no_cycle, departed_lawful, GoAway}
 use Rattle.gl_model.proofs.law.Keeps.{with_grant-lawful}

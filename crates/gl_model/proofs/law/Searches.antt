@@ -1,5 +1,5 @@
 -- Searches upwards, and effective modes in a changed graph. For `effective` and for the crates above.
-use Rattle.gl_model.proofs.Words.{[], ◌&&◌, ◌+◌, ◌==◌, ◌||◌, ◌∙◌, ◌∷◌, ◌≡◌, all_at, among, and_both, ap, ap₂, arith, AtBlock, Bool, climb_ends, climb_meets}
+use Rattle.gl_model.proofs.Words.{◌&&◌, ◌+◌, ◌==◌, [], ◌||◌, ◌∙◌, ◌∷◌, ◌≡◌, all_at, among, and_both, ap, ap₂, arith, AtBlock, Bool, climb_ends, climb_meets}
 use Rattle.gl_model.proofs.Words.{climb_more, eff_s, eff_x, effective, empty_state, false, first_more, Graph, if◌then◌else◌, is_live, is_read, is_record_shape}
 use Rattle.gl_model.proofs.Words.{is_some, IsClimb, IsLawful, IsLawfulGraph, IsRoute, item_among, keys_in, Leads, length, List, list_all, list_any, Mode}
 use Rattle.gl_model.proofs.Words.{nat_tests, never, never_stops, next_of, no, no_parents, Node, node_at, node_count, NodeId, None, not, Option, or-true}

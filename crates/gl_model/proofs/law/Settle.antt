@@ -1,13 +1,12 @@
 -- Settling ends, in one state; chains of waits end; one victim is enough. For the laws and for deadlocks.
-use Rattle.gl_model.proofs.Words.{[], ⊎_elim, ◌&&◌, ◌<◌, ◌==◌, ◌||◌, ◌∙◌, ◌∷◌, ◌≡◌, ◌≤◌, ◌⊎◌, Active, age_of, ap, ap₂, are_compatible, arith, AtBlock, Bool}
+use Rattle.gl_model.proofs.Words.{◌&&◌, ◌<◌, ◌==◌, [], ◌||◌, ◌∙◌, ◌∷◌, ◌≡◌, ◌≤◌, ◌⊎◌, ⊎_elim, Active, age_of, ap, ap₂, are_compatible, arith, AtBlock, Bool}
 use Rattle.gl_model.proofs.Words.{ByWatcher, candidate-on_cycle, clash, Condemned, condemned, CondemningFrees, Detect, enqueued, enters_at, false, Fewest}
 use Rattle.gl_model.proofs.Words.{filter, fits, freed-fewer, front, granted_at, HasNoCycle, holds, if◌then◌else◌, inl, inr, is_ahead, is_among_waiters}
-use Rattle.gl_model.proofs.Words.{is_wait, is_waiter, is_waiting_at, IsLawful, IsOnNoCycle, IsVictim, IsWalk, length, List, list_all, list_any, members, Mode}
-use Rattle.gl_model.proofs.Words.{nat_tests, NL, NodeId, None, not, not_true, number_same, OneIsVictim, Option, or_elim, or_left, or_no, or_right}
-use Rattle.gl_model.proofs.Words.{range_with_len, Reaches, refl, rules, same_number, Settled, SettledWithin, SettlingEnds, since_of, slots, Some, split}
-use Rattle.gl_model.proofs.Words.{State, Status, status_in, status_of, subst, suc, sym, true, TxnId, Victims, Waiter, Waiting, waits_for, WaitSettles, wanted}
-use Rattle.gl_model.proofs.Words.{with_grant, without_wait, zero, ℕ, is_earlier, IsCandidate, latest-none_later, neither_earlier}
-use Rattle.gl_model.specs.Calls.{Locks}
+use Rattle.gl_model.proofs.Words.{is_earlier, is_wait, is_waiter, is_waiting_at, IsCandidate, IsLawful, IsOnNoCycle, IsVictim, IsWalk, latest-none_later}
+use Rattle.gl_model.proofs.Words.{length, List, list_all, list_any, Locks, members, Mode, nat_tests, neither_earlier, NL, NodeId, None, not, not_true}
+use Rattle.gl_model.proofs.Words.{number_same, OneIsVictim, Option, or_elim, or_left, or_no, or_right, range_with_len, Reaches, refl, rules, same_number}
+use Rattle.gl_model.proofs.Words.{Settled, SettledWithin, SettlingEnds, since_of, slots, Some, split, State, Status, status_in, status_of, subst, suc, sym}
+use Rattle.gl_model.proofs.Words.{true, TxnId, Victims, Waiter, Waiting, waits_for, WaitSettles, wanted, with_grant, without_wait, zero, ℕ}
 use Rattle.gl_model.proofs.law.Edges.{is_step, step_is}
 use Rattle.gl_model.proofs.law.Keeps.{nl_is, txn_there, waiting_is, woken_waits}
 use Rattle.gl_model.proofs.law.Lock.{condemned_steps, MayLock, waiting-lawful}

@@ -1,10 +1,8 @@
 -- Waiters whose modes do not meet the rule of the graph, and queues without them. For moves.
-use Rattle.gl_model.proofs.Words.{[], ◌&&◌, ◌+◌, ◌<◌, ◌==◌, ◌||◌, ◌∙◌, ◌∷◌, ◌≡◌, and_both, ap, ap₂, arith, Bool, both, cases_of, clash, false, filter}
-use Rattle.gl_model.proofs.Words.{filter-append, fits, front, get_or, intends_over, is_among_waiters, is_none, is_waiter, length, List, list_all, list_any_at}
-use Rattle.gl_model.proofs.Words.{Members, Mode, nat_tests, NodeId, not, not-true, number_same, or_left, or_right, refl, rule_refusal, split, sym, take}
-use Rattle.gl_model.proofs.Words.{take_more, true, Waiter, without_waiter, ℕ}
-use Rattle.gl_slots.specs.declared.slots.Slots.{Slots}
-use Rattle.gl_slots.specs.Slots.{has_slot}
+use Rattle.gl_model.proofs.Words.{◌&&◌, ◌+◌, ◌<◌, ◌==◌, [], ◌||◌, ◌∙◌, ◌∷◌, ◌≡◌, and_both, ap, ap₂, arith, Bool, both, cases_of, clash, false, filter}
+use Rattle.gl_model.proofs.Words.{filter-append, fits, front, get_or, has_slot, intends_over, is_among_waiters, is_none, is_waiter, length, List, list_all}
+use Rattle.gl_model.proofs.Words.{list_any_at, Members, Mode, nat_tests, NodeId, not, not-true, number_same, or_left, or_right, refl, rule_refusal, Slots}
+use Rattle.gl_model.proofs.Words.{split, sym, take, take_more, true, Waiter, without_waiter, ℕ}
 use Rattle.gl_model.proofs.law.Tests.{rule_met}
 use Rattle.gl_model.proofs.queues.Edits.{filter_no, filter_yes}
 use Rattle.gl_model.proofs.queues.Waiters.{among_append, if-false, if-true}

@@ -1,14 +1,13 @@
 -- Removed grants and waits, a wait that begins, and the empty state: the law is kept. For releases, locks and new tables.
-use Rattle.gl_model.proofs.Words.{[], ⊎_elim, ◌&&◌, ◌+◌, ◌<◌, ◌==◌, ◌||◌, ◌∙◌, ◌∷◌, ◌≡◌, ◌≢◌, ◌≤◌, ◌⊎◌, Active, age_in, age_of, and_both, ap, ap₂, arith}
-use Rattle.gl_model.proofs.Words.{begun_since, Bool, choosing, clash, Condemned, condemned, Detect, empty_state, enqueued, enters, false, filter, front}
-use Rattle.gl_model.proofs.Words.{holds, if◌then◌else◌, inl, inr, intends, is_ahead, is_among_waiters, is_at_least, is_child, is_live, is_some, is_waiter}
-use Rattle.gl_model.proofs.Words.{is_wait, is_waiting_at, IsLawful, members, Mode, ModeFitsKind, nat_tests, NL, no, NodeId, None, none_some, not, number_other}
+use Rattle.gl_model.proofs.Words.{◌&&◌, ◌+◌, ◌<◌, ◌==◌, [], ◌^◌, ◌||◌, ◌∙◌, ◌∷◌, ◌≡◌, ◌≢◌, ◌≤◌, ◌⊎◌, ⊎_elim, Active, age_in, age_of, and_both, ap, ap₂, arith}
+use Rattle.gl_model.proofs.Words.{begun_since, Bool, choosing, clash, Condemned, condemned, Detect, empty_state, enqueued, enters, false, filter, front, holds}
+use Rattle.gl_model.proofs.Words.{if◌then◌else◌, inl, inr, intends, is_ahead, is_among_waiters, is_at_least, is_child, is_live, is_some, is_wait, is_waiter}
+use Rattle.gl_model.proofs.Words.{is_waiting_at, IsLawful, members, Mode, ModeFitsKind, nat_tests, NL, no, NodeId, None, none_some, not, number_other}
 use Rattle.gl_model.proofs.Words.{number_same, Option, or_no, other_number, placed, pumped, refl, released, restatus, same_mode, same_node, same_node-equal}
-use Rattle.gl_model.proofs.Words.{same_node-refl, same_number, Settled, SettledWithin, Some, split, State, Status, status_in, status_of, stripped, subst, suc}
-use Rattle.gl_model.proofs.Words.{sym, true, Txn, Victims, Waiting, waits_at, without_wait, without_waiter, zero, ℕ}
-use Rattle.std.specs.Prelude.{◌^◌}
-use Rattle.gl_model.specs.State.{with_limits, since_in, since_of}
-use Rattle.gl_model.proofs.law.Keeps.{age_none, apart, IsLess, less-lawful, nl_holds, nl_is, pumped-lawful, txn_there, waiting_is}
+use Rattle.gl_model.proofs.Words.{same_node-refl, same_number, Settled, SettledWithin, since_in, since_of, Some, split, State, Status, status_in, status_of}
+use Rattle.gl_model.proofs.Words.{stripped, subst, suc, sym, true, Txn, Victims, Waiting, waits_at, without_wait, without_waiter, zero, ℕ}
+use Rattle.gl_model.specs.State.{with_limits}
+use Rattle.gl_model.proofs.law.Keeps.{age_none, apart, IsLess, less-lawful, nl_holds, nl_is, pumped-lawful, waiting_is}
 use Rattle.gl_model.proofs.queues.Edits.{among_same, HoldersFirst, out_of_without, placed_front, placed_order, placed_other, placed_self, without_ahead}
 use Rattle.gl_model.proofs.queues.Edits.{without_filter, without_none}
 use Rattle.gl_model.proofs.queues.Waiters.{ahead_is, if-false, if-true}

@@ -1,5 +1,5 @@
 -- What a command that is not refused may count on, and escalations. For the calls that have conditions.
-use Rattle.gl_model.proofs.Words.{[], ◌&&◌, ◌++◌, ◌==◌, ◌||◌, ◌∙◌, ◌∷◌, ◌≡◌, ◌≢◌, Active, active_on, all_at, and_both, any_found, ap, ap₂, arith}
+use Rattle.gl_model.proofs.Words.{◌&&◌, ◌++◌, ◌==◌, [], ◌||◌, ◌∙◌, ◌∷◌, ◌≡◌, ◌≢◌, Active, active_on, all_at, and_both, any_found, ap, ap₂, arith}
 use Rattle.gl_model.proofs.Words.{asked_by_escalation, bad_mode, Bool, child_held, clash, cond, condemned_test, false, find, first_not_ix, first_of_all}
 use Rattle.gl_model.proofs.Words.{first_refusal, fits, held_child, holds, if◌then◌else◌, intends, intends_over, IS, is_at_least, is_child, is_covered, is_live}
 use Rattle.gl_model.proofs.Words.{is_record_shape, is_write, IsLawful, IX, List, list_all, list_any, listed, live_by, members, Mode, ModeFitsKind, nat_tests}

@@ -1,12 +1,10 @@
 -- How many nodes pass a test, and how many of a node's children. For the counts of held children.
-use Rattle.gl_model.proofs.Words.{[], ◌&&◌, ◌+◌, ◌∙◌, ◌∷◌, ◌≡◌, ◌≢◌, ◌≤◌, all_filter, and_both, ap, ap₂, are_distinct, arith, Bool, both, cases_of}
-use Rattle.gl_model.proofs.Words.{children_that, cond, count_by, count_by-le-length, count_cons, false, File, first_in, first_parent, fun_ext, Graph}
-use Rattle.gl_model.proofs.Words.{HasShape, if◌then◌else◌, Index, indexes_distinct, indexes_of, Inner, Interval, interval_is, interval_of, intervals_of}
-use Rattle.gl_model.proofs.Words.{is_child, is_file_shape, is_index_of_shape, is_live, IsLawfulGraph, length, List, list_all, list_any, listed, nat_tests, no}
-use Rattle.gl_model.proofs.Words.{node_at, NodeId, nodes, nodes_distinct, not, not_true, or_elim, or_left, or_right, parents_in, parents_of, Rec, refl}
-use Rattle.gl_model.proofs.Words.{same_node, same_node-equal, same_node-from_equal, same_node-refl, same_node-sym, Shape, shape_in, shape_of, split, subst, sym}
-use Rattle.gl_model.proofs.Words.{true, ℕ}
-use Rattle.std.specs.Prelude.{◌^◌}
+use Rattle.gl_model.proofs.Words.{◌&&◌, ◌+◌, [], ◌^◌, ◌∙◌, ◌∷◌, ◌≡◌, ◌≢◌, ◌≤◌, all_filter, and_both, ap, ap₂, are_distinct, arith, Bool, both, cases_of}
+use Rattle.gl_model.proofs.Words.{children_that, cond, count_by, count_by-le-length, count_cons, false, File, first_in, first_parent, fun_ext, Graph, HasShape}
+use Rattle.gl_model.proofs.Words.{if◌then◌else◌, Index, indexes_distinct, indexes_of, Inner, Interval, interval_is, interval_of, intervals_of, is_child}
+use Rattle.gl_model.proofs.Words.{is_file_shape, is_index_of_shape, is_live, IsLawfulGraph, length, List, list_all, list_any, listed, nat_tests, no, node_at}
+use Rattle.gl_model.proofs.Words.{NodeId, nodes, nodes_distinct, not, not_true, or_elim, or_left, or_right, parents_in, parents_of, Rec, refl, same_node}
+use Rattle.gl_model.proofs.Words.{same_node-equal, same_node-from_equal, same_node-refl, same_node-sym, Shape, shape_in, shape_of, split, subst, sym, true, ℕ}
 
 -- The parents of a node in a lawful graph: no two alike, and at most eight.
 

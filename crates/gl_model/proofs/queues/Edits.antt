@@ -1,11 +1,10 @@
 -- Queues with a wait removed, or one placed. For waits that begin and end.
-use Rattle.gl_model.proofs.Words.{[], ◌&&◌, ◌++◌, ◌==◌, ◌||◌, ◌∙◌, ◌∷◌, ◌≡◌, ◌≢◌, age_in, and_both, ap, ap₂, arith, Bool, clash, enters, false, filter}
+use Rattle.gl_model.proofs.Words.{◌&&◌, ◌++◌, ◌==◌, [], ◌||◌, ◌∙◌, ◌∷◌, ◌≡◌, ◌≢◌, age_in, and_both, ap, ap₂, arith, Bool, clash, enters, false, filter}
 use Rattle.gl_model.proofs.Words.{filter-append, fits, freed, freed_unless, front, holds, if◌then◌else◌, is_among_waiters, is_empty, is_some, is_waiter, List}
 use Rattle.gl_model.proofs.Words.{list_all, list_any, Members, Mode, nat_tests, no, NodeId, not, number_other, Option, or_elim, or_left, or_right, placed, refl}
-use Rattle.gl_model.proofs.Words.{same_node, same_number, Some, split, status_in, sym, true, Txn, Waiter, Waiting, waits_at, without_waiter, ℕ}
+use Rattle.gl_model.proofs.Words.{same_node, same_number, since_in, Some, split, status_in, sym, true, Txn, Waiter, Waiting, waits_at, without_waiter, ℕ}
 use Rattle.gl_model.proofs.queues.Waiters.{ahead, ahead_first, among_append, among_waits, if-false, if-true, keep_filter, none_filtered, not_among, placed_case}
 use Rattle.gl_model.proofs.queues.Waiters.{placed_other as another_placed, some_wait, waits_of, without_other}
-use Rattle.gl_model.specs.State.{since_in}
 
 -- A queue with a wait removed, and one with a wait placed.
 
@@ -151,20 +150,6 @@ one_stays p r xs y one h =
 
 pub one_left : (p r : Waiter → Bool) (xs : List Waiter) (y : Waiter) → filter p xs ≡ y ∷ [] → r y ≡ true → filter p (filter r xs) ≡ y ∷ []
 one_left p r xs y one t = filter_swap p r xs ∙ ap (filter r) one ∙ filter_yes r y [] t
-
--- a status after the waits on a node are removed
-pub some_freed : (n : NodeId) (o : Option Txn) → is_some (freed n o) ≡ is_some o
-some_freed n o = grind (arith, nat_tests, o)
-
-pub age_freed : (n : NodeId) (o : Option Txn) → age_in (freed n o) ≡ age_in o
-age_freed n o = grind (arith, nat_tests, o)
-
-pub still_waits : (n q : NodeId) (m : Mode) (o : Option Txn) → status_in (freed n o) ≡ Some (Waiting q m) → (status_in o ≡ Some (Waiting q m))
-    × (same_node q n ≡ false)
-still_waits n q m o e = grind (arith, nat_tests)
-
-pub waits_still : (n q : NodeId) (o : Option Txn) → waits_at (status_in o) q ≡ true → same_node q n ≡ false → waits_at (status_in (freed n o)) q ≡ true
-waits_still n q o h other = grind (arith, nat_tests)
 
 pub unless_some : (keeps : ℕ → Bool) (n : NodeId) (u : ℕ) (o : Option Txn) → is_some (freed_unless keeps n u o) ≡ is_some o
 unless_some keeps n u o = grind (arith, nat_tests)

@@ -1,5 +1,5 @@
 -- What nodes grant from their fronts, in any order, and without one transaction. For releases of many nodes.
-use Rattle.gl_model.proofs.Words.{[], ◌&&◌, ◌++◌, ◌==◌, ◌||◌, ◌∙◌, ◌∷◌, ◌≡◌, Active, after_grants, ap, append-nil, ap₂, are_compatible, arith, awake, Bool}
+use Rattle.gl_model.proofs.Words.{◌&&◌, ◌++◌, ◌==◌, [], ◌||◌, ◌∙◌, ◌∷◌, ◌≡◌, Active, after_grants, ap, append-nil, ap₂, are_compatible, arith, awake, Bool}
 use Rattle.gl_model.proofs.Words.{clash, Condemned, drop, drop-nil, false, fits, front, front-and_rest, fun_ext, granted_at, if◌then◌else◌, is_among_waiters}
 use Rattle.gl_model.proofs.Words.{length, List, list_all, Members, members, Mode, nat_tests, NL, NL-compatible, NodeId, None, not_true, Option, or_left, or_no}
 use Rattle.gl_model.proofs.Words.{pumped, range_with_len, refl, same_number, Some, State, Status, stripped, sym, true, true≢false, Txn, Waiter, Waiting}

@@ -1,10 +1,9 @@
 -- Queues of waiters: their places, their front, and what granting gives one slot. For all about queues.
-use Rattle.gl_slots.specs.Limit.{most_slots}
-use Rattle.gl_model.proofs.Words.{[], ◌&&◌, ◌++◌, ◌+◌, ◌<◌, ◌==◌, ◌||◌, ◌∙◌, ◌∷◌, ◌≡◌, ◌≢◌, ◌⊎◌, after_grants, All-same, and_both, ap, append-nil, ap₂, arith}
+use Rattle.gl_model.proofs.Words.{◌&&◌, ◌+◌, ◌++◌, ◌<◌, ◌==◌, [], ◌||◌, ◌∙◌, ◌∷◌, ◌≡◌, ◌≢◌, ◌⊎◌, after_grants, All-same, and_both, ap, append-nil, ap₂, arith}
 use Rattle.gl_model.proofs.Words.{before_first, Bool, both, clash, differ-false, false, filter, filter-append, get_or, HeaderState, holds, if◌then◌else◌, inl}
 use Rattle.gl_model.proofs.Words.{inr, is_ahead, is_among_waiters, is_waiter, IsLawfulHeader, length, List, list_all, list_any, list_any-append, list_any_at}
-use Rattle.gl_model.proofs.Words.{Members, Mode, nat_tests, not, number_other, number_same, or_elim, or_left, or_right, placed, refl, split, subst, suc, sym}
-use Rattle.gl_model.proofs.Words.{take, take_more, true, Waiter, with_mode, without_waiter, zero, ℕ}
+use Rattle.gl_model.proofs.Words.{Members, Mode, most_slots, nat_tests, not, number_other, number_same, or_elim, or_left, or_right, placed, refl, split, subst}
+use Rattle.gl_model.proofs.Words.{suc, sym, take, take_more, true, Waiter, with_mode, without_waiter, zero, ℕ}
 
 -- What a test picks that is decided.
 

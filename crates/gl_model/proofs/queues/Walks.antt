@@ -1,10 +1,10 @@
 -- Walks of a relation between finitely many numbers. For deadlocks: whether there is one, and its victim.
-use Rattle.gl_model.proofs.Words.{[], ⊤, ◌&&◌, ◌+◌, ◌<◌, ◌==◌, ◌||◌, ◌∙◌, ◌∷◌, ◌≡◌, ◌≢◌, ◌≤◌, AllByRecursion, and_both, ap, ap₂, arith, Bool}
-use Rattle.gl_model.proofs.Words.{candidate-on_cycle, clash, false, Fewest, freeing-itself, if◌then◌else◌, IsCandidate, IsDistinct, IsEquivalence}
-use Rattle.gl_model.proofs.Words.{IsOnCycleOf, IsOnNoCycle, is_earlier, IsLatest, IsWalk, earlier-itself, earlier-not_back, earlier-over, latest-from, ⊎_elim}
-use Rattle.gl_model.proofs.Words.{◌⊎◌, length, length-le_from_is_member, length-range_with_len, List, list_any, nat_tests, no_cycle-reaches, None, not}
-use Rattle.gl_model.proofs.Words.{not-true, number_same, on_cycle-reaches, Option, or_elim, or_left, or_right, range_with_len, Reaches, refl, same_number}
-use Rattle.gl_model.proofs.Words.{Some, split, subst, suc, sym, true, Victims, waits_of-less, without, Youngest, zero, ℕ}
+use Rattle.gl_model.proofs.Words.{◌&&◌, ◌+◌, ◌<◌, ◌==◌, [], ◌||◌, ◌∙◌, ◌∷◌, ◌≡◌, ◌≢◌, ◌≤◌, ◌⊎◌, ⊎_elim, ⊤, AllByRecursion, and_both, ap, ap₂, arith, Bool}
+use Rattle.gl_model.proofs.Words.{candidate-on_cycle, clash, earlier-itself, earlier-not_back, earlier-over, false, Fewest, freeing-itself, if◌then◌else◌}
+use Rattle.gl_model.proofs.Words.{is_earlier, IsCandidate, IsDistinct, IsEquivalence, IsLatest, IsOnCycleOf, IsOnNoCycle, IsWalk, latest-from, length}
+use Rattle.gl_model.proofs.Words.{length-le_from_is_member, length-range_with_len, List, list_any, nat_tests, no_cycle-reaches, None, not, not-true}
+use Rattle.gl_model.proofs.Words.{number_same, on_cycle-reaches, Option, or_elim, or_left, or_right, range_with_len, Reaches, refl, same_number, Some, split}
+use Rattle.gl_model.proofs.Words.{subst, suc, sym, true, Victims, waits_of-less, without, Youngest, zero, ℕ}
 
 abbrev pub same : ℕ → ℕ → Bool
 same x y = x == y

@@ -1,7 +1,7 @@
 -- From one state to another by releases and ended waits (`IsBetween`), and what the steps tell. For all that tells.
-use Rattle.gl_model.proofs.Words.{[], ◌&&◌, ◌++◌, ◌==◌, ◌∙◌, ◌∷◌, ◌≡◌, Active, addressed, age_of, ap, ap₂, arith, Bool, clash, Condemned, drop, false}
+use Rattle.gl_model.proofs.Words.{◌&&◌, ◌++◌, ◌==◌, [], ◌∙◌, ◌∷◌, ◌≡◌, Active, addressed, age_of, ap, ap₂, arith, Bool, clash, Condemned, drop, false}
 use Rattle.gl_model.proofs.Words.{filter-append, front_at, grant_notice, granted_at, if◌then◌else◌, is_among_waiters, is_live, is_waiter, is_waiting_at}
-use Rattle.gl_model.proofs.Words.{IsLawful, IsBetween, length, List, members, Mode, mode_given, nat_tests, NL, NodeId, None, not, not_true, notice_of}
+use Rattle.gl_model.proofs.Words.{IsBetween, IsLawful, length, List, members, Mode, mode_given, nat_tests, NL, NodeId, None, not, not_true, notice_of}
 use Rattle.gl_model.proofs.Words.{number_other, number_same, Option, or_left, or_right, other_number, pumped, refl, restatus, same_mode, same_mode-refl}
 use Rattle.gl_model.proofs.Words.{same_node, same_node-equal, same_node-refl, same_number, Some, State, Status, status_in, status_of, sym, told_from, told_to}
 use Rattle.gl_model.proofs.Words.{true, Txn, TxnId, unlocked, Waiter, Waiting, waits_at, with_grant, with_txn, without_wait, woken, ℕ}

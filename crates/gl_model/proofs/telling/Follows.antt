@@ -1,5 +1,5 @@
 -- What a change by others leaves to one slot. For the crates above.
-use Rattle.gl_model.proofs.Words.{[], ⊎_elim, ◌++◌, ◌∙◌, ◌∷◌, ◌≡◌, ◌⊎◌, Active, ap, arith, Bool, Condemned, drop, false, filter-append, granted_at, inl, inr}
+use Rattle.gl_model.proofs.Words.{◌++◌, [], ◌∙◌, ◌∷◌, ◌≡◌, ◌⊎◌, ⊎_elim, Active, ap, arith, Bool, Condemned, drop, false, filter-append, granted_at, inl, inr}
 use Rattle.gl_model.proofs.Words.{is_among_waiters, is_at_least, is_waiter, is_waiting_at, IsLawful, length, List, live_by, members, Mode, nat_tests, NodeId}
 use Rattle.gl_model.proofs.Words.{None, not_true, Option, pumped, refl, same_node, same_node-equal, Some, split, State, Status, status_in, status_of, subst}
 use Rattle.gl_model.proofs.Words.{sym, true, true≢false, Txn, Waiter, Waiting, waits_at, woken, ℕ}

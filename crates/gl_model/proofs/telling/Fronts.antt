@@ -1,16 +1,14 @@
 -- If each slot in a queue waits there, once: the front that its node grants, and that order is kept. For wakes.
-use Rattle.gl_slots.specs.Limit.{most_slots}
-use Rattle.gl_model.proofs.Words.{[], ◌++◌, ◌==◌, ◌∙◌, ◌∷◌, ◌≡◌, ◌≤◌, Active, ap, AreBelow, arith, Bool, both, clash, enters, enters-limit, false}
+use Rattle.gl_model.proofs.Words.{◌++◌, ◌==◌, [], ◌∙◌, ◌∷◌, ◌≡◌, ◌≤◌, Active, ap, AreBelow, arith, Bool, both, clash, enters, enters-limit, false}
 use Rattle.gl_model.proofs.Words.{filter-append, front-and_rest, front-waited, front_at, granted, granted_at, holds, if◌then◌else◌, is_among_waiters}
-use Rattle.gl_model.proofs.Words.{is_distinct, is_wait, is_waiter, is_waiting_at, IsBetween, IsOrderly, IsWithin, List, members, Mode, nat_tests, NL, NodeId}
-use Rattle.gl_model.proofs.Words.{not}
-use Rattle.gl_model.proofs.Words.{not_true, number_other, number_same, Option, or_left, or_right, pumped, pumped_queue, refl, restatus, same_mode, same_node}
-use Rattle.gl_model.proofs.Words.{same_node-equal, same_node-refl, same_number, slot_limit, Some, split, State, Status, status_in, status_of, sym, true, Txn}
-use Rattle.gl_model.proofs.Words.{unlocked, Waiter, Waiting, waits_at, WaitWell, with_grant, without_wait, woken, ℕ}
+use Rattle.gl_model.proofs.Words.{is_distinct, is_wait, is_waiter, is_waiting_at, IsBetween, IsOrderly, IsWithin, List, members, Mode, most_slots, nat_tests}
+use Rattle.gl_model.proofs.Words.{NL, NodeId, not, not_true, number_other, number_same, Option, or_left, or_right, pumped, pumped_queue, refl, restatus}
+use Rattle.gl_model.proofs.Words.{same_mode, same_node, same_node-equal, same_node-refl, same_number, slot_limit, Some, split, State, Status, status_in}
+use Rattle.gl_model.proofs.Words.{status_of, sym, true, Txn, unlocked, Waiter, Waiting, waits_at, WaitWell, with_grant, without_wait, woken, ℕ}
 use Rattle.gl_model.proofs.law.Keeps.{holders-within, txn_there, waiting_is, woken_some}
 use Rattle.gl_model.proofs.queues.Edits.{out_of_without, without_filter}
 use Rattle.gl_model.proofs.queues.Waiters.{among_by_filter, grants_other, if-false, if-true, none_filtered, one_in_first, waits_of}
-use Rattle.gl_model.proofs.telling.Between.{granted_stands, is_by_test, left_stands, between_pumped, without_wait_other, woken_same}
+use Rattle.gl_model.proofs.telling.Between.{between_pumped, granted_stands, is_by_test, left_stands, without_wait_other, woken_same}
 
 -- If each slot in a queue waits there, once: what follows for the front that its node grants.
 

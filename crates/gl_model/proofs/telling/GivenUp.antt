@@ -1,5 +1,5 @@
 -- A wait ends without a grant: who is granted, who still waits, and what is told. For cancels and victims.
-use Rattle.gl_model.proofs.Words.{⊎_elim, ◌<◌, ◌==◌, ◌∙◌, ◌≡◌, ◌⊎◌, age_of, ap, ap₂, arith, Bool, clash, Condemned, condemned, false, front_at, grant_notice}
+use Rattle.gl_model.proofs.Words.{◌<◌, ◌==◌, ◌∙◌, ◌≡◌, ◌⊎◌, ⊎_elim, age_of, ap, ap₂, arith, Bool, clash, Condemned, condemned, false, front_at, grant_notice}
 use Rattle.gl_model.proofs.Words.{granted_at, holds, if◌then◌else◌, inl, inr, is_among_waiters, is_live, is_some, is_wait, is_waiting_at, IsBetween, IsOrderly}
 use Rattle.gl_model.proofs.Words.{members, Mode, mode_given, nat_tests, NL, NodeId, None, not, not_true, Notice, notices_in, Option, pumped, refl, same_mode}
 use Rattle.gl_model.proofs.Words.{same_node-equal, same_node-refl, same_number, Some, split, State, Status, status_in, status_of, subst, sym, Told, told_to}
@@ -10,8 +10,8 @@ use Rattle.gl_model.proofs.law.Settle.{wait_is}
 use Rattle.gl_model.proofs.law.Takes.{IsQuiet, restatus_quiet}
 use Rattle.gl_model.proofs.queues.Edits.{out_of_without}
 use Rattle.gl_model.proofs.queues.Waiters.{grants_other, if-false}
-use Rattle.gl_model.proofs.telling.Fronts.{front_stands, granted_here, waits_only, waits_there, between_here, well_without}
-use Rattle.gl_model.proofs.telling.Between.{granted_stands, victim_tells, between_pumped, between_without_wait, without_wait_other, without_wait_own}
+use Rattle.gl_model.proofs.telling.Fronts.{between_here, front_stands, granted_here, waits_only, waits_there, well_without}
+use Rattle.gl_model.proofs.telling.Between.{between_pumped, between_without_wait, granted_stands, victim_tells, without_wait_other, without_wait_own}
 
 -- A wait ends without a grant, and the node's waiters are granted from the front: who is granted, and who still waits.
 

@@ -1,11 +1,10 @@
 -- Notices by rising slot, and that they are what is told. For told lists.
-use Rattle.gl_slots.specs.Limit.{most_slots}
-use Rattle.gl_model.proofs.Words.{[], ◌&&◌, ◌+◌, ◌<◌, ◌==◌, ◌∙◌, ◌∷◌, ◌≡◌, ◌≤◌, addressed, age_of, and_both, ap, ap₂, arith, Bool, both, candidate-on_cycle}
+use Rattle.gl_model.proofs.Words.{◌&&◌, ◌+◌, ◌<◌, ◌==◌, [], ◌∙◌, ◌∷◌, ◌≡◌, ◌≤◌, addressed, age_of, and_both, ap, ap₂, arith, Bool, both, candidate-on_cycle}
 use Rattle.gl_model.proofs.Words.{clash, cond, cons_option, false, filter, filter_map, fun_ext, get_or, if◌then◌else◌, insert, is_rising, is_some, IsBySlot}
 use Rattle.gl_model.proofs.Words.{IsLawful, IsNonDecreasingBy, IsOnNoCycle, IsPartitionedBy, IsPartitionedBy-ltb, IsPartitionPoint, length, List, list_all}
-use Rattle.gl_model.proofs.Words.{list_all_at, nat_le, nat_lt, nat_tests, None, not, Notice, notices_in, number_other, number_same, Option, prefix_len}
-use Rattle.gl_model.proofs.Words.{prefix_len_is, range_with_len, refl, Settled, SettledWithin, slots, Some, split, State, status_of, suc, sym, Told, told}
-use Rattle.gl_model.proofs.Words.{told_but, told_from, told_to, true, TxnId, Victim, Victims, waits_for, zero, ℕ}
+use Rattle.gl_model.proofs.Words.{list_all_at, most_slots, nat_le, nat_lt, nat_tests, None, not, Notice, notices_in, number_other, number_same, Option}
+use Rattle.gl_model.proofs.Words.{prefix_len, prefix_len_is, range_with_len, refl, Settled, SettledWithin, slots, Some, split, State, status_of, suc, sym, Told}
+use Rattle.gl_model.proofs.Words.{told, told_but, told_from, told_to, true, TxnId, Victim, Victims, waits_for, zero, ℕ}
 use Rattle.gl_model.proofs.telling.Between.{quiet_told}
 use Rattle.gl_model.proofs.queues.Waiters.{all_weaker}
 

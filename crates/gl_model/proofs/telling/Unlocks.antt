@@ -1,8 +1,7 @@
 -- Nodes are unlocked one after the other: what is left, and what is told since. For rollbacks.
-use Rattle.gl_model.proofs.Words.{[], ◌&&◌, ◌++◌, ◌∙◌, ◌∷◌, ◌≡◌, Active, ap, arith, Bool, child_held, clash, Detect, false, find, HasNoCycle, held_child, holds}
-use Rattle.gl_model.proofs.Words.{is_child, is_wait, IsLawful, IsBetween, IsOrderly, List, list_any, members, nat_tests, NL, NodeId, nodes, None, not_true}
-use Rattle.gl_model.proofs.Words.{refl}
-use Rattle.gl_model.proofs.Words.{Some, State, status_in, status_of, subst, sym, unlocked, Victims, with_grant, ℕ}
+use Rattle.gl_model.proofs.Words.{◌&&◌, ◌++◌, [], ◌∙◌, ◌∷◌, ◌≡◌, Active, ap, arith, Bool, child_held, clash, Detect, false, find, HasNoCycle, held_child, holds}
+use Rattle.gl_model.proofs.Words.{is_child, is_wait, IsBetween, IsLawful, IsOrderly, List, list_any, members, nat_tests, NL, NodeId, nodes, None, not_true}
+use Rattle.gl_model.proofs.Words.{refl, Some, State, status_in, status_of, subst, sym, unlocked, Victims, with_grant, ℕ}
 use Rattle.gl_model.specs.Calls.{holds_child, Unlocks}
 use Rattle.gl_model.proofs.law.Lock.{unlocked-lawful, unlocked-no_cycle}
 use Rattle.gl_model.proofs.law.Orderly.{lawful_orderly}

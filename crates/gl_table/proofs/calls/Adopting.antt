@@ -1,23 +1,18 @@
 -- A record is adopted in a table, and one transaction holds it: what holds of the fields still does. For the call that does both.
-use Rattle.gl_table.proofs.Words.{◌+◌, ◌||◌, ◌∙◌, ◌≡◌, Active, ap, are_compatible, AreExact, Graph, graph_of, HasNoCycle, if◌then◌else◌, intends_over}
-use Rattle.gl_table.proofs.Words.{is_at_least, is_live, is_some, IsAdopted, IsBorn, IsFresh, IsLawful, IsSound, List, members, Mode, NL-compatible, Node}
-use Rattle.gl_table.proofs.Words.{node_at, NodeId, None, number_same, Option, parents_in, parents_of, Rec, record_parents, record_refusal, refl, Refusal}
-use Rattle.gl_table.proofs.Words.{Refuses, rule_refusal, S, same_mode, shape_of, Some, State, state_in, state_of, status_of, subst, sym, true, View, view_of}
-use Rattle.gl_table.proofs.Words.{with_grant, with_graph, with_key, X, ℕ}
-use Rattle.std.specs.Prelude.{Ok}
+use Rattle.gl_table.proofs.Words.{◌+◌, ◌||◌, ◌∙◌, ◌≡◌, Active, ap, are_compatible, AreExact, granted-no_cycle, Graph, graph_of, HasNoCycle, if◌then◌else◌}
+use Rattle.gl_table.proofs.Words.{Inside, intends_over, is_at_least, is_live, is_some, IsAdopted, IsBorn, IsFresh, IsLawful, IsSound, Ledger, List, marked}
+use Rattle.gl_table.proofs.Words.{members, Mode, NL, NL-compatible, Node, node_at, NodeId, None, number_same, Ok, Option, parents_in, parents_of, Rec}
+use Rattle.gl_table.proofs.Words.{record_parents, record_refusal, refl, Refusal, Refuses, rule_refusal, S, same_mode, shape_of, Some, State, state_in, state_of}
+use Rattle.gl_table.proofs.Words.{status_of, subst, sym, true, View, view_of, with_grant, with_graph, with_key, X, ℕ}
 use Rattle.gl_modes.proofs.ModeLemmas.{supremum-above}
-use Rattle.gl_modes.specs.declared.mode.Mode.TheVariants.{NL}
 use Rattle.gl_graph.proofs.Adopted.{file_stays}
 use Rattle.gl_graph.proofs.Marked.{marked_live, marked_parents}
-use Rattle.gl_graph.specs.Changes.{born_node, marked}
+use Rattle.gl_graph.specs.Changes.{born_node}
 use Rattle.gl_graph.specs.Shapes.{is_file_shape}
 use Rattle.gl_header.proofs.Fits.{fits-from_all}
 use Rattle.gl_model.proofs.law.Keeps.{with_grant-lawful}
-use Rattle.gl_model.proofs.law.Lock.{granted-no_cycle}
 use Rattle.gl_model.proofs.law.Records.{adopted-lawful}
 use Rattle.gl_model.proofs.law.Tests.{rule_met}
-use Rattle.gl_table.specs.declared.ledger.Ledger.{Ledger}
-use Rattle.gl_table.specs.declared.table.Table.TheInside.{Inside}
 use Rattle.gl_table.proofs.calls.Law.{suited-stands}
 use Rattle.gl_table.proofs.calls.Records.{adopted-suits, record_fresh}
 use Rattle.gl_table.proofs.calls.Stands.{MayStand, stands, with_locks}

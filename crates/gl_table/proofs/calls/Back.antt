@@ -1,10 +1,7 @@
 -- What going back to a mark makes of a table. For that call.
-use Rattle.gl_table.proofs.Words.{[], ◌≡◌, Active, GoesBack, IsSound, List, NodeId, nodes_by, nodes_of, refl, Some}
-use Rattle.gl_table.proofs.Words.{State, state_at, state_of, status_of, subst, TellsOthers, Told, told, Unlocks, view_of, ℕ}
+use Rattle.gl_table.proofs.Words.{[], ◌≡◌, Active, active_untold, GoesBack, Inside, IsSound, List, Locks, NodeId, nodes_by, nodes_of, refl, Some, State}
+use Rattle.gl_table.proofs.Words.{state_at, state_of, status_of, subst, TellsOthers, Told, told, Unlocks, view_of, ℕ}
 use Rattle.gl_model.proofs.telling.Unlocks.{unlocks_saying, unlocks_stand}
-use Rattle.gl_model.proofs.telling.Between.{active_untold}
-use Rattle.gl_table.specs.declared.locks.Locks.{Locks}
-use Rattle.gl_table.specs.declared.table.Table.TheInside.{Inside}
 use Rattle.gl_table.proofs.calls.Ends.{told_apart}
 use Rattle.gl_table.proofs.inside.Orders.{order_seen}
 

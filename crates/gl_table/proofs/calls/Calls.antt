@@ -1,28 +1,22 @@
 -- What the calls on the locks make of a table, and what tests a request passes. For the calls that release, and the locks that test.
-use Rattle.gl_table.proofs.Words.{[], ⊎_elim, ◌&&◌, ◌<◌, ◌==◌, ◌∙◌, ◌∷◌, ◌≡◌, Active, ap, arith, bad_mode, Bool, cases_lt, clash, commit_tests, state_at}
-use Rattle.gl_table.proofs.Words.{condemned, Deadlock, Detect, false, first_refusal, front_at, get_or, grant_notice, HasNoCycle, held_child, held_children}
-use Rattle.gl_table.proofs.Words.{holds, if◌then◌else◌, is_among_waiters, is_child, is_live, is_some, is_wait, IsDeadlock, IsLawful, IsBetween, IsOrderly}
-use Rattle.gl_table.proofs.Words.{IsSound, IsStuck, IsVictim, keys, length, List, lock_tests, members, Mode, nat_tests, need_parents, NL, NodeId, nodes, None}
-use Rattle.gl_table.proofs.Words.{none_some, not, not_false, not_held, not_refused, not_true, Ok, Option, passed_then, refl, Refusal, refused_first, released}
-use Rattle.gl_table.proofs.Words.{same_number, Settled, SettledWithin, SettlesKeeping, SettlesKeepingWithin, slice_get_past, Some, some_no_node, split, State}
-use Rattle.gl_table.proofs.Words.{state_of, status_in, status_of, Stuck, subst, suc, sym, TableView, test_fails, Told, told, told_to, true, txn_in}
-use Rattle.gl_table.proofs.Words.{TxnId, txns_of, unlocked, verdict, Victims, view_of, WakesTold, wanted, where_true, with_grant, zero, ℕ}
-use Rattle.gl_table.specs.declared.ledger.Ledger.{Ledger}
-use Rattle.gl_table.specs.declared.locks.Locks.{Locks}
-use Rattle.gl_table.specs.declared.table.Table.TheInside.{Inside}
-use Rattle.gl_model.proofs.law.Orderly.{lawful_orderly}
+use Rattle.gl_table.proofs.Words.{◌&&◌, ◌<◌, ◌==◌, [], ◌∙◌, ◌∷◌, ◌≡◌, ⊎_elim, Active, active_untold, ap, AreSound, arith, bad_mode, Bool, cases_lt, clash}
+use Rattle.gl_table.proofs.Words.{commit_tests, condemned, Deadlock, Detect, false, File, first_refusal, front_at, front_stands, get_or, grant_notice, Graph}
+use Rattle.gl_table.proofs.Words.{HasNoCycle, held_child, held_children, holds, if◌then◌else◌, in_no_queue, Inner, Inside, is_among_waiters, is_child, is_live}
+use Rattle.gl_table.proofs.Words.{is_some, is_wait, IsBetween, IsDeadlock, IsLawful, IsOrderly, IsSound, IsStuck, IsVictim, keys, lawful_orderly, Ledger}
+use Rattle.gl_table.proofs.Words.{length, List, lock_tests, Locks, members, Mode, nat_tests, need_parents, NL, nobody_told, Node, NodeId, nodes, None}
+use Rattle.gl_table.proofs.Words.{none_some, not, not_false, not_held, not_refused, not_true, Ok, Option, passed_then, Rec, refl, Refusal, refused_first}
+use Rattle.gl_table.proofs.Words.{released, same_number, Settled, SettledWithin, SettlesKeeping, SettlesKeepingWithin, slice_get_past, Some, some_no_node}
+use Rattle.gl_table.proofs.Words.{split, State, state_at, state_of, state_on, status_in, status_of, Stuck, subst, suc, sym, TableView, test_fails, Told, told}
+use Rattle.gl_table.proofs.Words.{told_is, told_to, true, txn_in, TxnEntry, TxnId, txns_of, unlocked, verdict, Victims, view_of, WakesTold, wanted}
+use Rattle.gl_table.proofs.Words.{well_granted, where_true, with_grant, zero, ℕ}
 use Rattle.gl_table.proofs.calls.Queries.{none_found_counted}
 use Rattle.gl_model.proofs.law.Lock.{released-no_cycle, unlocked-lawful, unlocked-no_cycle}
 use Rattle.gl_model.proofs.law.Takes.{released-lawful}
-use Rattle.gl_model.proofs.telling.Fronts.{front_stands, in_no_queue, well_granted}
-use Rattle.gl_model.proofs.telling.Lists.{told_is}
-use Rattle.gl_model.proofs.telling.Between.{active_untold, nobody_told, release_tells, between_begins}
+use Rattle.gl_model.proofs.telling.Between.{between_begins, release_tells}
 use Rattle.gl_modes.specs.declared.refusal.Refusal.TheVariants as no
 use Rattle.gl_graph.specs.declared.kind.Kind.{Kind}
-use Rattle.gl_graph.specs.Graph.{Graph, Node, shape_in}
-use Rattle.gl_graph.specs.Shapes.{File, Index, Inner, Interval, Rec, Shape, kind_in}
-use Rattle.gl_table.specs.declared.txn_entry.TxnEntry.{TxnEntry}
-use Rattle.gl_table.specs.inside.Ledger.{AreSound, state_on}
+use Rattle.gl_graph.specs.Graph.{shape_in}
+use Rattle.gl_graph.specs.Shapes.{Index, Interval, kind_in, Shape}
 
 -- What the calls on the locks make of a table.
 

@@ -1,22 +1,12 @@
 -- Nodes are removed from a table with all locks on them: what is left of the table. For the calls that remove nodes.
-use Rattle.gl_table.proofs.Words.{[], ◌∙◌, ◌≡◌, Active, addressed, age_in, age_of, Agrees, ap, AreExact, Bool, children_that, clash, CountsHeld, departed}
-use Rattle.gl_table.proofs.Words.{false, Graph, graph_of, HasNoCycle, holds, if◌then◌else◌, is_among_waiters, is_live, IsLawful, IsOrderly, IsSound, members}
-use Rattle.gl_table.proofs.Words.{Mode, NL, NodeId, None, not, not_true, notice_of, Option, refl, same_mode, Some, split, State, state_at, state_in}
-use Rattle.gl_table.proofs.Words.{state_of, status_in, subst, sym, TellsGone, Told, told, told_from, told_to, true, Txn, TxnId, View, view_of, Waiting, ℕ}
-use Rattle.gl_modes.proofs.NodeLemmas.{same_node-refl}
-use Rattle.gl_model.specs.Calls.{freed_among, held_children, none_among}
-use Rattle.gl_model.specs.State.{waits_at}
+use Rattle.gl_table.proofs.Words.{[], ◌∙◌, ◌≡◌, Active, addressed, age_in, age_of, Agrees, ap, AreExact, Bool, children_that, clash, Condemned, CountsHeld}
+use Rattle.gl_table.proofs.Words.{departed, false, freed_among, Graph, graph_of, HasNoCycle, held_children, holds, if-false, if-true, if◌then◌else◌, Inside}
+use Rattle.gl_table.proofs.Words.{is_among_waiters, is_live, IsLawful, IsOrderly, IsSound, lawful_orderly, Ledger, members, Mode, NL, nobody_told, NodeId, None}
+use Rattle.gl_table.proofs.Words.{none_among, not, not_true, notice_of, Option, refl, same_mode, same_node-refl, Some, split, stands_there, State, state_at}
+use Rattle.gl_table.proofs.Words.{state_in, state_of, Status, status_in, subst, sym, TellsGone, Told, told, told_from, told_is, told_to, true, Txn, TxnId, View}
+use Rattle.gl_table.proofs.Words.{view_of, Waiting, waits_at, waits_there, ℕ}
 use Rattle.gl_model.specs.declared.answers.Notice.TheVariants as notice
-use Rattle.gl_model.specs.declared.txn.Status.{Status}
-use Rattle.gl_model.specs.declared.txn.Status.TheVariants.{Condemned}
 use Rattle.gl_model.proofs.law.Departures.{departed-no_cycle, departed_lawful, GoAway}
-use Rattle.gl_model.proofs.law.Orderly.{lawful_orderly}
-use Rattle.gl_model.proofs.queues.Waiters.{if-false, if-true}
-use Rattle.gl_model.proofs.telling.Fronts.{stands_there, waits_there}
-use Rattle.gl_model.proofs.telling.Lists.{told_is}
-use Rattle.gl_model.proofs.telling.Between.{nobody_told}
-use Rattle.gl_table.specs.declared.ledger.Ledger.{Ledger}
-use Rattle.gl_table.specs.declared.table.Table.TheInside.{Inside}
 use Rattle.gl_table.proofs.calls.Stands.{MayStand, stands, with_locks}
 
 -- of the removed nodes only one is waited for, and it is removed

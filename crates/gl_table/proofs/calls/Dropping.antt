@@ -1,27 +1,17 @@
 -- A node is dropped from a table, or an index is made that its maker holds: what it makes of the table. For those calls.
-use Rattle.gl_table.proofs.Words.{[], ◌&&◌, ◌+◌, ◌==◌, ◌||◌, ◌∙◌, ◌∷◌, ◌≡◌, Active, and_both, ap, ap₂, AreExact, arith, Bool, children_that, clash, cond}
-use Rattle.gl_table.proofs.Words.{count_by, count_cons, false, filter, first_not_ix, Graph, graph_of, HasNoCycle, IfOk, if◌then◌else◌, is_among_waiters}
-use Rattle.gl_table.proofs.Words.{is_at_least, is_child, is_live, IsBranchLeftTo, IsFresh, IsIndexBorn, IsLawful, IsSound, List, list_all, list_any, Mode}
-use Rattle.gl_table.proofs.Words.{nat_tests, NL, node_at, NodeId, nodes, nodes_live, None, not, not_true, OnErr, parents_in, refl, Refusal, Refuses, Result}
-use Rattle.gl_table.proofs.Words.{rules, same_mode, same_mode-equal, same_node, same_node-refl, same_number, shape_of, Some, split, State, state_in}
-use Rattle.gl_table.proofs.Words.{state_of, status_of, subst, sym, true, View, view_of, with_grant, with_graph, X, ℕ}
-use Rattle.gl_modes.proofs.Words.{no, or_elim, or_left}
-use Rattle.gl_modes.proofs.NodeLemmas.{same_node-equal}
-use Rattle.gl_modes.specs.declared.mode.Mode.TheVariants.{IS, IX}
+use Rattle.gl_table.proofs.Words.{◌&&◌, ◌+◌, ◌==◌, [], ◌||◌, ◌∙◌, ◌∷◌, ◌≡◌, Active, and_both, ap, ap₂, AreExact, arith, Bool, children_that, clash, cond}
+use Rattle.gl_table.proofs.Words.{count_by, count_cons, false, filter, first_not_ix, goes_with, granted-no_cycle, Graph, graph_of, HasNoCycle, IfOk}
+use Rattle.gl_table.proofs.Words.{if◌then◌else◌, in_no_queue, Inside, intends_over, IS, is_among_waiters, is_at_least, is_child, is_in_use, is_live}
+use Rattle.gl_table.proofs.Words.{is_movable_shape, is_wait, is_write, IsBranchLeftTo, IsFresh, IsIndexBorn, IsLawful, IsLawfulGraph, IsSound, IX}
+use Rattle.gl_table.proofs.Words.{lawful_orderly, Ledger, List, list_all, list_any, Mode, nat_tests, NL, no, node_at, NodeId, nodes, nodes_live, None, not}
+use Rattle.gl_table.proofs.Words.{not_true, OnErr, or_elim, or_left, parents_in, refl, Refusal, Refuses, reindex_refusal, Result, rules, same_mode}
+use Rattle.gl_table.proofs.Words.{same_mode-equal, same_node, same_node-equal, same_node-refl, same_number, shape_of, Some, split, State, state_in, state_of}
+use Rattle.gl_table.proofs.Words.{status_of, subst, sym, true, View, view_of, waits_there, with_grant, with_graph, X, ℕ}
 use Rattle.gl_graph.specs.Changes.{without_branch}
-use Rattle.gl_graph.specs.Lawful.{IsLawfulGraph}
-use Rattle.gl_graph.specs.Refusals.{is_in_use, reindex_refusal}
-use Rattle.gl_graph.specs.Shapes.{is_movable_shape}
 use Rattle.gl_graph.proofs.Branch.{left_live, live, nodes_left, stays_left}
 use Rattle.gl_graph.proofs.Unrefused.{reindex_unrefused}
-use Rattle.gl_model.specs.Calls.{goes_with}
-use Rattle.gl_model.specs.State.{intends, intends_over, is_wait, is_write}
-use Rattle.gl_model.proofs.law.Lock.{granted-no_cycle}
-use Rattle.gl_model.proofs.law.Orderly.{lawful_orderly}
+use Rattle.gl_model.specs.State.{intends}
 use Rattle.gl_model.proofs.law.Schema.{branch_goes, index-live, index-unawaited, index-unheld, indexed_lawful, only_parent, roomy_index-grows}
-use Rattle.gl_model.proofs.telling.Fronts.{in_no_queue, waits_there}
-use Rattle.gl_table.specs.declared.ledger.Ledger.{Ledger}
-use Rattle.gl_table.specs.declared.table.Table.TheInside.{Inside}
 use Rattle.gl_table.proofs.calls.Departing.{AreGone}
 use Rattle.gl_table.proofs.calls.Law.{called}
 use Rattle.gl_table.proofs.calls.Records.{held_alone}

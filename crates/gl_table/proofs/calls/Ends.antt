@@ -1,16 +1,14 @@
 -- What the ends of waits and of transactions make of a table. For cancels, commits, aborts and settles.
-use Rattle.gl_table.proofs.Words.{[], ◌==◌, ◌||◌, ◌∙◌, ◌≡◌, Active, ap, arith, cancelled, Deadlock, false, front_at, granted_at, HasNoCycle, holds, state_at}
-use Rattle.gl_table.proofs.Words.{is_waiting_at, IsLawful, IsSound, members, nat_tests, NodeId, None, notices_in, number_same, refl}
-use Rattle.gl_table.proofs.Words.{released, same_number, Settled, SettlesKeeping, split, State, state_of, status_of, stripped, subst, sym}
-use Rattle.gl_table.proofs.Words.{TellsAll, TellsOthers, Told, told, told_but, told_to, true, view_of, WakesTold, without_wait, ℕ}
-use Rattle.gl_table.specs.declared.locks.Locks.{Locks}
-use Rattle.gl_table.specs.declared.table.Table.TheInside.{Inside}
+use Rattle.gl_table.proofs.Words.{◌==◌, [], ◌||◌, ◌∙◌, ◌≡◌, Active, ap, arith, cancelled, Deadlock, false, front_at, granted_at, HasNoCycle, holds, Inside}
+use Rattle.gl_table.proofs.Words.{is_waiting_at, IsLawful, IsSound, Locks, members, nat_tests, nobody_told, NodeId, None, notices_in, number_same, refl}
+use Rattle.gl_table.proofs.Words.{released, same_number, Settled, SettlesKeeping, split, State, state_at, state_of, status_of, stripped, subst, sym, TellsAll}
+use Rattle.gl_table.proofs.Words.{TellsOthers, Told, told, told_but, told_is, told_to, true, view_of, WakesTold, without_wait, ℕ}
 use Rattle.gl_table.proofs.calls.Calls.{keeping_also, settled_also, state_released, table_between}
 use Rattle.gl_table.proofs.inside.Departures.{cancelled_own, cancelled_tells}
 use Rattle.gl_model.proofs.law.Lock.{given_up-no_cycle, settled-no_cycle}
 use Rattle.gl_model.proofs.law.Takes.{settled-lawful, without_wait-lawful}
-use Rattle.gl_model.proofs.telling.Lists.{told_but_is, told_is}
-use Rattle.gl_model.proofs.telling.Between.{gone_untold, is_by_test, nobody_told}
+use Rattle.gl_model.proofs.telling.Lists.{told_but_is}
+use Rattle.gl_model.proofs.telling.Between.{gone_untold, is_by_test}
 
 -- a released transaction has no slot
 pub released_gone : (s : State) (t : ℕ) → status_of (released s t) t ≡ None

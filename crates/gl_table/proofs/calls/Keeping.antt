@@ -1,26 +1,16 @@
 -- A transaction rolled back, and was renewed or ended: what it makes of a table. For commits that keep locks.
-use Rattle.gl_table.proofs.Words.{[], ◌+◌, ◌∙◌, ◌∷◌, ◌≡◌, ◌≢◌, Active, age_of, ap, begun_again, clash, commit_tests, Entry, false}
-use Rattle.gl_table.proofs.Words.{first_refusal, get_or, GoesBack, is_some, is_wait, IsLawful, IsSound, keys_of, length, List, max_count, NodeId, nodes}
-use Rattle.gl_table.proofs.Words.{nodes_by}
-use Rattle.gl_table.proofs.Words.{nodes_of, None, Option, not, not_false, not_refused, refl, released, Some, State, state_at, state_of, status_in}
-use Rattle.gl_table.proofs.Words.{status_of, sym}
-use Rattle.gl_table.proofs.Words.{TableView, TellsOthers, test_fails, Told, told, true, TxnId, unlocked, Unlocks, view_of, where_true, ℕ}
-use Rattle.std.specs.List.{list_any}
-use Rattle.gl_graph.proofs.FirstOf.{passed_then}
-use Rattle.std.proofs.Common.{◌⊎◌, ⊎_elim}
-use Rattle.gl_modes.proofs.Words.{number_other, number_same}
+use Rattle.gl_table.proofs.Words.{◌+◌, [], ◌∙◌, ◌∷◌, ◌≡◌, ◌≢◌, ◌⊎◌, ⊎_elim, Active, active_untold, addressed, age_of, ap, begun_again, clash, commit_tests}
+use Rattle.gl_table.proofs.Words.{CommitsKeeping, Entry, false, first_refusal, get_or, GoesBack, hinders_at, if-false, Inside, is_some, is_wait, IsLawful}
+use Rattle.gl_table.proofs.Words.{IsSound, keys_of, lawful_orderly, length, List, list_any, live_by, lives, Locks, max_count, NodeId, nodes, nodes_by, nodes_of}
+use Rattle.gl_table.proofs.Words.{None, not, not_false, not_refused, number_other, number_same, Option, passed_then, refl, released, Some, State, state_at}
+use Rattle.gl_table.proofs.Words.{state_of, status_in, status_of, sym, TableView, TellsOthers, test_fails, Told, told, true, TxnId, unlocked, Unlocks, view_of}
+use Rattle.gl_table.proofs.Words.{where_true, ℕ}
 use Rattle.gl_modes.specs.declared.refusal.Refusal.TheVariants as no
-use Rattle.gl_model.specs.Calls.{condemned_test, hinders_at, need_release, no_txn, renew_tests, waiting_test, worn_begins}
-use Rattle.gl_model.specs.State.{lives, live_by}
+use Rattle.gl_model.specs.Calls.{condemned_test, need_release, no_txn, renew_tests, waiting_test, worn_begins}
 use Rattle.gl_model.proofs.law.Lock.{unlocked-lawful}
-use Rattle.gl_model.proofs.law.Orderly.{lawful_orderly}
-use Rattle.gl_model.proofs.queues.Waiters.{if-false}
-use Rattle.gl_model.proofs.telling.Between.{active_untold, told_same}
+use Rattle.gl_model.proofs.telling.Between.{told_same}
 use Rattle.gl_model.proofs.telling.Unlocks.{active_stays, no_child_held, own_stays, unlocks_between}
-use Rattle.gl_model.specs.Tellings.{addressed}
-use Rattle.gl_table.specs.declared.locks.Locks.{Locks}
-use Rattle.gl_table.specs.declared.table.Table.TheInside.{Inside}
-use Rattle.gl_table.specs.Keeping.{CommitsKeeping, RenewsOrEnds}
+use Rattle.gl_table.specs.Keeping.{RenewsOrEnds}
 use Rattle.gl_table.proofs.calls.Back.{seen_back, sound_back}
 use Rattle.gl_table.proofs.calls.Calls.{is_active, sound_released, state_released}
 use Rattle.gl_table.proofs.calls.Ends.{released_gone, told_apart, told_gone}

@@ -1,24 +1,18 @@
 -- What holds of a table's fields: of every table, of a new one, with new nodes and with one transaction more.
-use Rattle.gl_slots.specs.Limit.{most_slots}
-use Rattle.gl_table.proofs.Words.{[], ◌+◌, ◌<◌, ◌==◌, ◌||◌, ◌∙◌, ◌∷◌, ◌≡◌, ◌≤◌, Active, ap, AreDistinct, AreNew, arith, begin_tests, begun_since, Bool, by_list}
-use Rattle.gl_table.proofs.Words.{children_that, choosing, clash, cond, count_in, counted_by, Detect, empty_state, Entry, entry_of, Err, false, find}
-use Rattle.gl_table.proofs.Words.{first_refusal, free_slot, get_or, graph_of, HasNoCycle, held_children, held_of, holds, IfOk, is_among_waiters, is_free}
-use Rattle.gl_table.proofs.Words.{is_live, is_none, is_some, is_wait, is_waiting_at, IsDistinct, IsLawful, IsSafe, IsSound, keys_of, length, length-set, List}
-use Rattle.gl_table.proofs.Words.{list_all, ListsAgree, LockList, lookup, loose_of, map, max_count, Members, members, mode_in, nat_lt, nat_tests, NodeId, None}
-use Rattle.gl_table.proofs.Words.{not, Ok, OnErr, Option, option_map_or, position, position-Some, position_or_len, queue_of, range_with_len, refl, Refusal}
-use Rattle.gl_table.proofs.Words.{Refuses, replicate, Result, same_node, TxnEntry, TxnEntryList, slice_get, slice_get-get_or, slice_set, Some, StandOnce, State}
-use Rattle.gl_table.proofs.Words.{state_in, state_of, status_in, status_of, subst, suc, sym, TableView, too_many_txns, true, txn_in, txns_of, unused-nobody}
-use Rattle.gl_table.proofs.Words.{Victims, View, view_of, where_true, with_graph, zero, ℕ}
-use Rattle.gl_model.proofs.queues.Walks.{same}
-use Rattle.std.specs.Prelude.{◌^◌}
+use Rattle.gl_table.proofs.Words.{◌+◌, ◌<◌, ◌==◌, [], ◌^◌, ◌||◌, ◌∙◌, ◌∷◌, ◌≡◌, ◌≤◌, Active, ap, AreDistinct, AreNew, arith, begin_tests, begun_since, Bool}
+use Rattle.gl_table.proofs.Words.{by_list, children_that, choosing, clash, cond, count_in, counted_by, Detect, empty_state, Entry, entry_of, Err, false, find}
+use Rattle.gl_table.proofs.Words.{first_refusal, free_slot, graph_of, HasNoCycle, held_children, held_of, holds, IfOk, Inside, is_among_waiters, is_free}
+use Rattle.gl_table.proofs.Words.{is_live, is_none, is_some, is_wait, is_waiting_at, IsDistinct, IsLawful, IsSafe, IsSound, keys_of, Ledger, length, length-set}
+use Rattle.gl_table.proofs.Words.{List, list_all, ListsAgree, LockList, lookup, loose_of, map, max_count, Members, members, mode_in, most_slots, nat_lt}
+use Rattle.gl_table.proofs.Words.{nat_tests, NodeId, None, not, Ok, OnErr, Option, option_map_or, position, position-Some, position_or_len, queue_of}
+use Rattle.gl_table.proofs.Words.{range_with_len, refl, Refusal, Refuses, replicate, Result, same, same_node, slice_get, slice_get-get_or, slice_set, Some}
+use Rattle.gl_table.proofs.Words.{StandOnce, State, state_in, state_of, status_in, status_of, subst, suc, sym, TableView, too_many_txns, true, txn_in, TxnEntry}
+use Rattle.gl_table.proofs.Words.{TxnEntryList, txns_of, unused-nobody, Victims, View, view_of, waiting_is, where_true, with_graph, zero, ℕ}
 use Rattle.gl_model.specs.State.{with_limits}
-use Rattle.gl_table.specs.declared.ledger.Ledger.{Ledger}
-use Rattle.gl_table.specs.declared.table.Table.TheInside.{Inside}
 use Rattle.gl_table.proofs.calls.Stands.{as_it_was, IsLaw, MayStand, orderly_over, stands}
 use Rattle.gl_modes.specs.declared.refusal.Refusal.TheVariants as no
 use Rattle.gl_table.proofs.inside.Orders.{unique_in}
 use Rattle.gl_table.proofs.inside.TxnEntries.{txns-set}
-use Rattle.gl_model.proofs.law.Keeps.{waiting_is}
 use Rattle.gl_model.proofs.law.Lock.{begun-no_cycle, empty-no_cycle}
 use Rattle.gl_model.proofs.law.Records.{born-children, grown-lawful, Grows}
 use Rattle.gl_model.proofs.law.Searches.{same_bool}

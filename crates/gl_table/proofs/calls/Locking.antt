@@ -1,21 +1,19 @@
 -- What a lock that is granted, and one that waits, makes of a table. For the calls that lock.
-use Rattle.gl_table.proofs.Words.{[], ◌==◌, ◌∙◌, ◌∷◌, ◌≡◌, Active, ap, AreExact, arith, Asked, AtBlock, Bool, ByWatcher, CanAsk, clash, Deadlock, Detect}
-use Rattle.gl_table.proofs.Words.{enqueued, enters_at, Err, false, first_refusal, granted, graph_of, HasAsked, HasGrant, HasNoCycle, held_by, held_of, IfOk}
-use Rattle.gl_table.proofs.Words.{if◌then◌else◌, is_granted_at, IsLawful, IsOrderly, IsSound, KeepsLocks, length, List, lock_tests, locked_as, LocksKeeping}
-use Rattle.gl_table.proofs.Words.{MayAct, Mode, nat_tests, NL, NodeId, None, number_same, Ok, OnErr, OnOk, Option, parents_of, passed_then, queue_of, refl}
-use Rattle.gl_table.proofs.Words.{Refusal, refused_first, Refuses, Result, same_mode, same_node-refl, Some, split, State, state_at, state_in, state_of}
-use Rattle.gl_table.proofs.Words.{status_of, subst, sym, TableView, Told, told_but, true, try_tests, TxnId, txns_of, verdict, Victims, view_of, WaitSettles}
-use Rattle.gl_table.proofs.Words.{WaitSettlesKeeping, wanted, would_block, ℕ}
+use Rattle.gl_table.proofs.Words.{◌==◌, [], ◌∙◌, ◌∷◌, ◌≡◌, Active, ap, AreExact, arith, Asked, AtBlock, Bool, ByWatcher, CanAsk, clash, Deadlock, Detect}
+use Rattle.gl_table.proofs.Words.{enqueued, enters_at, Err, false, first_refusal, granted, granted-no_cycle, graph_of, HasAsked, HasGrant, HasNoCycle, held_by}
+use Rattle.gl_table.proofs.Words.{held_of, IfOk, if◌then◌else◌, Inside, is_granted_at, IsLawful, IsOrderly, IsSound, KeepsLocks, Ledger, length, List}
+use Rattle.gl_table.proofs.Words.{lock_tests, locked_as, LocksKeeping, MayAct, MayLock, Mode, nat_tests, NL, NodeId, None, number_same, Ok, OnErr, OnOk, Option}
+use Rattle.gl_table.proofs.Words.{parents_of, passed_then, queue_of, refl, Refusal, refused_first, Refuses, Result, same_mode, same_node-refl, Some, split}
+use Rattle.gl_table.proofs.Words.{State, state_at, state_in, state_of, status_of, subst, sym, TableView, Told, told_but, true, try_tests, TxnId, txns_of}
+use Rattle.gl_table.proofs.Words.{verdict, Victims, view_of, WaitSettles, WaitSettlesKeeping, wanted, would_block, ℕ}
 use Rattle.gl_model.proofs.law.Tests.{mode_fits}
-use Rattle.gl_table.specs.declared.table.Table.TheInside.{Inside}
 use Rattle.gl_model.specs.Calls.{Locks}
 use Rattle.gl_modes.specs.declared.refusal.Refusal.TheVariants as no
-use Rattle.gl_table.specs.declared.ledger.Ledger.{Ledger}
 use Rattle.gl_table.specs.declared.locks.Locks as code
 use Rattle.gl_model.specs.declared.answers.Locked.TheVariants as locked
 use Rattle.gl_table.proofs.calls.Calls.{keeping_also, over, settled_also}
 use Rattle.gl_table.proofs.calls.Stands.{as_it_was, IsLaw, may_act, MayStand, orderly_over, stands, with_locks}
-use Rattle.gl_model.proofs.law.Lock.{granted-lawful, granted-no_cycle, locks-lawful, locks-no_cycle, may_lock, MayLock, waiting-lawful}
+use Rattle.gl_model.proofs.law.Lock.{granted-lawful, locks-lawful, locks-no_cycle, may_lock, waiting-lawful}
 use Rattle.gl_model.proofs.telling.Fronts.{enters-most}
 use Rattle.gl_model.proofs.telling.Lists.{told_but_same, told_nothing}
 

@@ -1,25 +1,21 @@
 -- A node moved and the locks followed: what it makes of a table. For the calls that move.
-use Rattle.gl_table.proofs.Words.{[], ◌&&◌, ◌+◌, ◌<◌, ◌==◌, ◌^◌, ◌||◌, ◌∙◌, ◌∷◌, ◌≡◌, ◌≤◌, Active, Agrees, and_both, ap, ap₂, AreAgreed, AreInnerParents}
-use Rattle.gl_table.proofs.Words.{AreShutOut, arith, at_least-not_NL, Bool, CanRecount, children_that, count_by, count_by-le-length, count_none, counted_by}
-use Rattle.gl_table.proofs.Words.{CountsHeld, false, first_cycle, fits-limit, Graph, graph_of, HasMoved, HasNoCycle, held_children, holds, if◌then◌else◌}
-use Rattle.gl_table.proofs.Words.{is_among_waiters, is_at_least, is_listed, is_live, is_movable_shape, is_record_shape, IsLawful, IsOrderly, IsSound, IX}
-use Rattle.gl_table.proofs.Words.{least_parents, List, list_all, listed_by, LockList, members, Mode, moved_to, need_exclusive, need_new_parents, NL, Node}
-use Rattle.gl_table.proofs.Words.{NodeId, None, not, not_true, Option, option_map_or, other_number, parents_of, Recounts, refl, rekeyed, rekeyed_parents}
-use Rattle.gl_table.proofs.Words.{same_mode, same_node, same_number, shape_of, slice_get, slot_limit, Some, some_given, split, State, state_in, state_of}
-use Rattle.gl_table.proofs.Words.{state_on, status_of, stays, subst, sym, TableView, Told, told, told_to, true, unlisted, unlisted_by, View, view_of}
-use Rattle.gl_table.proofs.Words.{with_parents, X, ⊎_elim, ℕ}
-use Rattle.gl_table.specs.declared.ledger.Ledger.{Ledger}
-use Rattle.gl_table.specs.declared.table.Table.TheInside.{Inside}
-use Rattle.gl_model.proofs.law.Orderly.{lawful_orderly}
+use Rattle.gl_table.proofs.Words.{◌&&◌, ◌+◌, ◌<◌, ◌==◌, [], ◌^◌, ◌||◌, ◌∙◌, ◌∷◌, ◌≡◌, ◌≤◌, ⊎_elim, Active, Agrees, and_both, ap, ap₂, AreAgreed}
+use Rattle.gl_table.proofs.Words.{AreInnerParents, AreShutOut, arith, at_least-not_NL, Bool, CanRecount, children_few, children_that, count_by}
+use Rattle.gl_table.proofs.Words.{count_by-le-length, count_none, counted_by, CountsHeld, false, first_cycle, fits-limit, Graph, graph_of, HasMoved, HasNoCycle}
+use Rattle.gl_table.proofs.Words.{held_children, holds, if◌then◌else◌, Inside, is_among_waiters, is_at_least, is_listed, is_live, is_movable_shape}
+use Rattle.gl_table.proofs.Words.{is_record_shape, IsLawful, IsOrderly, IsSound, IX, lawful_orderly, least_parents, Ledger, List, list_all, listed_by, LockList}
+use Rattle.gl_table.proofs.Words.{members, Mode, moved_to, Moves, need_exclusive, need_new_parents, NL, Node, NodeId, None, not, not_true, Option}
+use Rattle.gl_table.proofs.Words.{option_map_or, other_number, parents_of, Recounts, refl, rekeyed, rekeyed_parents, same_mode, same_node, same_number}
+use Rattle.gl_table.proofs.Words.{shape_of, slice_get, slot_limit, Some, some_given, split, State, state_in, state_of, state_on, status_of, stays, subst, sym}
+use Rattle.gl_table.proofs.Words.{TableView, Told, told, told_is, told_to, true, unlisted, unlisted_by, View, view_of, with_parents, X, ℕ}
 use Rattle.gl_table.proofs.calls.Stands.{MayStand, stands, with_locks}
 use Rattle.gl_table.proofs.inside.Marked.{list_there}
 use Rattle.gl_table.proofs.inside.TurnedAway.{is_lost, moved_notice, moved_told}
 use Rattle.gl_model.proofs.law.Effects.{x_is}
-use Rattle.gl_model.proofs.law.Move.{changed_keeps, HoldsNode, HoldsParents, live_kept, may_be_moved, may_be_rekeyed, moved-no_cycle, moved_node, Moves}
-use Rattle.gl_model.proofs.law.Move.{new_parents, node_there, nodes_kept, only_mover, others_parents, rekeyed_to, waiter_bare, waiters_stuck}
-use Rattle.gl_model.proofs.queues.Counts.{children_few, children_moved, parents_counted, parents_few}
+use Rattle.gl_model.proofs.law.Move.{changed_keeps, HoldsNode, HoldsParents, live_kept, may_be_moved, may_be_rekeyed, moved-no_cycle, moved_node, new_parents}
+use Rattle.gl_model.proofs.law.Move.{node_there, nodes_kept, only_mover, others_parents, rekeyed_to, waiter_bare, waiters_stuck}
+use Rattle.gl_model.proofs.queues.Counts.{children_moved, parents_counted, parents_few}
 use Rattle.gl_model.proofs.telling.Fronts.{members_within}
-use Rattle.gl_model.proofs.telling.Lists.{told_is}
 
 -- all of these are listed
 none_unlisted : (ls : List LockList) (t : ℕ) (ps : List NodeId) → list_all (listed_by ls t) ps ≡ true → unlisted_by ls t ps ≡ 0

@@ -1,20 +1,13 @@
 -- The place of a waiter in its queue is the number of those ahead of it. For listings.
-use Rattle.gl_table.proofs.Words.{[], ◌+◌, ◌<◌, ◌==◌, ◌||◌, ◌∙◌, ◌∷◌, ◌≡◌, ◌≤◌, and_both, ap, ap₂, arith, Bool, count_by, false, get_or}
-use Rattle.gl_table.proofs.Words.{is_among_waiters, is_waiter, IsLawful, length, List, Mode, nat_tests, NodeId, None, not, Option, position}
-use Rattle.gl_table.proofs.Words.{position-Some, range_with_len, refl, Some, State, status_of, suc, sym, take, true, Waiting, zero, ℕ}
-use Rattle.gl_header.specs.Header.{Waiter}
-use Rattle.gl_header.specs.Sound.{is_distinct}
-use Rattle.gl_graph.proofs.Counts.{count_cons}
+use Rattle.gl_table.proofs.Words.{◌+◌, ◌<◌, ◌==◌, [], ◌||◌, ◌∙◌, ◌∷◌, ◌≡◌, ◌≤◌, and_both, ap, ap₂, arith, Bool, both, clash, count_by, count_cons, false}
+use Rattle.gl_table.proofs.Words.{fun_ext, get_or, is_among_waiters, is_distinct, is_waiter, IsLawful, lawful_orderly, length, length-take-le, List, Mode}
+use Rattle.gl_table.proofs.Words.{nat_tests, NodeId, None, not, not-true, not_true, number_same, Option, or_elim, or_left, or_right, position, position-Some}
+use Rattle.gl_table.proofs.Words.{range_with_len, refl, same_number, Some, State, status_of, suc, sym, take, true, txn_there, Waiter, Waiting, waits_there}
+use Rattle.gl_table.proofs.Words.{zero, ℕ}
 use Rattle.gl_graph.proofs.Rekey.{not_missed}
-use Rattle.gl_modes.proofs.Words.{both, clash, not_true, number_same, or_elim, or_left, or_right, same_number}
-use Rattle.std.proofs.Math.Path.{fun_ext}
-use Rattle.std.proofs.lemmas.Bool.{not-true}
-use Rattle.gl_model.proofs.law.Keeps.{txn_there}
-use Rattle.gl_model.proofs.law.Orderly.{lawful_orderly}
 use Rattle.gl_model.proofs.queues.Waiters.{ahead-first, one_among}
-use Rattle.gl_model.proofs.telling.Fronts.{distinct_once, waits_there}
+use Rattle.gl_model.proofs.telling.Fronts.{distinct_once}
 use Rattle.gl_table.specs.Table.{ahead_of}
-use Rattle.std.proofs.lemmas.List.{length-take-le}
 
 -- Slots, counted.
 

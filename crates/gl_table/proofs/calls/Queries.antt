@@ -1,20 +1,17 @@
 -- Queries of a table: its lists and headers say what its state says. For queries and tests.
-use Rattle.gl_table.proofs.Words.{[], ◌&&◌, ◌+◌, ◌<◌, ◌||◌, ◌∙◌, ◌∷◌, ◌≡◌, ◌≤◌, add-one, answered, ap, ap₂, AreHeaders, AreRowsOf, arith, board_of, Bool, both}
+use Rattle.gl_table.proofs.Words.{◌&&◌, ◌+◌, ◌<◌, [], ◌||◌, ◌∙◌, ◌∷◌, ◌≡◌, ◌≤◌, add-one, answered, ap, ap₂, AreHeaders, AreRowsOf, arith, board_of, Bool, both}
 use Rattle.gl_table.proofs.Words.{by_list, child_held, clash, cond, count_by, drop, drop-cons, Entry, entry_at, Err, false, find, first_not_ix, first_of_all}
 use Rattle.gl_table.proofs.Words.{first_refusal, get_or, Graph, group_of, group_of-limit, header_at, header_or_new, HeaderState, held_by, held_child}
-use Rattle.gl_table.proofs.Words.{held_children, held_of, holds, if◌then◌else◌, IS, is_at_least, is_child, is_empty, is_idle, is_row_of, is_some, is_write}
-use Rattle.gl_table.proofs.Words.{IsDistinct, IsSound, IX, keys, keys_of, length, length-map, List, list_all, list_any, ListsAgree, LockList, LockRow, lookup}
-use Rattle.gl_table.proofs.Words.{lookup_from_place, map, Members, members, members_at, members_of, Mode, mode_in, mode_of, nat_tests, NL, no, no_parents}
-use Rattle.gl_table.proofs.Words.{node_equivalence, NodeId, nodes, None, none_some, not, not_held, not_true, Ok, Option, option_map}
-use Rattle.gl_table.proofs.Words.{option_map_or, queue_of, range-from_each, refl, Refusal, Refuses, RefusesOnly, Result, row_of, rows_of, rule_refusal}
-use Rattle.gl_table.proofs.Words.{same_mode, same_node, shown, slice_get, slice_get-get_or, slice_get-map, slot_limit, Some, split, StandOnce, State, state_of}
-use Rattle.gl_table.proofs.Words.{subst, suc, sum_by-cons, sym, TableView, true, Txn, txns_of, unused-nobody, verdict, view_of, where_true, zero, ℕ}
-use Rattle.gl_model.proofs.queues.Walks.{same}
-use Rattle.gl_model.specs.Calls.{RefusesLock, lock_tests}
-use Rattle.gl_model.specs.State.{live_by}
-use Rattle.gl_model.specs.declared.txn.TxnId.{TxnId}
+use Rattle.gl_table.proofs.Words.{held_children, held_of, holds, if◌then◌else◌, Inside, IS, is_at_least, is_child, is_empty, is_idle, is_row_of, is_some}
+use Rattle.gl_table.proofs.Words.{is_write, IsDistinct, IsSound, IX, keys, keys_of, length, length-map, List, list_all, list_any, ListsAgree, live_by}
+use Rattle.gl_table.proofs.Words.{lock_tests, LockList, LockRow, lookup, lookup_from_place, map, Members, members, members_at, members_of, Mode, mode_in}
+use Rattle.gl_table.proofs.Words.{mode_of, nat_tests, NL, no, no_parents, node_equivalence, NodeId, nodes, None, none_some, not, not_held, not_true, Ok, Option}
+use Rattle.gl_table.proofs.Words.{option_map, option_map_or, queue_of, range-from_each, refl, Refusal, Refuses, RefusesOnly, Result, row_of, rows_of}
+use Rattle.gl_table.proofs.Words.{rule_refusal, same, same_mode, same_node, shown, slice_get, slice_get-get_or, slice_get-map, slot_limit, Some, split}
+use Rattle.gl_table.proofs.Words.{StandOnce, State, state_of, subst, suc, sum_by-cons, sym, TableView, true, Txn, TxnId, txns_of, unused-nobody, verdict}
+use Rattle.gl_table.proofs.Words.{view_of, where_true, zero, ℕ}
+use Rattle.gl_model.specs.Calls.{RefusesLock}
 use Rattle.gl_model.proofs.telling.Lists.{place}
-use Rattle.gl_table.specs.declared.table.Table.TheInside.{Inside}
 use Rattle.std.specs.List.{All}
 use Rattle.gl_modes.specs.declared.refusal.Refusal.TheVariants as no
 use Rattle.gl_model.proofs.law.Keeps.{lawful-within}

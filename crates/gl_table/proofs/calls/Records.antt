@@ -1,39 +1,27 @@
 -- Records are added and removed, and children are shed: what is left of a table. For those calls.
-use Rattle.gl_slots.specs.Limit.{most_slots}
-use Rattle.gl_table.proofs.Words.{[], ◌&&◌, ◌+◌, ◌-◌, ◌==◌, ◌||◌, ◌∙◌, ◌∷◌, ◌≡◌, ◌≤◌, Active, Agrees, and_both, ap, are_compatible, AreExact, arith, Bool}
-use Rattle.gl_table.proofs.Words.{children_that, clash, cond, count_by, count_cons, CountsHeld, covered_children, false, first_not_ix, granted_at, Graph}
-use Rattle.gl_table.proofs.Words.{graph_of, HasNoCycle, held_children, holds, holds_child, IfOk, if◌then◌else◌, is_at_least, is_child, is_covered, is_idle}
-use Rattle.gl_table.proofs.Words.{is_live, is_record_shape, is_some, is_wait, IsAdopted, IsBorn, IsFresh, IsLawful, IsRoomyRecord, IsSound, KeepsLocks, keys}
-use Rattle.gl_table.proofs.Words.{length, List, list_all, listed, members, Mode, nat_tests, NL, NodeId, nodes, None, not, not_true, notices_in, number_same}
-use Rattle.gl_table.proofs.Words.{OnErr, Option, other_number, parents_of, Rec, record_parents, record_refusal, record_unrefused, refl, Refusal, Refuses}
-use Rattle.gl_table.proofs.Words.{Result, rules, S, same_mode, same_mode-equal, same_node-refl, same_number, shape_of, shed, Some, split, State, state_at}
-use Rattle.gl_table.proofs.Words.{state_in, state_of, state_on, status_of, subst, sym, TellsOthers, Told, told, true, unwrap_or, View, view_of, with_grant}
-use Rattle.gl_table.proofs.Words.{with_graph, with_key, without_node, X, ℕ}
-use Rattle.gl_model.proofs.queues.Walks.{same}
-use Rattle.gl_table.specs.declared.ledger.Ledger.{Ledger}
-use Rattle.gl_table.specs.declared.locks.Locks.{Locks}
-use Rattle.gl_table.specs.declared.table.Table.TheInside.{Inside}
+use Rattle.gl_table.proofs.Words.{◌&&◌, ◌+◌, ◌-◌, ◌==◌, [], ◌||◌, ◌∙◌, ◌∷◌, ◌≡◌, ◌≤◌, Active, active_untold, Agrees, and_both, ap, are_compatible, AreExact}
+use Rattle.gl_table.proofs.Words.{arith, Bool, children_that, clash, cond, count_by, count_cons, CountsHeld, covered_children, false, first_not_ix}
+use Rattle.gl_table.proofs.Words.{granted-no_cycle, granted_at, granted_waits, grants_other, Graph, graph_of, HasNoCycle, held_children, holds, holds_child}
+use Rattle.gl_table.proofs.Words.{IfOk, if◌then◌else◌, in_no_queue, Inside, is_at_least, is_child, is_covered, is_idle, is_live, is_record_shape, is_some}
+use Rattle.gl_table.proofs.Words.{is_wait, IsAdopted, IsBorn, IsFresh, IsLawful, IsRoomyRecord, IsSound, KeepsLocks, keys, lawful_orderly, Ledger, length, List}
+use Rattle.gl_table.proofs.Words.{list_all, listed, Locks, members, Mode, most_slots, nat_tests, NL, nobody_told, NodeId, nodes, None, not, not_true}
+use Rattle.gl_table.proofs.Words.{notices_in, number_same, OnErr, Option, other_number, parents_of, Rec, record_parents, record_refusal, record_unrefused, refl}
+use Rattle.gl_table.proofs.Words.{Refusal, Refuses, Result, rules, S, same, same_mode, same_mode-equal, same_node, same_node-equal, same_node-refl, same_number}
+use Rattle.gl_table.proofs.Words.{shape_of, shed, Some, split, State, state_at, state_in, state_of, state_on, status_of, subst, sym, TellsOthers, Told, told}
+use Rattle.gl_table.proofs.Words.{told_is, true, unwrap_or, View, view_of, with_grant, with_graph, with_key, without_node, X, ℕ}
 use Rattle.gl_table.proofs.calls.Calls.{table_between}
 use Rattle.gl_table.proofs.calls.Departing.{AreGone}
-use Rattle.gl_model.proofs.law.Orderly.{lawful_orderly}
 use Rattle.gl_table.proofs.calls.Stands.{MayStand, stands, with_locks}
-use Rattle.gl_table.proofs.calls.Law.{called, held-lives, Suits, suited-stands}
+use Rattle.gl_table.proofs.calls.Law.{called, held-lives, suited-stands, Suits}
 use Rattle.gl_table.proofs.calls.Queries.{children_in}
 use Rattle.gl_table.proofs.inside.Asks.{state-same}
 use Rattle.gl_table.proofs.inside.Slots.{keeps-agrees, keeps-counts}
-use Rattle.gl_model.proofs.law.Lock.{granted-no_cycle, shed-no_cycle}
+use Rattle.gl_model.proofs.law.Lock.{shed-no_cycle}
 use Rattle.gl_table.proofs.inside.Vacated.{children-left}
-use Rattle.gl_model.proofs.law.Records.{adopted-children, adopted-lawful, born-live, born-unawaited, born-unheld}
-use Rattle.gl_model.proofs.law.Records.{forgotten-lawful, placed-lawful, record-grows, record_goes, unheld-there}
-use Rattle.gl_modes.specs.Nodes.{same_node}
-use Rattle.gl_modes.proofs.NodeLemmas.{same_node-equal}
+use Rattle.gl_model.proofs.law.Records.{adopted-children, adopted-lawful, born-live, born-unawaited, born-unheld, forgotten-lawful, placed-lawful, record-grows}
+use Rattle.gl_model.proofs.law.Records.{record_goes, unheld-there}
 use Rattle.gl_model.proofs.law.Tests.{shed-lawful}
 use Rattle.gl_lock_lists.proofs.Children.{one_found}
-use Rattle.gl_model.proofs.queues.Fronts.{granted_waits}
-use Rattle.gl_model.proofs.queues.Waiters.{grants_other}
-use Rattle.gl_model.proofs.telling.Fronts.{in_no_queue}
-use Rattle.gl_model.proofs.telling.Lists.{told_is}
-use Rattle.gl_model.proofs.telling.Between.{active_untold, nobody_told}
 
 -- Records of a table are added and removed: what holds of the fields still does.
 

@@ -1,9 +1,6 @@
 -- When a ledger over a graph may be that of a table. For the calls that write either.
-use Rattle.gl_table.proofs.Words.{◌≡◌, Active, Agrees, AreExact, AreSound, CountsHeld, Detect, IsLawful, IsOrderly, IsSafe, IsSound, MayAct, Some, State}
-use Rattle.gl_table.proofs.Words.{state_in, status_of, Victims, View, ℕ}
-use Rattle.gl_model.proofs.law.Orderly.{lawful_orderly}
-use Rattle.gl_table.specs.declared.ledger.Ledger.{Ledger}
-use Rattle.gl_table.specs.declared.table.Table.TheInside.{Inside}
+use Rattle.gl_table.proofs.Words.{◌≡◌, Active, Agrees, AreExact, AreSound, CountsHeld, Detect, Inside, IsLawful, IsOrderly, IsSafe, IsSound, lawful_orderly}
+use Rattle.gl_table.proofs.Words.{Ledger, MayAct, Some, State, state_in, status_of, Victims, View, ℕ}
 
 -- the state of a table with locks of this state
 abbrev pub with_locks : Inside → State → State

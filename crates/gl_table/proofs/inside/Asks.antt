@@ -1,23 +1,20 @@
 -- What a request that is granted leaves, also of a node that nobody held, and that a node has its key alone. For requests and new records.
-use Rattle.gl_slots.specs.Limit.{most_slots}
-use Rattle.gl_table.proofs.Words.{[], ◌&&◌, ◌+◌, ◌<◌, ◌==◌, ◌^◌, ◌||◌, ◌∙◌, ◌∷◌, ◌≡◌, ◌≢◌, ◌≤◌, Active, Agrees, and-false, ap, ap₂, AreHeaders, AreSound}
-use Rattle.gl_table.proofs.Words.{arith, Asked, Bool, cases_of, children_that, clash, count_by, count_by-le-length, count_of, counted_by, CountsHeld, enters}
-use Rattle.gl_table.proofs.Words.{enters_at, Entries, false, fun_ext, granted, Graph, graph_of, HasItsKey, HasRoom, HasRoomAt, header_at, header_or_new}
-use Rattle.gl_table.proofs.Words.{HeaderState, held_children, held_of, holds, if◌then◌else◌, is_among_waiters, is_empty, is_granted_at, is_listed, is_live}
-use Rattle.gl_table.proofs.Words.{is_wait, is_waiter, IsFreeKey, IsFresh, IsLawfulGraph, IsOneHolder, IsOrderly, KeepsLists, length, List, list_any}
-use Rattle.gl_table.proofs.Words.{LockList, MayAct, members, members_at, members_of, Mode, mode_of, nat_tests, NL, NodeId, not, not-true, not_NL}
-use Rattle.gl_table.proofs.Words.{number_same, or-false, or_left, parents_of, queue_of, refl, same_mode, same_node, same_node-equal, same_node-from_equal}
-use Rattle.gl_table.proofs.Words.{same_node-refl, same_number, slice_index_or, slot_limit, Some, spare, split, State, state_in, state_on, status_of, subst}
-use Rattle.gl_table.proofs.Words.{supremum, supremum-not_NL, sym, true, unlisted, View, Waiter, wanted, with_grant, with_members, with_mode, with_waiters}
-use Rattle.gl_table.proofs.Words.{⊎_elim, ℕ}
-use Rattle.gl_table.specs.declared.ledger.Ledger.{Ledger}
+use Rattle.gl_table.proofs.Words.{◌&&◌, ◌+◌, ◌<◌, ◌==◌, [], ◌^◌, ◌||◌, ◌∙◌, ◌∷◌, ◌≡◌, ◌≢◌, ◌≤◌, ⊎_elim, Active, Agrees, and-false, ap, ap₂, AreHeaders}
+use Rattle.gl_table.proofs.Words.{AreSound, arith, Asked, Bool, cases_of, children_few, children_that, clash, count_by, count_by-le-length, count_of}
+use Rattle.gl_table.proofs.Words.{counted_by, CountsHeld, enters, enters_at, Entries, false, fun_ext, granted, Graph, graph_of, HasItsKey, HasRoom, HasRoomAt}
+use Rattle.gl_table.proofs.Words.{header_at, header_or_new, HeaderState, held_children, held_of, holds, if-false, if-true, if◌then◌else◌, is_among_waiters}
+use Rattle.gl_table.proofs.Words.{is_empty, is_granted_at, is_listed, is_live, is_wait, is_waiter, IsFreeKey, IsFresh, IsLawfulGraph, IsOneHolder, IsOrderly}
+use Rattle.gl_table.proofs.Words.{KeepsLists, Ledger, length, List, list_any, LockList, MayAct, members, members_at, members_of, Mode, mode_of, most_slots}
+use Rattle.gl_table.proofs.Words.{nat_tests, NL, NodeId, not, not-true, not_NL, number_same, or-false, or_left, parents_of, queue_of, refl, same_mode}
+use Rattle.gl_table.proofs.Words.{same_node, same_node-equal, same_node-from_equal, same_node-refl, same_number, slice_index_or, slot_limit, Some, spare, split}
+use Rattle.gl_table.proofs.Words.{State, state_in, state_on, status_of, subst, supremum, supremum-not_NL, sym, true, txn_there, unlisted, View, Waiter}
+use Rattle.gl_table.proofs.Words.{waiting_is, wanted, with_grant, with_members, with_mode, with_waiters, ℕ}
 use Rattle.gl_header.specs.declared.header.Asked.TheVariants as asked
 use Rattle.gl_header.proofs.Changed.{nobody-enters, with_waiters-same}
 use Rattle.gl_table.proofs.inside.Slots.{by_list-at, HasNode, keeps-agrees, keeps-counts}
-use Rattle.gl_model.proofs.law.Keeps.{apart, txn_there, waiting_is}
-use Rattle.gl_model.proofs.queues.Counts.{children_few, children_up, few_parents}
+use Rattle.gl_model.proofs.law.Keeps.{apart}
+use Rattle.gl_model.proofs.queues.Counts.{children_up, few_parents}
 use Rattle.gl_model.proofs.telling.Fronts.{enters-most}
-use Rattle.gl_model.proofs.queues.Waiters.{if-false, if-true}
 use Rattle.gl_header.proofs.Unused.{unused-false}
 
 -- What is known of an active slot that requests a node, and of its list.

@@ -1,11 +1,10 @@
 -- A transaction rolls back to a mark in the order of its list: what holds after each node that it releases. For that call.
-use Rattle.gl_table.proofs.Words.{[], ◌&&◌, ◌++◌, ◌+◌, ◌==◌, ◌||◌, ◌∙◌, ◌∷◌, ◌≡◌, ◌≤◌, Active, Agrees, any_counted, ap, arith, Bool, CanTell, clash, counted_by}
-use Rattle.gl_table.proofs.Words.{CountsHeld, false, front_at, held_children, holds, holds_child, is_among_waiters, is_child, is_wait, IsOrderly, LeavesPlace}
-use Rattle.gl_table.proofs.Words.{length, List, listed_by, LockList, members, nat_lt, nat_tests, NL, NodeId, nodes, nodes_by, not_true, notices_in, or-false}
-use Rattle.gl_table.proofs.Words.{parents_of, refl, slice_get, Some, State, status_of, subst, sym, take, TellsOthers, Told, true, unlocked, Unlocks, WakesLists}
-use Rattle.gl_table.proofs.Words.{WakesTold, with_grant, ℕ}
+use Rattle.gl_table.proofs.Words.{◌&&◌, ◌+◌, ◌++◌, ◌==◌, [], ◌||◌, ◌∙◌, ◌∷◌, ◌≡◌, ◌≤◌, Active, Agrees, any_counted, ap, arith, Bool, CanTell, clash, counted_by}
+use Rattle.gl_table.proofs.Words.{CountsHeld, false, front_at, front_stands, held_children, holds, holds_child, in_no_queue, is_among_waiters, is_child}
+use Rattle.gl_table.proofs.Words.{is_wait, IsOrderly, LeavesPlace, length, List, listed_by, LockList, members, nat_lt, nat_tests, NL, NodeId, nodes, nodes_by}
+use Rattle.gl_table.proofs.Words.{not_true, notices_in, or-false, parents_of, refl, slice_get, Some, State, status_of, subst, sym, take, TellsOthers, Told}
+use Rattle.gl_table.proofs.Words.{true, unlocked, Unlocks, WakesLists, WakesTold, well_granted, with_grant, ℕ}
 use Rattle.std.proofs.lemmas.List.{length-append, length_push, take-take}
-use Rattle.gl_model.proofs.telling.Fronts.{front_stands, in_no_queue, well_granted}
 use Rattle.gl_model.proofs.telling.Unlocks.{active_stays, unlocks_append, unlocks_between}
 use Rattle.gl_table.proofs.inside.Departures.{own_notice, still_tells, still_untold, StillTells}
 

@@ -1,17 +1,13 @@
 -- The waits-for snapshot of a moment, written slot by slot, and which slot is a victim. For snapshots and detection.
-use Rattle.gl_slots.specs.Limit.{most_slots}
-use Rattle.gl_table.proofs.Words.{[], ⊎_elim, ◌&&◌, ◌<◌, ◌==◌, ◌||◌, ◌∙◌, ◌∷◌, ◌≡◌, ◌≢◌, ◌⊎◌, age_in, and-false, and-true, ap, are_compatible}
-use Rattle.gl_table.proofs.Words.{arith, blocks, Board, board_of, Bool, candidate-on_cycle, cases_eq, cases_lt, clash, cond, Entries}
-use Rattle.gl_table.proofs.Words.{false, fill_by_all, front, get_or, get_or-replicate, get_or-set_other, get_or-set_same}
-use Rattle.gl_table.proofs.Words.{get_or_past, HasNoSlot, header_at, header_or_new, HeaderState, inl, inr, is_ahead, is_among_waiters, is_wait}
-use Rattle.gl_table.proofs.Words.{IsOnCycleOf, IsVictim, IsWalk, length, length-replicate, List, map}
-use Rattle.gl_table.proofs.Words.{members_of, Mode, nat_tests, NodeId, not, number_other, number_same, Option}
-use Rattle.gl_table.proofs.Words.{range_with_len, Reaches, refl, replicate, TxnEntry, set, shown}
-use Rattle.gl_table.proofs.Words.{Slots, Some, split, State, status_in, status_of, subst, sym, take, true, txns_of, Victims, Waiter}
-use Rattle.gl_table.proofs.Words.{Waiting, waits_for, ℕ}
-use Rattle.gl_slots.specs.Slots.{Bits, HasNoBit, bits_of, has_bit, has_slot, no_bits}
+use Rattle.gl_table.proofs.Words.{◌&&◌, ◌<◌, ◌==◌, [], ◌||◌, ◌∙◌, ◌∷◌, ◌≡◌, ◌≢◌, ◌⊎◌, ⊎_elim, age_in, and-false, and-true, ap, are_compatible, arith, Bits}
+use Rattle.gl_table.proofs.Words.{bits_of, blocks, Board, board_of, Bool, candidate-on_cycle, cases_eq, cases_lt, clash, cond, Entries, false, fill_by_all}
+use Rattle.gl_table.proofs.Words.{front, get_or, get_or-replicate, get_or-set_other, get_or-set_same, get_or_past, has_bit, has_slot, HasNoSlot, header_at}
+use Rattle.gl_table.proofs.Words.{header_or_new, HeaderState, inl, inr, is_ahead, is_among_waiters, is_wait, IsOnCycleOf, IsVictim, IsWalk, length}
+use Rattle.gl_table.proofs.Words.{length-replicate, List, lives_at, map, members_of, Mode, most_slots, nat_tests, no_bits, NodeId, not, number_other}
+use Rattle.gl_table.proofs.Words.{number_same, Option, range_with_len, Reaches, refl, replicate, set, shown, Slots, Some, split, State, status_in, status_of}
+use Rattle.gl_table.proofs.Words.{subst, sym, take, true, TxnEntry, txns_of, Victims, Waiter, Waiting, waits_for, ℕ}
+use Rattle.gl_slots.specs.Slots.{HasNoBit}
 use Rattle.gl_slots.proofs.SlotLemmas.{bits_of-none, has_bit-bits_of, no_bits-none}
-use Rattle.gl_table.specs.inside.TxnEntries.{lives_at}
 use Rattle.gl_model.proofs.law.Edges.{idle_no_step, step_is}
 use Rattle.gl_model.proofs.queues.Waiters.{ahead-first}
 

@@ -1,24 +1,17 @@
 -- The locks on a node that is not in use are removed, and those on its children, one by one: what is left. For nodes that are dropped.
-use Rattle.gl_table.proofs.Words.{[], ◌&&◌, ◌++◌, ◌+◌, ◌<◌, ◌==◌, ◌||◌, ◌∙◌, ◌∷◌, ◌≡◌, ◌≤◌, Active, age_in, ap, ap₂, AreExact, arith, Bool, clash}
-use Rattle.gl_table.proofs.Words.{count_none, departed, false, fun_ext, get_or, held_children, holds, if◌then◌else◌, is_among_waiters, is_child, is_live}
-use Rattle.gl_table.proofs.Words.{is_some, IsBranchLeftTo, IsBySlot, IsLawfulGraph, IsLeftTo, IsOrderly, length, List, list_any, MayAct, members, Mode, NL}
-use Rattle.gl_table.proofs.Words.{NodeId, nodes, nodes_live, None, not, not_true, notices_in, Option, parents_in, refl, same_mode, same_node}
-use Rattle.gl_table.proofs.Words.{same_node-equal, same_node-refl, same_node-sym, shape_of, slice_get, slice_index_or, Some, split, State, state_in}
-use Rattle.gl_table.proofs.Words.{status_in, status_of, subst, suc, sym, take, TellsGone, Told, true, Txn, View, Waiting, zero, ℕ}
-use Rattle.gl_modes.proofs.Words.{no, or_elim, or_left, or_right, some_is}
+use Rattle.gl_table.proofs.Words.{◌&&◌, ◌+◌, ◌++◌, ◌<◌, ◌==◌, [], ◌||◌, ◌∙◌, ◌∷◌, ◌≡◌, ◌≤◌, Active, age_in, ap, ap₂, AreExact, arith, Bool, clash, Condemned}
+use Rattle.gl_table.proofs.Words.{count_none, departed, false, freed_among, fun_ext, get_or, goes_with, held_children, holds, if-false, if-true, if◌then◌else◌}
+use Rattle.gl_table.proofs.Words.{is_among_waiters, is_child, is_live, is_some, IsBranchLeftTo, IsLawfulGraph, IsLeftTo, IsOrderly, Ledger, length, List}
+use Rattle.gl_table.proofs.Words.{list_any, MayAct, members, Mode, NL, no, Node, node_at, NodeId, nodes, nodes_live, None, none_among, not, not_true}
+use Rattle.gl_table.proofs.Words.{notices_in, Option, or_elim, or_left, or_right, parents_in, refl, same_mode, same_node, same_node-equal, same_node-refl}
+use Rattle.gl_table.proofs.Words.{same_node-sym, shape_of, slice_get, slice_index_or, Some, some_is, split, stands_there, State, state_in, Status, status_in}
+use Rattle.gl_table.proofs.Words.{status_of, subst, suc, sym, take, TellsGone, Told, true, Txn, View, Waiting, waits_at, zero, ℕ}
 use Rattle.std.proofs.lemmas.List.{take_more}
 use Rattle.std.proofs.lemmas.List.Folds.{list_any-append}
-use Rattle.gl_graph.specs.Graph.{interval_at, Node, node_at}
+use Rattle.gl_graph.specs.Graph.{interval_at}
 use Rattle.gl_graph.proofs.Branch.{apart_from, at_child, child_at, children_are, movable_no_interval}
-use Rattle.gl_model.specs.Calls.{freed_among, goes_with, none_among}
-use Rattle.gl_model.specs.State.{waits_at}
 use Rattle.gl_model.specs.declared.answers.Notice.TheVariants as notice
-use Rattle.gl_model.specs.declared.txn.Status.{Status}
-use Rattle.gl_model.specs.declared.txn.Status.TheVariants.{Condemned}
 use Rattle.gl_model.proofs.law.Departures.{cleared_orderly, departed_twice}
-use Rattle.gl_model.proofs.queues.Waiters.{if-false, if-true}
-use Rattle.gl_model.proofs.telling.Fronts.{stands_there}
-use Rattle.gl_table.specs.declared.ledger.Ledger.{Ledger}
 
 -- an item of a list is among it, and what is among it is an item
 item_among : (xs : List NodeId) (p : ℕ) (x : NodeId) → slice_get xs p ≡ Some x → list_any (same_node x) xs ≡ true
@@ -212,13 +205,6 @@ module _ {s : State} {t : ℕ} {n : NodeId} {xs : List NodeId} (may : MayClear s
     end_whole = departed_twice s (λ q. list_any (same_node q) (take k xs)) (λ q. same_node q n)
         ∙ ap (λ (goes : NodeId → Bool). departed s goes s.graph)
         (fun_ext (λ q. ap (λ (ys : List NodeId). same_node q n || list_any (same_node q) ys) all ∙ whole q))
-
--- the ledger and the told list while the children are cleared
-pub record IsClearing (g : View) (s : State) (xs : List NodeId) (k : ℕ) (l : Ledger) (first list : Told) : Type 0 where
-  pub exact : AreExact g l
-  pub state : state_in g l ≡ departed s (λ q. list_any (same_node q) (take k xs)) s.graph
-  pub by_slot : IsBySlot list
-  pub same : (u : ℕ) → notices_in list u ≡ notices_in first u
 
 -- at the end the node's waiters are told
 pub told_after : (s now : State) (n : NodeId) (first mid list : Told) → now.queue n ≡ s.queue n → ((u : ℕ) → age_in (now.txns u) ≡ age_in (s.txns u))

@@ -1,19 +1,13 @@
 -- A request for no more than is held: it is granted at once, and changes nothing. For requests.
-use Rattle.gl_table.proofs.Words.{AreHeaders, and_both, ap, ap₂, are_compatible, both, clash, enters_at, fun_ext, granted, header_at, ◌&&◌, ◌==◌}
-use Rattle.gl_table.proofs.Words.{◌∙◌, ◌≡◌, ◌≢◌}
-use Rattle.gl_table.proofs.Words.{HeaderState, MayAct, Mode, NL, NodeId, None, header_or_new, held_of, holds, is_at_least, is_granted_at, members_of, not}
-use Rattle.gl_table.proofs.Words.{not_NL}
-use Rattle.gl_table.proofs.Words.{Option, Some, State, if◌then◌else◌, or_left, refl, same_mode-equal, same_node, same_node-equal, same_number, slot_limit}
-use Rattle.gl_table.proofs.Words.{split, state_in}
-use Rattle.gl_table.proofs.Words.{supremum, sym, true, View, ℕ, at_least-not_NL}
-use Rattle.gl_header.specs.State.{IsLawfulHeader, is_granted, wanted}
+use Rattle.gl_table.proofs.Words.{◌&&◌, ◌==◌, ◌∙◌, ◌≡◌, ◌≢◌, and_both, ap, ap₂, are_compatible, AreHeaders, at_least-not_NL, both, clash, enters_at, fun_ext}
+use Rattle.gl_table.proofs.Words.{granted, HasAsked, header_at, header_or_new, HeaderState, held_of, holds, if-false, if-true, if◌then◌else◌, is_at_least}
+use Rattle.gl_table.proofs.Words.{is_granted_at, IsLawfulHeader, Ledger, MayAct, members_of, Mode, NL, NodeId, None, not, not_NL, Option, or_left, refl}
+use Rattle.gl_table.proofs.Words.{same_mode-equal, same_node, same_node-equal, same_number, slot_limit, Some, split, State, state_in, supremum, sym, true}
+use Rattle.gl_table.proofs.Words.{unused-nobody, View, ℕ}
+use Rattle.gl_header.specs.State.{is_granted, wanted}
 use Rattle.gl_header.specs.declared.header.Asked.TheVariants as asked
 use Rattle.gl_header.proofs.Fits.{fits-from_all}
-use Rattle.gl_header.proofs.Unused.{unused-nobody}
 use Rattle.gl_modes.proofs.ModeLemmas.{supremum-covers}
-use Rattle.gl_model.proofs.queues.Waiters.{if-false, if-true}
-use Rattle.gl_table.specs.declared.ledger.Ledger.{Ledger}
-use Rattle.gl_table.specs.inside.Steps.{HasAsked}
 use Rattle.gl_table.proofs.inside.Asks.{says_is}
 
 -- what is held is all that is wanted

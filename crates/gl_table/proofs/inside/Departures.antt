@@ -1,23 +1,20 @@
 -- A slot leaves its nodes one after the other. For commits, aborts and escalations.
-use Rattle.gl_table.proofs.Words.{[], ◌&&◌, ◌+◌, ◌==◌, ◌||◌, ◌∙◌, ◌≡◌, Active, after_grants, Agrees, and-false, and-not_self, and-true, and_both, ap, ap₂}
-use Rattle.gl_table.proofs.Words.{arith, Bool, cancelled, CanTell, clash, count_by, CountsHeld, drop, false, front, front_at, fun_ext, grant_notice, granted_at}
-use Rattle.gl_table.proofs.Words.{held_children, holds, if◌then◌else◌, is_among_waiters, is_wait, is_waiting_at, IsBySlot, IsLawfulGraph, IsBetween, IsOrderly}
-use Rattle.gl_table.proofs.Words.{length, List, LockList, members, Mode, mode_given, nat_tests, NL, NodeId, nodes_by, None, not, not_true, notices_in}
-use Rattle.gl_table.proofs.Words.{number_same, Option, or-false, or-true, or_comm, parents_of, pumped, refl, released, restatus, same_mode, same_node}
-use Rattle.gl_table.proofs.Words.{same_node-equal, same_node-refl, same_node-sym, Some, split, State, Status, status_in, status_of, stripped, subst, sym, Told}
-use Rattle.gl_table.proofs.Words.{told_to, true, Txn, TxnId, unlocked, Waiter, Waiting, WakesLists, WakesTold, with_grant, with_txn, without_wait}
-use Rattle.gl_table.proofs.Words.{without_waiter, woken, ℕ}
+use Rattle.gl_table.proofs.Words.{◌&&◌, ◌+◌, ◌==◌, [], ◌||◌, ◌∙◌, ◌≡◌, Active, after_grants, Agrees, and-false, and-not_self, and-true, and_both, ap, ap₂}
+use Rattle.gl_table.proofs.Words.{arith, Bool, cancelled, CanTell, children_down, clash, count_by, CountsHeld, drop, false, front, front_at, front_stands}
+use Rattle.gl_table.proofs.Words.{fun_ext, grant_notice, granted_at, granted_waits, grants_other, held_children, holds, if-false, if-true, if◌then◌else◌}
+use Rattle.gl_table.proofs.Words.{in_no_queue, is_among_waiters, is_wait, is_waiting_at, IsBetween, IsBySlot, IsLawfulGraph, IsOrderly, length, List, LockList}
+use Rattle.gl_table.proofs.Words.{members, Mode, mode_given, nat_tests, NL, nl_is, NodeId, nodes_by, None, not, not_true, notices_in, number_same, Option}
+use Rattle.gl_table.proofs.Words.{or-false, or-true, or_comm, parents_of, pumped, refl, released, restatus, same_mode, same_node, same_node-equal}
+use Rattle.gl_table.proofs.Words.{same_node-refl, same_node-sym, Some, split, State, Status, status_in, status_of, stripped, subst, sym, Told, told_to, true}
+use Rattle.gl_table.proofs.Words.{Txn, TxnId, unlocked, Waiter, Waiting, waiting_is, WakesLists, WakesTold, well_granted, with_grant, with_txn, without_wait}
+use Rattle.gl_table.proofs.Words.{without_waiter, woken, woken_front, ℕ}
 use Rattle.gl_model.specs.declared.answers.Notice.TheVariants as notice
 use Rattle.gl_table.proofs.inside.Released.{agrees_unlocked, counts_unlocked, unlocked_own}
-use Rattle.gl_model.proofs.law.Keeps.{waiting_is}
-use Rattle.gl_lock_lists.proofs.Children.{nl_is}
-use Rattle.gl_model.proofs.queues.Counts.{children_down}
 use Rattle.gl_model.proofs.queues.Edits.{without_none}
-use Rattle.gl_model.proofs.queues.Fronts.{granted_waits, out_of_own, pumped-pumped, stripped_after}
-use Rattle.gl_model.proofs.queues.Waiters.{grants_other, if-false, if-true}
-use Rattle.gl_model.proofs.telling.Fronts.{front_stands, in_no_queue, orderly_unlocked, well_granted, woken_front}
+use Rattle.gl_model.proofs.queues.Fronts.{out_of_own, pumped-pumped, stripped_after}
+use Rattle.gl_model.proofs.telling.Fronts.{orderly_unlocked}
 use Rattle.gl_model.proofs.telling.GivenUp.{given_up_out, orderly_without, waits_still}
-use Rattle.gl_model.proofs.telling.Between.{cancel_tells, release_tells, between_gives_up, between_releases, woken_same}
+use Rattle.gl_model.proofs.telling.Between.{between_gives_up, between_releases, cancel_tells, release_tells, woken_same}
 
 -- One more node is released by a slot, and its waiters are granted from the front.
 

@@ -1,15 +1,14 @@
 -- What a request that waits leaves. For requests.
-use Rattle.gl_slots.specs.Limit.{most_slots}
-use Rattle.gl_table.proofs.Words.{◌&&◌, ◌+◌, ◌<◌, ◌==◌, ◌||◌, ◌∙◌, ◌≡◌, ◌≤◌, Agrees, and_both, ap, ap₂, AreSound, arith, Bool, count_of, counted_by}
-use Rattle.gl_table.proofs.Words.{CountsHeld, enqueued, enters, Entries, false, fun_ext, held_of, holds, if◌then◌else◌, is_among_waiters, is_listed, is_wait}
-use Rattle.gl_table.proofs.Words.{length, List, LockList, members, members_at, Mode, mode_of, nat_tests, NodeId, number_same, Option, other_number, placed}
-use Rattle.gl_table.proofs.Words.{queue_of, refl, restatus, room_by, same_node, same_node-equal, same_number, TxnEntry, slice_index_or, slice_set, slot_limit}
-use Rattle.gl_table.proofs.Words.{spare, split, State, state_in, status_in, subst, supremum, sym, true, txns_of, View, Waiting, wanted, with_waiters, ℕ}
-use Rattle.gl_table.specs.declared.ledger.Ledger.{Ledger}
+use Rattle.gl_table.proofs.Words.{◌&&◌, ◌+◌, ◌<◌, ◌==◌, ◌||◌, ◌∙◌, ◌≡◌, ◌≤◌, Agrees, and_both, ap, ap₂, AreSound, arith, Bool, count_of, counted_by, CountsHeld}
+use Rattle.gl_table.proofs.Words.{enqueued, enters, Entries, false, fun_ext, held_of, holds, if-false, if-true, if◌then◌else◌, is_among_waiters, is_listed}
+use Rattle.gl_table.proofs.Words.{is_wait, Ledger, length, List, LockList, members, members_at, Mode, mode_of, most_slots, nat_tests, NodeId, number_same}
+use Rattle.gl_table.proofs.Words.{Option, other_number, placed, queue_of, refl, restatus, room_by, same_node, same_node-equal, same_number, slice_index_or}
+use Rattle.gl_table.proofs.Words.{slice_set, slot_limit, spare, split, State, state_in, status_in, subst, supremum, sym, true, TxnEntry, txns_of, View, Waiting}
+use Rattle.gl_table.proofs.Words.{wanted, with_waiters, ℕ}
 use Rattle.gl_table.proofs.inside.Asks.{active-waits_nowhere, IsReady}
 use Rattle.gl_table.proofs.inside.Slots.{by_list-set, counts-entered, has_node-set, HasNode, none_more}
 use Rattle.gl_model.proofs.queues.Edits.{placed_other, placed_self}
-use Rattle.gl_model.proofs.queues.Waiters.{among_waits, if-false, if-true, one_among, some_wait}
+use Rattle.gl_model.proofs.queues.Waiters.{among_waits, one_among, some_wait}
 
 module _ (s : State) (t : ℕ) (n : NodeId) (w : Mode) (out : is_among_waiters t (s.queue n) ≡ false) where
   abbrev after : State

@@ -1,22 +1,19 @@
 -- Headers, transaction entries and lists after a node's waiters were granted from the front. For releases and ended waits.
-use Rattle.gl_slots.specs.Limit.{most_slots}
-use Rattle.gl_table.proofs.Words.{[], ◌&&◌, ◌+◌, ◌<◌, ◌==◌, ◌||◌, ◌∙◌, ◌≡◌, ◌≢◌, ◌≤◌, Active, after_grants, Agrees, and-false, and_both, ap, ap₂}
-use Rattle.gl_table.proofs.Words.{AreExactFor, arith, books_of, Bool, CanEnd, CanHold, children_that, clash, count_by, count_by-le-length, CountsHeld, drop}
-use Rattle.gl_table.proofs.Words.{false, front, front-limit, front_at, fun_ext, granted_at, graph_of, held_by, held_children, holds, if◌then◌else◌}
-use Rattle.gl_table.proofs.Words.{is_among_waiters, is_distinct, is_listed, is_live, is_wait, IsBySlot, IsLawfulGraph, IsOrderly, IsWithin, length, List}
-use Rattle.gl_table.proofs.Words.{LockList, Members, members, Mode, mode_given, nat_tests, NL, NodeId, None, not, not_true, notices_in, Option}
-use Rattle.gl_table.proofs.Words.{option_map_or, or_left, or_right, parents_of, pumped, refl, restatus, same_mode, same_mode-equal, same_node}
-use Rattle.gl_table.proofs.Words.{same_node-equal, same_node-refl, same_node-sym, same_number, slice_get, slot_limit, Some, split, State, state_in, Status}
-use Rattle.gl_table.proofs.Words.{status_of, subst, sym, Told, true, Txn, unlisted, unlisted_by, View, Waiter, Waiting, WaitWell, WakesLists, with_grant}
-use Rattle.gl_table.proofs.Words.{with_members, with_mode, with_waiters, without_wait, without_waiter, woken, ℕ}
-use Rattle.gl_table.specs.declared.ledger.Ledger.{Ledger}
+use Rattle.gl_table.proofs.Words.{◌&&◌, ◌+◌, ◌<◌, ◌==◌, [], ◌||◌, ◌∙◌, ◌≡◌, ◌≢◌, ◌≤◌, Active, after_grants, Agrees, and-false, and_both, ap, ap₂, AreExactFor}
+use Rattle.gl_table.proofs.Words.{arith, books_of, Bool, CanEnd, CanHold, children_few, children_that, clash, count_by, count_by-le-length, CountsHeld, drop}
+use Rattle.gl_table.proofs.Words.{false, front, front-limit, front_at, front_stands, fun_ext, granted_at, grants_other, graph_of, held_by, held_children, holds}
+use Rattle.gl_table.proofs.Words.{if-true, if◌then◌else◌, is_among_waiters, is_distinct, is_listed, is_live, is_wait, IsBySlot, IsLawfulGraph, IsOrderly}
+use Rattle.gl_table.proofs.Words.{IsWithin, Ledger, length, List, LockList, Members, members, Mode, mode_given, most_slots, nat_tests, NL, NodeId, None, not}
+use Rattle.gl_table.proofs.Words.{not_true, notices_in, Option, option_map_or, or_left, or_right, parents_of, pumped, refl, restatus, same_mode}
+use Rattle.gl_table.proofs.Words.{same_mode-equal, same_node, same_node-equal, same_node-refl, same_node-sym, same_number, slice_get, slot_limit, Some, split}
+use Rattle.gl_table.proofs.Words.{State, state_in, Status, status_of, subst, sym, Told, true, Txn, unlisted, unlisted_by, View, wait_is, Waiter, waiters_below}
+use Rattle.gl_table.proofs.Words.{Waiting, waiting_is, waits_there, WaitWell, WakesLists, with_grant, with_members, with_mode, with_waiters, without_wait}
+use Rattle.gl_table.proofs.Words.{without_waiter, woken, woken_waits, ℕ}
 use Rattle.gl_table.proofs.inside.Slots.{none_more}
 use Rattle.gl_table.proofs.inside.Woken.{given_or_held}
-use Rattle.gl_model.proofs.law.Keeps.{waiting_is, woken_waits}
-use Rattle.gl_model.proofs.law.Settle.{wait_is}
-use Rattle.gl_model.proofs.queues.Counts.{children_few, children_up, few_parents}
-use Rattle.gl_model.proofs.queues.Waiters.{among_append, grants_one, grants_other, if-true, none_filtered, one_in_first, waits_of}
-use Rattle.gl_model.proofs.telling.Fronts.{below_without, front_distinct, front_stands, granted_here, members_within, waiters_below, waits_there}
+use Rattle.gl_model.proofs.queues.Counts.{children_up, few_parents}
+use Rattle.gl_model.proofs.queues.Waiters.{among_append, grants_one, none_filtered, one_in_first, waits_of}
+use Rattle.gl_model.proofs.telling.Fronts.{below_without, front_distinct, granted_here, members_within}
 use Rattle.gl_model.proofs.telling.Between.{granted_and_left, granted_stands, left_at, waits_granted_and_left}
 
 -- Lists that agree with a state still do once a node has granted from its front.

@@ -1,6 +1,6 @@
 -- Empty lists. For new locks.
-use Rattle.gl_table.proofs.Words.{[], ◌++◌, ◌+◌, ◌∷◌, ◌≡◌, arith, by_list, count_of, counted_by, Entry, entry_of, false, held_by, is_listed, is_some}
-use Rattle.gl_table.proofs.Words.{length, List, listed_by, LockList, mode_in, mode_of, NL, NodeId, None, Option, refl, Some, suc, zero, ℕ, ⊤}
+use Rattle.gl_table.proofs.Words.{◌+◌, ◌++◌, [], ◌∷◌, ◌≡◌, ⊤, arith, by_list, count_of, counted_by, Entry, entry_of, false, held_by, is_listed, is_some, length}
+use Rattle.gl_table.proofs.Words.{List, listed_by, LockList, mode_in, mode_of, NL, NodeId, None, Option, refl, Some, suc, zero, ℕ}
 
 -- Empty lists.
 

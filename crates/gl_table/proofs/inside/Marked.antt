@@ -1,19 +1,14 @@
 -- Marked children are released one after the other. For escalations.
-use Rattle.gl_table.proofs.Words.{[], ◌&&◌, ◌+◌, ◌<◌, ◌==◌, ◌||◌, ◌∙◌, ◌∷◌, ◌≡◌, ◌≤◌, Active, Agrees, and_both, any_counted, ap, ap₂, AreSound, arith, Bool}
+use Rattle.gl_table.proofs.Words.{◌&&◌, ◌+◌, ◌<◌, ◌==◌, [], ◌||◌, ◌∙◌, ◌∷◌, ◌≡◌, ◌≤◌, Active, Agrees, and_both, any_counted, ap, ap₂, AreSound, arith, Bool}
 use Rattle.gl_table.proofs.Words.{clash, cond, count_by, count_cons, count_of, CountsHeld, covered_in, false, front_at, fun_ext, Graph, holds, holds_child}
-use Rattle.gl_table.proofs.Words.{if◌then◌else◌, is_child, is_covered, is_listed, is_some, is_wait, IsLawfulGraph, IsOrderly, IsReleased, IsShedding, length}
-use Rattle.gl_table.proofs.Words.{List, list_all, list_any, listed, LockList, lookup, map, members, Mode, mode_of, nat_lt, nat_tests, NL, NodeId, nodes}
-use Rattle.gl_table.proofs.Words.{NoneMarkedFrom, not, not-true, not_true, or-false, or_no, parents_of, pumped, refl, same_mode, same_node, same_node-equal}
-use Rattle.gl_table.proofs.Words.{same_number, shed, slice_get, slice_index_or, slice_set, Some, split, State, state_on, status_of, subst, suc, sym, Told}
-use Rattle.gl_table.proofs.Words.{true, unlocked, WakesLists, WakesTold, with_grant, woken, X, zero, ℕ}
-use Rattle.gl_table.specs.declared.ledger.Ledger.{Ledger}
+use Rattle.gl_table.proofs.Words.{if-false, if-true, if◌then◌else◌, in_no_queue, is_child, is_covered, is_listed, is_some, is_wait, IsLawfulGraph, IsOrderly}
+use Rattle.gl_table.proofs.Words.{IsReleased, IsShedding, Ledger, length, List, list_all, list_any, listed, LockList, lookup, map, members, Mode, mode_of}
+use Rattle.gl_table.proofs.Words.{nat_lt, nat_tests, NL, nl_is, NodeId, nodes, NoneMarkedFrom, not, not-true, not_true, or-false, or_no, parents_of, pumped}
+use Rattle.gl_table.proofs.Words.{refl, same_mode, same_node, same_node-equal, same_number, shed, slice_get, slice_index_or, slice_set, Some, split, State}
+use Rattle.gl_table.proofs.Words.{state_on, status_of, subst, suc, sym, Told, true, txn_there, unlocked, WakesLists, WakesTold, with_grant, woken, X, zero, ℕ}
 use Rattle.gl_table.proofs.inside.Departures.{fewer_held, held_after, holds_after, IsLeaving, leaving_one, left_by, taken_from}
 use Rattle.gl_table.proofs.inside.Slots.{agrees-set, by_list-at, counts-set, own_list}
-use Rattle.gl_model.proofs.law.Keeps.{txn_there}
-use Rattle.gl_lock_lists.proofs.Children.{nl_is}
 use Rattle.gl_lock_lists.proofs.Children.{one_found}
-use Rattle.gl_model.proofs.telling.Fronts.{in_no_queue}
-use Rattle.gl_model.proofs.queues.Waiters.{if-false, if-true}
 
 -- Marked children are released, one after the other: what holds after each.
 

@@ -1,16 +1,12 @@
 -- In which order a list has its nodes, and what it says of the node at a place. For a rollback to a mark.
-use Rattle.gl_table.proofs.Words.{[], ◌==◌, ◌∙◌, ◌∷◌, ◌≡◌, ap, Bool, by_list, childless_in, count_in, count_of, counted_by, Entry, false, get_or, is_listed}
-use Rattle.gl_table.proofs.Words.{is_some, IsApart, IsUnique, keys, keys_of, LeavesPlace, length, List, listed_by, LockList, lookup_from_place, loose_of, map}
-use Rattle.gl_table.proofs.Words.{node_equivalence, NodeId, nodes_by, None, none_some, Option, option_map, refl, same_node, same_number, slice_get}
-use Rattle.gl_table.proofs.Words.{slice_get-map, Some, some_is, split, subst, suc, sym, true, zero, ℕ}
-use Rattle.gl_table.proofs.Words.{◌&&◌, ◌+◌, ◌||◌, and-false, and-true, IsDistinct, list_any, not, or-false, or-true, same_node-equal, same_node-refl, take}
-use Rattle.std.proofs.lemmas.List.Folds.{list_any_more}
-use Rattle.std.proofs.lemmas.Map.Made.{is_some-lookup}
-use Rattle.std.proofs.lemmas.Option.{get_or_from_slice_get, slice_get_within}
+use Rattle.gl_table.proofs.Words.{◌&&◌, ◌+◌, ◌==◌, [], ◌||◌, ◌∙◌, ◌∷◌, ◌≡◌, and-false, and-true, ap, Bool, by_list, childless_in, count_in, count_of}
+use Rattle.gl_table.proofs.Words.{counted_by, Entry, false, get_or, get_or_from_slice_get, if-false, if-true, is_listed, is_some, is_some-lookup, IsApart}
+use Rattle.gl_table.proofs.Words.{IsDistinct, IsUnique, keys, keys_of, LeavesPlace, length, List, list_any, list_any_more, listed_by, LockList}
+use Rattle.gl_table.proofs.Words.{lookup_from_place, loose_of, map, node_equivalence, NodeId, nodes_by, None, none_some, not, Option, option_map, or-false}
+use Rattle.gl_table.proofs.Words.{or-true, refl, same_node, same_node-equal, same_node-refl, same_number, slice_get, slice_get-map, slice_get_within, Some}
+use Rattle.gl_table.proofs.Words.{some_is, split, subst, suc, swap_remove_entry, sym, take, true, zero, ℕ}
 use Rattle.indexmap.proofs.SetLemmas.{keys_swap_remove_entry}
-use Rattle.indexmap.specs.IndexMap.{swap_remove_entry}
 use Rattle.gl_lock_lists.proofs.Lists.{none_before, one_fewer, stay_before}
-use Rattle.gl_model.proofs.queues.Waiters.{if-false, if-true}
 
 -- no list has a node twice
 pub unique_in : (l : LockList) → IsUnique same_node l.entries

@@ -1,19 +1,16 @@
 -- In which places a list has its nodes after some are removed, or one is added last. For all that writes lists.
-use Rattle.gl_table.proofs.Words.{[], ◌&&◌, ◌++◌, ◌-◌, ◌<◌, ◌==◌, ◌||◌, ◌∙◌, ◌∷◌, ◌≡◌, ◌≢◌, ◌≤◌, and_both, ap, arith, Bool, clash, cond, false, get_or}
-use Rattle.gl_table.proofs.Words.{is_listed, IsDistinct, KeepsLists, KeepsPlaces, keys, keys_of, length, List, list_any, ListsKeepPlaces, ListsLose, LockList}
-use Rattle.gl_table.proofs.Words.{nat_lt, nat_tests, NodeId, nodes_by, None, not, OnlyLoses, option_map_or, or_left, or_right, position_or_len}
-use Rattle.gl_table.proofs.Words.{same_node, same_node-equal, same_node-from_equal, same_number, slice_get, slice_get-get_or, slice_index_or, slice_set, Some}
-use Rattle.gl_table.proofs.Words.{refl, some_is, split, suc, sym, take, true, zero, ℕ, ◌+◌}
-use Rattle.gl_table.proofs.Words.{get_or-set_other, get_or-set_same, length-set, or_no, other_number}
-use Rattle.std.proofs.lemmas.List.{get_or-take, length-take-le}
-use Rattle.std.proofs.lemmas.Map.Made.{is_some-lookup}
-use Rattle.std.proofs.lemmas.Option.{get_or_from_slice_get, slice_get_within}
+use Rattle.gl_table.proofs.Words.{◌&&◌, ◌+◌, ◌++◌, ◌-◌, ◌<◌, ◌==◌, [], ◌||◌, ◌∙◌, ◌∷◌, ◌≡◌, ◌≢◌, ◌≤◌, and_both, ap, arith, Bool, clash, cond, Entry, false}
+use Rattle.gl_table.proofs.Words.{get_or, get_or-set_other, get_or-set_same, get_or_from_slice_get, is_listed, is_some-lookup, IsDistinct, KeepsLists}
+use Rattle.gl_table.proofs.Words.{KeepsPlaces, keys, keys_of, length, length-set, length-take-le, List, list_any, ListsKeepPlaces, ListsLose, LockList, nat_lt}
+use Rattle.gl_table.proofs.Words.{nat_tests, NodeId, nodes_by, None, not, OnlyLoses, option_map_or, or_left, or_no, or_right, other_number, position_or_len}
+use Rattle.gl_table.proofs.Words.{refl, same_node, same_node-equal, same_node-from_equal, same_number, slice_get, slice_get-get_or, slice_get_within}
+use Rattle.gl_table.proofs.Words.{slice_index_or, slice_set, Some, some_is, split, subst, suc, swap_remove_entry, sym, take, true, zero, ℕ}
+use Rattle.std.proofs.lemmas.List.{get_or-take}
 use Rattle.std.specs.Prelude.{swap_remove}
 use Rattle.indexmap.proofs.SetLemmas.{keys_swap_remove_entry}
-use Rattle.indexmap.specs.IndexMap.{swap_remove_by, swap_remove_entry}
+use Rattle.indexmap.specs.IndexMap.{swap_remove_by}
 use Rattle.gl_lock_lists.proofs.Lists.{not_taken, once_at, place_of_listed, taken_there}
 use Rattle.gl_table.proofs.inside.Orders.{order_seen, unique_in}
-use Rattle.gl_table.proofs.Words.{Entry, subst}
 
 -- Lists one after another.
 

@@ -1,17 +1,12 @@
 -- A grant is removed and its node released: the lists agree. For releases.
-use Rattle.gl_table.proofs.Words.{◌&&◌, ◌+◌, ◌<◌, ◌==◌, ◌||◌, ◌∙◌, ◌≡◌, ◌≤◌, Active, Agrees, ap, ap₂, arith, Bool, CanStrike, children_that, clash, count_by}
-use Rattle.gl_table.proofs.Words.{counted_by, CountsHeld, false, front_at, fun_ext, granted_at, held_by, held_children, holds, if◌then◌else◌, is_among_waiters}
-use Rattle.gl_table.proofs.Words.{is_live, is_wait, IsLawfulGraph, IsOrderly, length, List, listed_by, LockList, members, Mode, mode_given, nat_tests, NL}
-use Rattle.gl_table.proofs.Words.{NodeId, not, not_true, number_same, parents_of, refl, same_mode, same_node, same_node-refl, same_number, Some, split, State}
-use Rattle.gl_table.proofs.Words.{status_of, Strikes, subst, sym, true, unlocked, Waiting, WakesLists, with_grant, ℕ}
+use Rattle.gl_table.proofs.Words.{◌&&◌, ◌+◌, ◌<◌, ◌==◌, ◌||◌, ◌∙◌, ◌≡◌, ◌≤◌, Active, Agrees, ap, ap₂, arith, Bool, CanStrike, children_down, children_that}
+use Rattle.gl_table.proofs.Words.{clash, count_by, counted_by, CountsHeld, false, front_at, front_stands, fun_ext, granted_at, granted_waits, grants_other}
+use Rattle.gl_table.proofs.Words.{held_by, held_children, holds, if-true, if◌then◌else◌, in_no_queue, is_among_waiters, is_live, is_wait, IsLawfulGraph}
+use Rattle.gl_table.proofs.Words.{IsOrderly, length, List, listed_by, LockList, members, Mode, mode_given, nat_tests, NL, NodeId, not, not_true, number_same}
+use Rattle.gl_table.proofs.Words.{parents_of, refl, same_mode, same_node, same_node-refl, same_number, Some, split, State, status_of, Strikes, subst, sym, true}
+use Rattle.gl_table.proofs.Words.{unlocked, wait_is, Waiting, WakesLists, well_granted, with_grant, woken_waits, ℕ}
 use Rattle.gl_table.proofs.inside.Granted.{agrees_pumped, counts_pumped}
 use Rattle.gl_table.proofs.inside.Slots.{none_more}
-use Rattle.gl_model.proofs.law.Keeps.{woken_waits}
-use Rattle.gl_model.proofs.law.Settle.{wait_is}
-use Rattle.gl_model.proofs.queues.Counts.{children_down}
-use Rattle.gl_model.proofs.queues.Fronts.{granted_waits}
-use Rattle.gl_model.proofs.queues.Waiters.{grants_other, if-true}
-use Rattle.gl_model.proofs.telling.Fronts.{front_stands, in_no_queue, well_granted}
 use Rattle.gl_model.proofs.telling.Between.{left_stands}
 
 -- A grant is removed from a slot that is in no queue, and the node's waiters are granted from the front: what the slot then holds, and that all other lists

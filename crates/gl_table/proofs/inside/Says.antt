@@ -1,26 +1,14 @@
 -- What the lists say is what the state of the locks says. For queries of the locks.
-use Rattle.gl_table.proofs.Words.{◌&&◌, ◌∙◌, ◌≡◌, ap, ap₂, counted_by, effect_on, find, fun_ext, graph_of, held_by, held_children, holds, if◌then◌else◌}
-use Rattle.gl_table.proofs.Words.{is_child, is_live, is_write, list_any, members, Mode, NL, NodeId, nodes, None, not, refl, same_mode, Some}
-use Rattle.gl_table.proofs.Words.{state_at, sym, true, ℕ}
-use Rattle.gl_modes.proofs.Words.{and_both, or_elim, or_left}
-use Rattle.gl_modes.specs.declared.mode.Mode.TheVariants.{IS, IX, S, SIX, X}
-use Rattle.gl_modes.specs.Modes.{is_at_least}
-use Rattle.gl_graph.specs.Lawful.{IsLawfulGraph}
-use Rattle.gl_graph.proofs.RouteLengths.{listed}
+use Rattle.gl_table.proofs.Words.{◌&&◌, ◌∙◌, ◌≡◌, and_both, ap, ap₂, counted_by, effect_on, find, fun_ext, graph_of, held_by, held_children, hinders_at, holds}
+use Rattle.gl_table.proofs.Words.{if◌then◌else◌, is_at_least, is_child, is_live, is_write, IsLawfulGraph, list_any, listed, Locks, members, Mode, NL, NodeId}
+use Rattle.gl_table.proofs.Words.{nodes, nodes_by, None, not, or_elim, or_left, refl, S, same_mode, Some, state_at, sym, true, ℕ}
 use Rattle.gl_lock_lists.proofs.Children.{any_alike}
-use Rattle.gl_model.specs.Calls.{hinders_at}
-use Rattle.gl_table.proofs.Words.{nodes_by}
 use Rattle.gl_table.proofs.inside.Orders.{listed_as}
-use Rattle.gl_table.specs.declared.locks.Locks.{Locks}
 
 -- to read all below is to hold
 at_least-not_nl : (m : Mode) → is_at_least m S ≡ true → not (same_mode m NL) ≡ true
 at_least-not_nl NL h = cc
-at_least-not_nl IS h = refl
-at_least-not_nl IX h = refl
-at_least-not_nl S h = refl
-at_least-not_nl SIX h = refl
-at_least-not_nl X h = refl
+at_least-not_nl m h = refl
 
 module _ (l : Locks) (t : ℕ) where
   modes : (q : NodeId) → held_by l.ledger.lists.items t q ≡ (state_at l).held t q

@@ -1,14 +1,12 @@
 -- One list of many is written, gets room, a node or a mode. For all that writes lists.
-use Rattle.gl_table.proofs.Words.{[], ◌&&◌, ◌+◌, ◌<◌, ◌==◌, ◌^◌, ◌||◌, ◌∙◌, ◌∷◌, ◌≡◌, ◌≢◌, ◌≤◌, Agrees, and-false, ap, ap₂, arith, as_left, Bool, by_list}
-use Rattle.gl_table.proofs.Words.{CanHold, count_by, count_in, count_of, counted_by, CountsHeld, Entry, false, fun_ext, HasRoom, HasRoomAt, held_by}
-use Rattle.gl_table.proofs.Words.{if◌then◌else◌, is_listed, is_some, IsWritten, KeepsLists, keys, LeavesPlace, length, length-set, List, list_any, listed_by}
-use Rattle.gl_table.proofs.Words.{LockList, lookup, map-set_same, Mode, mode_in, mode_of, nat_tests, NL, NodeId, nodes_by, not, number_same, option_map_or}
-use Rattle.gl_table.proofs.Words.{refl, room_by, same_mode, same_mode-equal, same_node, same_node-equal, same_number, slice_get, slice_get-get_or}
-use Rattle.gl_table.proofs.Words.{slice_index_or, slice_set, Some, spare, split, State, Strikes, subst, suc, sym, true, unlisted, unlisted_by, Writing, zero, ℕ}
-use Rattle.gl_table.proofs.Words.{keys_of, KeepsPlaces, ListsKeepPlaces, ListsLose, OnlyLoses}
+use Rattle.gl_table.proofs.Words.{◌&&◌, ◌+◌, ◌<◌, ◌==◌, [], ◌^◌, ◌||◌, ◌∙◌, ◌∷◌, ◌≡◌, ◌≢◌, ◌≤◌, Agrees, and-false, ap, ap₂, arith, as_left, Bool, by_list}
+use Rattle.gl_table.proofs.Words.{CanHold, count_by, count_in, count_of, counted_by, CountsHeld, Entry, false, fun_ext, HasRoom, HasRoomAt, held_by, if-false}
+use Rattle.gl_table.proofs.Words.{if-true, if◌then◌else◌, is_listed, is_some, IsWritten, KeepsLists, KeepsPlaces, keys, keys_of, LeavesPlace, length}
+use Rattle.gl_table.proofs.Words.{length-set, List, list_any, listed_by, ListsKeepPlaces, ListsLose, LockList, lookup, map-set_same, Mode, mode_in, mode_of}
+use Rattle.gl_table.proofs.Words.{nat_tests, NL, NodeId, nodes_by, not, number_same, OnlyLoses, option_map_or, refl, room_by, same_mode, same_mode-equal}
+use Rattle.gl_table.proofs.Words.{same_node, same_node-equal, same_number, slice_get, slice_get-get_or, slice_index_or, slice_set, Some, spare, split, State}
+use Rattle.gl_table.proofs.Words.{Strikes, subst, suc, swap_remove_entry, sym, true, unlisted, unlisted_by, Writing, zero, ℕ}
 use Rattle.gl_table.proofs.inside.Places.{lost_one, same_order}
-use Rattle.indexmap.specs.IndexMap.{swap_remove_entry}
-use Rattle.gl_model.proofs.queues.Waiters.{if-false, if-true}
 
 -- One list of many is written.
 

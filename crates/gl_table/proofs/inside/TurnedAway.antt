@@ -1,21 +1,20 @@
 -- Waits on one node that end without a grant, one after the other, and what is told. For moves.
-use Rattle.gl_table.proofs.Words.{[], ◌&&◌, ◌<◌, ◌==◌, ◌||◌, ◌∙◌, ◌∷◌, ◌≡◌, ◌≤◌, Active, addressed, age_in, age_of, Agrees, and-false, and-not_self, and-true}
+use Rattle.gl_table.proofs.Words.{◌&&◌, ◌<◌, ◌==◌, [], ◌||◌, ◌∙◌, ◌∷◌, ◌≡◌, ◌≤◌, Active, addressed, age_in, age_of, Agrees, and-false, and-not_self, and-true}
 use Rattle.gl_table.proofs.Words.{and_both, ap, ap₂, AreAgreed, AreKept, AreSound, arith, as_left, books_of, Bool, both, CanEndAt, CanTellWaiters, clash, false}
-use Rattle.gl_table.proofs.Words.{filter, fits, freed, freed_unless, front, fun_ext, Graph, held_of, if◌then◌else◌, intends_over, is_among_waiters, is_live}
-use Rattle.gl_table.proofs.Words.{is_wait, is_waiter, IsOrderly, IsTurnedAway, length, List, list_all, LockList, members, members_at, Mode, mode_of, moved_to}
-use Rattle.gl_table.proofs.Words.{nat_tests, NL, NodeId, None, none_but, not, not-true, not_true, notice_of, Option, or-false, or_right, queue_of, refl}
-use Rattle.gl_table.proofs.Words.{restatus, room_by, same_mode, same_mode-equal, same_node, same_node-equal, same_node-refl, same_number, slice_index_or}
-use Rattle.gl_table.proofs.Words.{slot_limit, Some, some_is, split, State, state_in, status_in, status_of, stays, subst, sym, Told, told_from, told_to, true}
-use Rattle.gl_table.proofs.Words.{Txn, TxnId, View, Waiter, Waiting, WaitsEnd, without_waiter, ℕ}
+use Rattle.gl_table.proofs.Words.{filter, fits, freed, freed_unless, front, fun_ext, Graph, held_of, if-false, if-true, if◌then◌else◌, intends_over}
+use Rattle.gl_table.proofs.Words.{is_among_waiters, is_live, is_wait, is_waiter, IsOrderly, IsTurnedAway, Ledger, length, List, list_all, LockList, members}
+use Rattle.gl_table.proofs.Words.{members_at, Mode, mode_of, moved_to, nat_tests, NL, NodeId, None, none_but, not, not-true, not_true, notice_of, Option}
+use Rattle.gl_table.proofs.Words.{or-false, or_right, queue_of, refl, restatus, room_by, same_mode, same_mode-equal, same_node, same_node-equal, same_node-refl}
+use Rattle.gl_table.proofs.Words.{same_number, slice_index_or, slot_limit, Some, some_is, split, stands_there, State, state_in, status_in, status_of, stays}
+use Rattle.gl_table.proofs.Words.{subst, sym, Told, told_from, told_to, true, Txn, TxnId, View, Waiter, waiters_below, Waiting, waits_there, WaitsEnd}
+use Rattle.gl_table.proofs.Words.{without_waiter, ℕ}
 use Rattle.gl_model.specs.declared.answers.Notice.TheVariants as notice
 use Rattle.gl_table.proofs.inside.Slots.{by_list-at}
 use Rattle.gl_table.proofs.inside.Woken.{agrees_given_up, ends_more, ends_none, kept_still, txn_entry_still, untold_still}
-use Rattle.gl_table.specs.declared.ledger.Ledger.{Ledger}
 use Rattle.gl_model.proofs.law.Strays.{all_filtered, all_of_some, all_or_chosen, among_failing, filter_all, stuck_front, without_chosen}
 use Rattle.gl_model.proofs.law.Takes.{restatus_is}
 use Rattle.gl_model.proofs.queues.Edits.{any_left, freed_other, one_left, one_stays}
-use Rattle.gl_model.proofs.queues.Waiters.{among_by_filter, if-false, if-true}
-use Rattle.gl_model.proofs.telling.Fronts.{stands_there, waiters_below, waits_there}
+use Rattle.gl_model.proofs.queues.Waiters.{among_by_filter}
 use Rattle.gl_model.proofs.telling.Between.{is_by_test, quiet_told}
 
 -- Waits on one node that end without a grant: the state, the lists and the notices while some of them remain.

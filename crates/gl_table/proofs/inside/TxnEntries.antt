@@ -1,11 +1,10 @@
 -- The lowest free entry, an entry that is written, and a slot that is freed. For transaction entries, and for the end of a transaction.
-use Rattle.gl_table.proofs.Words.{[], ◌&&◌, ◌<◌, ◌==◌, ◌||◌, ◌∙◌, ◌∷◌, ◌≡◌, Agrees, and-false, ap, ap₂, arith, clash, count_none, count_of, CountsHeld}
+use Rattle.gl_table.proofs.Words.{◌&&◌, ◌<◌, ◌==◌, [], ◌||◌, ◌∙◌, ◌∷◌, ◌≡◌, Agrees, and-false, ap, ap₂, arith, clash, count_none, count_of, CountsHeld}
 use Rattle.gl_table.proofs.Words.{elements, false, gets, if◌then◌else◌, is_among_waiters, is_child, is_free, is_free_at, is_listed, is_live, is_some, is_wait}
-use Rattle.gl_table.proofs.Words.{IsOrderly, length, length-set, List, lives, LockList, mode_of, nat_tests, NL, NodeId, nodes, nodes_live, None, none_some, not}
-use Rattle.gl_table.proofs.Words.{number_same, Option, position, position_or_len, refl, same_mode, same_number, TxnEntry, slice_set, Some, split, State}
-use Rattle.gl_table.proofs.Words.{status_in}
-use Rattle.gl_table.proofs.Words.{subst, suc, sym, true, txn_in, txns_of, with_txn, zero, ℕ}
-use Rattle.gl_table.specs.inside.TxnEntries.{lives_at, waits_at}
+use Rattle.gl_table.proofs.Words.{IsOrderly, length, length-set, List, lives, lives_at, LockList, mode_of, nat_tests, NL, NodeId, nodes, nodes_live, None}
+use Rattle.gl_table.proofs.Words.{none_some, not, number_same, Option, position, position_or_len, refl, same_mode, same_number, slice_set, Some, split, State}
+use Rattle.gl_table.proofs.Words.{status_in, subst, suc, sym, true, txn_in, TxnEntry, txns_of, with_txn, zero, ℕ}
+use Rattle.gl_table.specs.inside.TxnEntries.{waits_at}
 use Rattle.gl_model.specs.State.{waits_at as awaits}
 use Rattle.gl_table.proofs.inside.Lists.{bare-modes, IsBare}
 use Rattle.gl_table.proofs.inside.Slots.{agrees-set, counts-set, own_list}

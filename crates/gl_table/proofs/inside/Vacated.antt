@@ -1,20 +1,18 @@
 -- The locks on a node are removed: the lists agree. For nodes that are removed.
-use Rattle.gl_table.proofs.Words.{[], ◌&&◌, ◌+◌, ◌==◌, ◌||◌, ◌∙◌, ◌≡◌, ◌≤◌, Active, Agrees, and-false, and_both, ap, ap₂, arith, as_left, books_of, Bool}
-use Rattle.gl_table.proofs.Words.{CanEnd, CanStrike, CanTellWaiters, children_that, clash, cond, count_by, count_none, count_same, count_there, counted_by}
-use Rattle.gl_table.proofs.Words.{CountsHeld, departed, false, freed, fun_ext, Graph, graph_of, held_children, holds, if◌then◌else◌, is_among_waiters}
-use Rattle.gl_table.proofs.Words.{is_child, is_live, is_record_shape, is_wait, is_waiting_at, IsLawfulGraph, IsLeftTo, IsWritten, List, list_any, live_node}
-use Rattle.gl_table.proofs.Words.{LockList, MayAct, members, Mode, nat_tests, NL, node_at, NodeId, nodes, nodes_live, None, not, not_true, number_same}
-use Rattle.gl_table.proofs.Words.{Option, parent_plain, parents_in, parents_of, rec_live, rec_not_plain, refl, restatus, same_mode, same_node}
-use Rattle.gl_table.proofs.Words.{same_node-equal, same_node-refl, same_number, shape_of, Some, split, State, state_in, status_in, status_of, Strikes, subst}
-use Rattle.gl_table.proofs.Words.{sym, Told, true, Txn, View, waits_at, was_there, with_grant, without_node, ℕ}
-use Rattle.gl_table.specs.declared.ledger.Ledger.{Ledger}
+use Rattle.gl_table.proofs.Words.{◌&&◌, ◌+◌, ◌==◌, [], ◌||◌, ◌∙◌, ◌≡◌, ◌≤◌, Active, Agrees, and-false, and_both, ap, ap₂, arith, as_left, books_of, Bool}
+use Rattle.gl_table.proofs.Words.{CanEnd, CanStrike, CanTellWaiters, children_down, children_that, clash, cond, count_by, count_none, count_same, count_there}
+use Rattle.gl_table.proofs.Words.{counted_by, CountsHeld, departed, false, freed, fun_ext, Graph, graph_of, held_children, holds, if-false, if-true}
+use Rattle.gl_table.proofs.Words.{if◌then◌else◌, in_no_queue, is_among_waiters, is_child, is_live, is_record_shape, is_wait, is_waiting_at, IsLawfulGraph}
+use Rattle.gl_table.proofs.Words.{IsLeftTo, IsWritten, Ledger, List, list_any, live_node, LockList, MayAct, members, Mode, nat_tests, NL, node_at, NodeId}
+use Rattle.gl_table.proofs.Words.{nodes, nodes_live, None, not, not_true, number_same, Option, parent_plain, parents_in, parents_of, rec_live, rec_not_plain}
+use Rattle.gl_table.proofs.Words.{refl, restatus, same_mode, same_node, same_node-equal, same_node-refl, same_number, shape_of, Some, split, stands_other}
+use Rattle.gl_table.proofs.Words.{stands_there, State, state_in, status_in, status_of, Strikes, subst, sym, Told, true, Txn, View, waiters_below, waits_at}
+use Rattle.gl_table.proofs.Words.{waits_there, was_there, with_grant, without_node, ℕ}
 use Rattle.gl_table.proofs.inside.Marked.{list_there}
-use Rattle.gl_model.proofs.queues.Counts.{children_down}
 use Rattle.gl_model.proofs.queues.Edits.{freed_other}
 use Rattle.gl_table.proofs.inside.Slots.{none_if, none_more}
 use Rattle.gl_table.proofs.inside.Woken.{agrees_given_up}
-use Rattle.gl_model.proofs.telling.Fronts.{distinct_once, in_no_queue, stands_other, stands_there, waiters_below, waits_there}
-use Rattle.gl_model.proofs.queues.Waiters.{if-false, if-true}
+use Rattle.gl_model.proofs.telling.Fronts.{distinct_once}
 
 -- no node is a child of a record
 pub record-childless : (g : Graph) → IsLawfulGraph g → (r : NodeId) → is_record_shape (shape_of g r) ≡ true → (f : NodeId → Bool) → children_that g f r ≡ 0

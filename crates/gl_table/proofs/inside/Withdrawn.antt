@@ -1,20 +1,20 @@
 -- A wait is withdrawn: the lists agree, and fewer wait. For cancels and victims.
-use Rattle.gl_table.proofs.Words.{[], ◌&&◌, ◌<◌, ◌==◌, ◌||◌, ◌∙◌, ◌∷◌, ◌≡◌, ◌≤◌, Agrees, ap, ap₂, arith, Bool, children_that, clash, cond, Condemned, condemned}
-use Rattle.gl_table.proofs.Words.{count_by, count_cons, count_of, counted_by, CountsHeld, Entry, false, front_at, fun_ext, granted_at, held_by, held_children}
-use Rattle.gl_table.proofs.Words.{holds, if◌then◌else◌, is_among_waiters, is_listed, is_live, is_some, is_wait, is_waiting_at, IsLawfulGraph, IsOrderly, length}
-use Rattle.gl_table.proofs.Words.{length-set, List, list_any, listed_by, LockList, members, mode_given, mode_in, mode_of, nat_tests, NL, NodeId, None, not}
-use Rattle.gl_table.proofs.Words.{not_true, number_same, Option, or_elim, other_number, parents_of, pumped, refl, room_by, same_mode, same_mode-equal}
-use Rattle.gl_table.proofs.Words.{same_node, same_node-equal, same_node-sym, same_number, slice_index_or, slice_set, slots, Some, spare, split, State, Status}
-use Rattle.gl_table.proofs.Words.{status_in, status_of, subst, sym, true, Waiter, WaitWell, WakesLists, without_wait, without_waiter, ℕ}
+use Rattle.gl_table.proofs.Words.{◌&&◌, ◌<◌, ◌==◌, [], ◌||◌, ◌∙◌, ◌∷◌, ◌≡◌, ◌≤◌, Agrees, ap, ap₂, arith, Bool, children_that, clash, cond, Condemned, condemned}
+use Rattle.gl_table.proofs.Words.{count_by, count_cons, count_of, counted_by, CountsHeld, false, front_at, front_stands, fun_ext, granted_at, grants_other}
+use Rattle.gl_table.proofs.Words.{held_by, held_children, holds, if-false, if-true, if◌then◌else◌, is_among_waiters, is_listed, is_live, is_wait, is_waiting_at}
+use Rattle.gl_table.proofs.Words.{IsLawfulGraph, IsOrderly, length, length-set, List, list_any, listed_by, LockList, members, mode_given, mode_of, nat_tests}
+use Rattle.gl_table.proofs.Words.{NL, NodeId, not, not_true, number_same, or_elim, other_number, out_of_without, parents_of, pumped, refl, room_by, same}
+use Rattle.gl_table.proofs.Words.{same_mode, same_mode-equal, same_node, same_node-equal, same_node-sym, same_number, slice_index_or, slice_set, slots, spare}
+use Rattle.gl_table.proofs.Words.{split, stands_there, State, Status, status_in, status_of, subst, sym, true, txn_there, wait_is, Waiter, waiting_is, WaitWell}
+use Rattle.gl_table.proofs.Words.{WakesLists, without_wait, without_waiter, woken_waits, ℕ}
 use Rattle.gl_table.proofs.inside.Granted.{agrees_pumped, counts_pumped}
 use Rattle.gl_table.proofs.inside.Slots.{by_list-at, by_list-kept, by_list-set, none_more}
-use Rattle.gl_model.proofs.law.Keeps.{txn_there, waiting_is, woken_waits}
-use Rattle.gl_model.proofs.law.Settle.{wait_is, waiting}
+use Rattle.gl_model.proofs.law.Settle.{waiting}
 use Rattle.gl_model.proofs.law.Takes.{IsQuiet, restatus_quiet}
-use Rattle.gl_model.proofs.queues.Edits.{out_of_without, without_filter}
-use Rattle.gl_model.proofs.queues.Waiters.{among_waits, grants_other, if-false, if-true, some_wait}
-use Rattle.gl_model.proofs.queues.Walks.{in_range, same}
-use Rattle.gl_model.proofs.telling.Fronts.{front_stands, stands_only, stands_there, between_here, well_without}
+use Rattle.gl_model.proofs.queues.Edits.{without_filter}
+use Rattle.gl_model.proofs.queues.Waiters.{among_waits, some_wait}
+use Rattle.gl_model.proofs.queues.Walks.{in_range}
+use Rattle.gl_model.proofs.telling.Fronts.{between_here, stands_only, well_without}
 use Rattle.gl_model.proofs.telling.GivenUp.{between_withdrawn}
 use Rattle.gl_model.proofs.telling.Between.{granted_stands, left_stands, without_wait_other, without_wait_own}
 
@@ -27,11 +27,6 @@ pub record Unlists (ls ls' : List LockList) (t : ℕ) (n : NodeId) : Type 0 wher
   pub listed : (u : ℕ) (q : NodeId) → listed_by ls' u q ≡ (if (u == t) && same_node q n then not (same_mode (held_by ls t n) NL) else listed_by ls u q)
   pub counts : (u : ℕ) (q : NodeId) → counted_by ls' u q ≡ counted_by ls u q
   pub rooms : (u : ℕ) → (u == t) ≡ false → room_by ls' u ≡ room_by ls u
-
--- what is held is listed
-held_listed : (o : Option Entry) → same_mode (mode_in o) NL ≡ false → is_some o ≡ true
-held_listed None h = clash refl h
-held_listed (Some e) h = refl
 
 -- a list that has a node if it holds it
 only_held : (l : LockList) (n : NodeId) → same_mode (mode_of l n) NL ≡ false → (q : NodeId)

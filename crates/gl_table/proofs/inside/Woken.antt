@@ -1,15 +1,13 @@
 -- Waits on a node that end one after the other, by a grant or without one. For `wake`, `free` and `turn_away`.
-use Rattle.gl_slots.specs.Limit.{most_slots}
-use Rattle.gl_table.proofs.Words.{[], ◌&&◌, ◌+◌, ◌<◌, ◌==◌, ◌^◌, ◌||◌, ◌∙◌, ◌∷◌, ◌≡◌, ◌≤◌, Active, after_grants, age_in, Agrees, and-false, and_both, ap, ap₂}
-use Rattle.gl_table.proofs.Words.{AreKept, arith, as_held, as_left, Books, Bool, CanHold, clash, count_by, counted_by, false, fun_ext, held_by, if◌then◌else◌}
-use Rattle.gl_table.proofs.Words.{is_among_waiters, is_distinct, is_wait, is_waiter, IsBySlot, IsWritten, length, List, list_any_at, list_any_more, listed_by}
-use Rattle.gl_table.proofs.Words.{LockList, Members, Mode, mode_given, nat_tests, NL, NodeId, None, not, not-true, not_true, Notice, notices_in, number_same}
-use Rattle.gl_table.proofs.Words.{Option, or-false, or_elim, or_no, or_right, refl, restatus, room_by, same_mode, same_node, same_node-equal, same_number}
-use Rattle.gl_table.proofs.Words.{slice_index_or, Some, split, State, status_in, status_of, subst, suc, sym, take, true, Txn, TxnId, txns_of, unlisted_by}
-use Rattle.gl_table.proofs.Words.{Waiter, WaitsEnd, with_mode, Writing, zero, ℕ}
+use Rattle.gl_table.proofs.Words.{◌&&◌, ◌+◌, ◌<◌, ◌==◌, [], ◌^◌, ◌||◌, ◌∙◌, ◌∷◌, ◌≡◌, ◌≤◌, Active, after_grants, age_in, Agrees, and-false, and_both, ap, ap₂}
+use Rattle.gl_table.proofs.Words.{AreKept, arith, as_held, as_left, Books, Bool, CanHold, clash, count_by, counted_by, false, fun_ext, grants_other, held_by}
+use Rattle.gl_table.proofs.Words.{if-false, if-true, if◌then◌else◌, is_among_waiters, is_distinct, is_wait, is_waiter, IsBySlot, IsWritten, length, List}
+use Rattle.gl_table.proofs.Words.{list_any_at, list_any_more, listed_by, LockList, Members, Mode, mode_given, most_slots, nat_tests, NL, NodeId, None, not}
+use Rattle.gl_table.proofs.Words.{not-true, not_true, Notice, notices_in, number_same, Option, or-false, or_elim, or_no, or_right, refl, restatus, room_by}
+use Rattle.gl_table.proofs.Words.{same_mode, same_node, same_node-equal, same_number, slice_index_or, Some, split, State, status_in, status_of, subst, suc, sym}
+use Rattle.gl_table.proofs.Words.{take, true, Txn, TxnId, txns_of, unlisted_by, Waiter, WaitsEnd, with_mode, Writing, zero, ℕ}
 use Rattle.gl_table.proofs.inside.Places.{lists_here, lose_then}
 use Rattle.gl_table.proofs.inside.Slots.{none_more}
-use Rattle.gl_model.proofs.queues.Waiters.{grants_other, if-false, if-true}
 
 -- Waiters of different slots, granted from the front.
 

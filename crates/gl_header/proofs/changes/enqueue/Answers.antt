@@ -1,22 +1,11 @@
-use Rattle.std.proofs.Common.{◌≡◌, arith, ◌∙◌, sym, ap, false, not, refl, true}
-use Rattle.std.specs.List.{insert, prefix_len}
-use denote.Enum.Bare.{sameb}
-use Rattle.gl_modes.specs.contracts.mode.Mode.{the_type}
-use Rattle.gl_modes.specs.declared.mode.Mode.{Mode}
-use Rattle.gl_modes.specs.declared.mode.Mode.TheVariants.{NL, IS, IX, S, SIX, X}
-use Rattle.gl_modes.specs.Modes.{same_mode}
-use Rattle.gl_header.specs.Groups.{held_by}
-use Rattle.gl_header.specs.Header.{holds}
+use Rattle.gl_header.proofs.Words.{◌∙◌, ◌≡◌, ap, arith, false, held_by, holds, insert, IS, IX, Mode, NL, not, prefix_len, refl, S, same_mode, sameb, SIX, sym}
+use Rattle.gl_header.proofs.Words.{the_type, true, X}
 use Rattle.gl_header.proofs.Placing.{placed_in-member, prefix-le}
 use Rattle.gl_header.proofs.changes.enqueue.Goals as goal
 
 not-NL : (m : Mode) → sameb the_type m NL ≡ false → not (same_mode m NL) ≡ true
 not-NL NL h = cc
-not-NL IS h = refl
-not-NL IX h = refl
-not-NL S h = refl
-not-NL SIX h = refl
-not-NL X h = refl
+not-NL m h = refl
 
 pub insert-requires : goal.insert-requires
 insert-requires c =

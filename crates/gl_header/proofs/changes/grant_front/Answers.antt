@@ -1,10 +1,7 @@
-use Rattle.std.proofs.Common.{◌≡◌, ◌+◌, ◌++◌, ◌∷◌, [], arith, sym, subst, ◌∙◌, ap, true, length, drop, slice_index_or, append_assoc}
+use Rattle.gl_header.proofs.Words.{◌+◌, ◌++◌, [], ◌∙◌, ◌∷◌, ◌≡◌, ap, arith, drop, fits, front, held_by, IsOrderly, length, Members, NL, pumped_members}
+use Rattle.gl_header.proofs.Words.{slice_index_or, slot_limit, subst, sym, true, Waiter, with_mode}
+use Rattle.std.proofs.Common.{append_assoc}
 use Rattle.std.proofs.lemmas.List.{drop_more}
-use Rattle.gl_modes.specs.declared.mode.Mode.TheVariants.{NL}
-use Rattle.gl_header.specs.Groups.{held_by}
-use Rattle.gl_header.specs.Header.{Members, Waiter, fits, front, pumped_members, with_mode}
-use Rattle.gl_header.specs.State.{slot_limit}
-use Rattle.gl_header.specs.Sound.{IsOrderly}
 use Rattle.gl_header.proofs.Queues.{length-le_128}
 use Rattle.gl_header.proofs.Orderly.{orderly-front}
 use Rattle.gl_header.proofs.Pumped.{front-granted, pumped-step}

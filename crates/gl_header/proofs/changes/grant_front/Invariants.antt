@@ -1,8 +1,4 @@
-use Rattle.std.proofs.Common.{◌≡◌, ◌++◌, drop, length}
-use Rattle.gl_header.specs.Groups.{IsGroup, held_by}
-use Rattle.gl_header.specs.Header.{front, pumped_members}
-use Rattle.gl_header.specs.Sound.{IsOrderly}
-use Rattle.gl_header.specs.State.{slot_limit}
+use Rattle.gl_header.proofs.Words.{◌++◌, ◌≡◌, drop, front, held_by, IsGroup, IsOrderly, length, pumped_members, slot_limit}
 use Rattle.gl_header.proofs.changes.grant_front.Given as goal
 
 -- granting on from the current members and the waiters after those granted is the rest of granting from the start

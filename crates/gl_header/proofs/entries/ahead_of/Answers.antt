@@ -1,5 +1,4 @@
-use Rattle.std.proofs.Common.{sym, ◌∙◌}
-use Rattle.gl_modes.specs.declared.mode.Mode.TheVariants.{NL}
+use Rattle.gl_header.proofs.Words.{◌∙◌, NL, sym}
 use Rattle.gl_header.proofs.Ahead.{ahead-first}
 use Rattle.gl_header.proofs.entries.ahead_of.Goals as goal
 

@@ -1,6 +1,4 @@
-use Rattle.std.proofs.Common.{◌≡◌, ℕ, false, take}
-use Rattle.gl_slots.specs.Slots.{has_slot}
-use Rattle.gl_header.specs.Header.{is_among_waiters}
+use Rattle.gl_header.proofs.Words.{◌≡◌, false, has_slot, is_among_waiters, take, ℕ}
 use Rattle.gl_header.proofs.entries.ahead_of.Given as goal
 
 -- the slot is none of those so far, and the set has them

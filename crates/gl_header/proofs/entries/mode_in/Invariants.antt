@@ -1,5 +1,4 @@
-use Rattle.std.proofs.Common.{◌≡◌, drop}
-use Rattle.gl_header.specs.Header.{wanted_by}
+use Rattle.gl_header.proofs.Words.{◌≡◌, drop, wanted_by}
 use Rattle.gl_header.proofs.entries.mode_in.Given as goal
 
 -- no entry so far is the slot's

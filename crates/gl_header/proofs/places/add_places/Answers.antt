@@ -1,5 +1,5 @@
-use Rattle.std.proofs.Common.{ap, arith, rules, ◌∙◌}
-use Rattle.gl_header.specs.Places.{entries_in, place_at}
+use Rattle.gl_header.proofs.Words.{◌∙◌, ap, arith, entries_in, place_at}
+use Rattle.std.proofs.Common.{rules}
 use Rattle.gl_header.proofs.ByKey.{grown-entries, grown-place}
 use Rattle.gl_header.proofs.places.add_places.Goals as goal
 

@@ -1,18 +1,8 @@
-use Rattle.std.proofs.Common.{◌≡◌, ◌≢◌, ◌∙◌, ap, refl, sym}
+use Rattle.gl_header.proofs.Words.{◌∙◌, ◌≡◌, ◌≢◌, ap, asked, asked_members, asked_queue, clash, Granted, header_of, Held, held_by_one, IsLawfulHeader}
+use Rattle.gl_header.proofs.Words.{members_by, NL, nobody, not_NL, refl, same_mode, Some, stands, supremum, supremum-not_NL, sym, with_mode}
 use Rattle.std.proofs.lemmas.Result.{on_err_weaker}
 use Rattle.std.specs.Box.{with_value}
-use Rattle.std.specs.Prelude.{Some}
-use Rattle.gl_modes.specs.declared.mode.Mode.TheVariants.{NL}
-use Rattle.gl_modes.specs.Modes.{same_mode, supremum}
-use Rattle.gl_modes.proofs.ModeLemmas.{not_NL, supremum-not_NL}
-use Rattle.gl_modes.proofs.Words.{clash}
-use Rattle.gl_header.specs.Answers.{asked, asked_members, asked_queue}
-use Rattle.gl_header.specs.Groups.{nobody}
-use Rattle.gl_header.specs.Header.{with_mode}
-use Rattle.gl_header.specs.Places.{header_of, members_by, stands}
-use Rattle.gl_header.specs.State.{IsLawfulHeader, held_by_one}
-use Rattle.gl_header.specs.declared.header.Asked.TheVariants.{Granted}
-use Rattle.gl_header.specs.declared.places.Place.TheVariants.{Held, Shared}
+use Rattle.gl_header.specs.declared.places.Place.TheVariants.{Shared}
 use Rattle.gl_header.specs.declared.places.Shared.{Shared as SharedBox}
 use Rattle.gl_header.proofs.Alone.{alone-below, alone-here, alone-lawful, alone-lock, free-answer, free-members, free-queue, own-answer, own-members, own-queue}
 use Rattle.gl_header.proofs.places.ask_at.Goals.{After-sup}

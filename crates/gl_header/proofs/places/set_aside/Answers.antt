@@ -1,4 +1,4 @@
-use Rattle.std.proofs.Common.{◌∙◌, sym}
+use Rattle.gl_header.proofs.Words.{◌∙◌, sym}
 use Rattle.std.proofs.lemmas.List.Elements.{All-push, All-same}
 use Rattle.gl_header.specs.Places.{IsIdle}
 use Rattle.gl_header.proofs.places.set_aside.Goals as goal

@@ -1,7 +1,4 @@
-use Rattle.std.proofs.Common.{◌∙◌, ap, subst, sym}
-use Rattle.gl_header.specs.Places.{members_by}
-use Rattle.gl_header.specs.State.{IsLawfulHeader, is_unused}
-use Rattle.gl_header.specs.declared.places.Shared.{Shared}
+use Rattle.gl_header.proofs.Words.{◌∙◌, ap, is_unused, IsLawfulHeader, members_by, Shared, subst, sym}
 use Rattle.gl_header.proofs.AtPlace.{idle-is}
 use Rattle.gl_header.proofs.places.sweep.Goals as goal
 

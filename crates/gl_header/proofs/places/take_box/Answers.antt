@@ -1,6 +1,4 @@
-use Rattle.std.proofs.Common.{◌∙◌, ap, subst, sym}
-use Rattle.gl_header.specs.State.{IsLawfulHeader, is_unused}
-use Rattle.gl_header.specs.declared.places.Shared.{Shared}
+use Rattle.gl_header.proofs.Words.{◌∙◌, ap, is_unused, IsLawfulHeader, Shared, subst, sym}
 use Rattle.gl_header.proofs.Unused.{unused-unused}
 use Rattle.gl_header.proofs.places.take_box.Goals as goal
 

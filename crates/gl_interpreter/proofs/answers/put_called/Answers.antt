@@ -1,4 +1,4 @@
-use Rattle.std.proofs.Common.{sym, ◌∙◌}
+use Rattle.gl_interpreter.proofs.Words.{◌∙◌, sym}
 use Rattle.gl_interpreter.proofs.Writing.{Hands-then}
 use Rattle.gl_interpreter.proofs.answers.put_called.Goals as goal
 

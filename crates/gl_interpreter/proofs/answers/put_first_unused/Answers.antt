@@ -1,7 +1,5 @@
-use Rattle.std.proofs.Common.{◌∷◌, [], sym, ◌∙◌}
-use Rattle.gl_script.specs.Grammar.{Plain}
-use Rattle.gl_script.specs.Views.{node_of, nodes_of}
-use Rattle.gl_interpreter.specs.Views.{script_of}
+use Rattle.gl_interpreter.proofs.Words.{[], ◌∙◌, ◌∷◌, node_of, Plain, script_of, sym}
+use Rattle.gl_script.specs.Views.{nodes_of}
 use Rattle.gl_interpreter.proofs.Printing.{head_used, none_unused}
 use Rattle.gl_interpreter.proofs.Writing.{Hands-none, Hands-then}
 use Rattle.gl_interpreter.proofs.answers.put_first_unused.Goals as goal

@@ -1,11 +1,7 @@
-use Rattle.std.proofs.Common.{◌<◌, ◌++◌, [], flat_map, take, length, sym, ap, ◌∙◌, arith, get_or, subst}
-use Rattle.std.proofs.lemmas.List.{flat_map_more, get_or_default, take_more}
+use Rattle.gl_interpreter.proofs.Words.{◌++◌, ◌<◌, [], ◌∙◌, ap, arith, flat_map, flat_map_more, get_or, get_or_default, Hands, length, script_of, subst, sym}
+use Rattle.gl_interpreter.proofs.Words.{take, take_more, told_line, TxnId}
 use Rattle.gl_model.specs.declared.answers.Notice.{Notice}
 use Rattle.gl_model.specs.declared.answers.Notice.TheVariants as notice
-use Rattle.gl_model.specs.declared.txn.TxnId.{TxnId}
-use Rattle.gl_interpreter.specs.Held.{Hands}
-use Rattle.gl_interpreter.specs.Printed.{told_line}
-use Rattle.gl_interpreter.specs.Views.{script_of}
 use Rattle.gl_interpreter.proofs.Writing.{Hands-none, Hands-then}
 use Rattle.gl_interpreter.proofs.answers.put_notices.Goals as goal
 

@@ -1,7 +1,4 @@
-use Rattle.std.proofs.Common.{flat_map, take}
-use Rattle.gl_interpreter.specs.Held.{Hands}
-use Rattle.gl_interpreter.specs.Printed.{told_line}
-use Rattle.gl_interpreter.specs.Views.{script_of}
+use Rattle.gl_interpreter.proofs.Words.{flat_map, Hands, script_of, take, told_line}
 use Rattle.gl_interpreter.proofs.answers.put_notices.Given as goal
 
 abbrev pub invariant-loop-txn : goal.invariant-loop-txn

@@ -1,7 +1,4 @@
-use Rattle.std.proofs.Common.{◌≡◌, true, false, is_some, not, sym, ap, ◌∙◌}
-use Rattle.gl_script.specs.Views.{node_of}
-use Rattle.gl_interpreter.specs.Script.{node_named}
-use Rattle.gl_interpreter.specs.Views.{script_of}
+use Rattle.gl_interpreter.proofs.Words.{◌∙◌, ◌≡◌, ap, false, is_some, node_named, node_of, not, script_of, sym, true}
 use Rattle.gl_interpreter.proofs.Printing.{used_text}
 use Rattle.gl_interpreter.proofs.Writing.{Hands-none, Hands-then}
 use Rattle.gl_interpreter.proofs.answers.put_unused.Goals as goal

@@ -1,9 +1,7 @@
-use Rattle.std.proofs.Common.{ℕ, ◌≡◌, ◌<◌, ◌+◌, ◌∷◌, [], List, drop, length, map, refl, sym, ap, ◌∙◌, arith, get_or}
-use Rattle.std.proofs.lemmas.List.{drop_more, get_or-map, length-map}
-use Rattle.gl_script.specs.declared.reads.Used.{Used}
-use Rattle.gl_script.specs.Views.{node_of, nodes_of}
-use Rattle.gl_interpreter.specs.Printed.{first_unused, some_unused}
-use Rattle.gl_interpreter.specs.Views.{script_of}
+use Rattle.gl_interpreter.proofs.Words.{◌+◌, ◌<◌, [], ◌∙◌, ◌∷◌, ◌≡◌, ap, arith, drop, first_unused, get_or, get_or-map, length, length-map, List, map, node_of}
+use Rattle.gl_interpreter.proofs.Words.{refl, script_of, some_unused, sym, Used, ℕ}
+use Rattle.std.proofs.lemmas.List.{drop_more}
+use Rattle.gl_script.specs.Views.{nodes_of}
 use Rattle.gl_interpreter.proofs.Printing.{head_unused, head_used, none_unused}
 use Rattle.gl_interpreter.proofs.Writing.{Hands-none, Hands-then}
 use Rattle.gl_interpreter.proofs.answers.put_unused_listed.Goals as goal

@@ -1,8 +1,5 @@
-use Rattle.std.proofs.Common.{◌≡◌, [], drop}
+use Rattle.gl_interpreter.proofs.Words.{[], ◌≡◌, drop, first_unused, Hands, script_of, some_unused}
 use Rattle.gl_script.specs.Views.{nodes_of}
-use Rattle.gl_interpreter.specs.Held.{Hands}
-use Rattle.gl_interpreter.specs.Printed.{first_unused, some_unused}
-use Rattle.gl_interpreter.specs.Views.{script_of}
 use Rattle.gl_interpreter.proofs.answers.put_unused_listed.Given as goal
 
 abbrev pub invariant-loop-node : goal.invariant-loop-node

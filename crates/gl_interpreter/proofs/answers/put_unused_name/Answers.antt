@@ -1,4 +1,4 @@
-use Rattle.std.proofs.Common.{sym, ◌∙◌, ap, not}
+use Rattle.gl_interpreter.proofs.Words.{◌∙◌, ap, not, sym}
 use Rattle.gl_interpreter.proofs.Writing.{Hands-none}
 use Rattle.gl_interpreter.proofs.answers.put_unused_name.Goals as goal
 

@@ -1,8 +1,5 @@
-use Rattle.std.proofs.Common.{◌≡◌, ◌∷◌, [], true, false, sym, ◌∙◌}
-use Rattle.gl_script.specs.Grammar.{Plain}
+use Rattle.gl_interpreter.proofs.Words.{[], ◌∙◌, ◌∷◌, ◌≡◌, false, Plain, script_of, some_unused, sym, true}
 use Rattle.gl_script.specs.Views.{nodes_of}
-use Rattle.gl_interpreter.specs.Printed.{some_unused}
-use Rattle.gl_interpreter.specs.Views.{script_of}
 use Rattle.gl_interpreter.proofs.Printing.{none_unused, unused_in_first, unused_in_second}
 use Rattle.gl_interpreter.proofs.Writing.{Hands-then}
 use Rattle.gl_interpreter.proofs.answers.put_unused_of_index.Goals as goal

@@ -1,5 +1,4 @@
-use Rattle.gl_script.specs.Views.{command_of}
-use Rattle.gl_interpreter.specs.Views.{script_of}
+use Rattle.gl_interpreter.proofs.Words.{command_of, script_of}
 use Rattle.gl_interpreter.proofs.Printing.{names_nobody}
 use Rattle.gl_interpreter.proofs.Writing.{Hands-none}
 use Rattle.gl_interpreter.proofs.answers.put_who.Goals as goal

@@ -1,4 +1,4 @@
-use Rattle.gl_script.proofs.Splitting.{other_test, same_test}
+use Rattle.gl_interpreter.proofs.Words.{other_test, same_test}
 use Rattle.gl_interpreter.proofs.RowByRow.{dash_for_none, name_of_some}
 use Rattle.gl_interpreter.proofs.listings.or_dash.Goals as goal
 

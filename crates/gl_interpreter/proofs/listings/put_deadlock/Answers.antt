@@ -1,8 +1,5 @@
-use Rattle.std.proofs.Common.{◌≡◌, [], ap, sym, ◌∙◌, subst}
+use Rattle.gl_interpreter.proofs.Words.{[], ◌∙◌, ◌≡◌, ap, deadlock_rows, Hands, script_of, subst, sym}
 use Rattle.gl_model.specs.declared.deadlock.Deadlock.{Deadlock}
-use Rattle.gl_interpreter.specs.Held.{Hands}
-use Rattle.gl_interpreter.specs.Rows.{deadlock_rows}
-use Rattle.gl_interpreter.specs.Views.{script_of}
 use Rattle.gl_interpreter.proofs.RowByRow.{is_nothing, is_something, some_rows}
 use Rattle.gl_interpreter.proofs.Writing.{Hands-none, Hands-then}
 use Rattle.gl_interpreter.proofs.listings.put_deadlock.Goals as goal

@@ -1,9 +1,4 @@
-use Rattle.std.proofs.Common.{flat_map, ap, ◌∙◌, subst}
-use Rattle.gl_slots.specs.declared.slots.Iter.{Iter}
-use Rattle.gl_slots.specs.Slots.{slots_of}
-use Rattle.gl_interpreter.specs.Held.{Hands}
-use Rattle.gl_interpreter.specs.Rows.{blocker_row}
-use Rattle.gl_interpreter.specs.Views.{script_of}
+use Rattle.gl_interpreter.proofs.Words.{◌∙◌, ap, blocker_row, flat_map, Hands, Iter, script_of, slots_of, subst}
 use Rattle.gl_interpreter.proofs.RowByRow.{all_yielded, one_more, yielded_more}
 use Rattle.gl_interpreter.proofs.Writing.{Hands-none, Hands-then}
 use Rattle.gl_interpreter.proofs.listings.put_each_blocker.Goals as goal

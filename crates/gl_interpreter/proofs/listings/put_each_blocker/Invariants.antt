@@ -1,8 +1,4 @@
-use Rattle.std.proofs.Common.{◌≡◌, ◌++◌, flat_map}
-use Rattle.gl_slots.specs.Slots.{slots_of}
-use Rattle.gl_interpreter.specs.Held.{Hands}
-use Rattle.gl_interpreter.specs.Rows.{blocker_row}
-use Rattle.gl_interpreter.specs.Views.{script_of}
+use Rattle.gl_interpreter.proofs.Words.{◌++◌, ◌≡◌, blocker_row, flat_map, Hands, script_of, slots_of}
 use Rattle.gl_interpreter.proofs.listings.put_each_blocker.Given as goal
 
 -- the rows of the slots so far; these and the remaining ones are all

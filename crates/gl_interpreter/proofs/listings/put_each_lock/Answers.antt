@@ -1,8 +1,4 @@
-use Rattle.std.proofs.Common.{None, if◌then◌else◌, slice_get, ap, sym, ◌∙◌, subst, arith}
-use Rattle.gl_table.specs.Table.{rows_of}
-use Rattle.gl_interpreter.specs.Held.{Hands}
-use Rattle.gl_interpreter.specs.Rows.{lock_row}
-use Rattle.gl_interpreter.specs.Views.{script_of}
+use Rattle.gl_interpreter.proofs.Words.{◌∙◌, ap, arith, Hands, if◌then◌else◌, lock_row, None, rows_of, script_of, slice_get, subst, sym}
 use Rattle.gl_interpreter.proofs.RowByRow.{not_past, row_there}
 use Rattle.gl_interpreter.proofs.Writing.{Hands-none, Hands-then}
 use Rattle.gl_interpreter.proofs.listings.put_each_lock.Goals.{in-Some, in_default}

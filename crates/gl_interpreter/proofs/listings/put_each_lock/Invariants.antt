@@ -1,8 +1,4 @@
-use Rattle.std.proofs.Common.{flat_map, take}
-use Rattle.gl_table.specs.Table.{rows_of}
-use Rattle.gl_interpreter.specs.Held.{Hands}
-use Rattle.gl_interpreter.specs.Rows.{lock_row}
-use Rattle.gl_interpreter.specs.Views.{script_of}
+use Rattle.gl_interpreter.proofs.Words.{flat_map, Hands, lock_row, rows_of, script_of, take}
 use Rattle.gl_interpreter.proofs.listings.put_each_lock.Given as goal
 
 abbrev pub invariant-loop-place : goal.invariant-loop-place

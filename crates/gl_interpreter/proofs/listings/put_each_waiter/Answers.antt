@@ -1,9 +1,5 @@
-use Rattle.std.proofs.Common.{◌<◌, length, arith, subst}
-use Rattle.gl_modes.specs.declared.mode.Mode.TheVariants.{NL}
+use Rattle.gl_interpreter.proofs.Words.{◌<◌, arith, Hands, length, NL, script_of, subst, waiter_row}
 use Rattle.gl_header.specs.Header.{Waiter}
-use Rattle.gl_interpreter.specs.Held.{Hands}
-use Rattle.gl_interpreter.specs.Rows.{waiter_row}
-use Rattle.gl_interpreter.specs.Views.{script_of}
 use Rattle.gl_interpreter.proofs.RowByRow.{more_rows}
 use Rattle.gl_interpreter.proofs.Writing.{Hands-none, Hands-then}
 use Rattle.gl_interpreter.proofs.listings.put_each_waiter.Goals as goal

@@ -1,8 +1,6 @@
-use Rattle.std.proofs.Common.{◌++◌, refl}
-use Rattle.std.specs.Prelude.{codes}
-use Rattle.gl_interpreter.specs.Rows.{deadlock_rows, txn_rows}
+use Rattle.gl_interpreter.proofs.Words.{◌++◌, codes, deadlock_rows, refl, script_of}
+use Rattle.gl_interpreter.specs.Rows.{txn_rows}
 use Rattle.gl_interpreter.specs.SoFar.{IsShown}
-use Rattle.gl_interpreter.specs.Views.{script_of}
 use Rattle.gl_interpreter.proofs.Writing.{Hands-then}
 use Rattle.gl_interpreter.proofs.listings.put_listing.Goals as goal
 

@@ -1,4 +1,4 @@
-use Rattle.std.proofs.Common.{sym, ◌∙◌}
+use Rattle.gl_interpreter.proofs.Words.{◌∙◌, sym}
 use Rattle.gl_interpreter.proofs.Writing.{Hands-none}
 use Rattle.gl_interpreter.proofs.listings.put_living.Goals as goal
 

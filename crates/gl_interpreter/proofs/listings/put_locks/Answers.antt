@@ -1,19 +1,11 @@
-use Rattle.std.proofs.Common.{◌≡◌, List, [], ◌∷◌, ◌++◌, Some, None, not, flat_map, map, refl, ap, sym, ◌∙◌, subst}
-use Rattle.std.specs.Prelude.{codes}
+use Rattle.gl_interpreter.proofs.Words.{◌++◌, [], ◌∙◌, ◌∷◌, ◌≡◌, ap, AreRowsOf, codes, first_refusal, flat_map, List, listed, living_tests, lock_row, LockRow}
+use Rattle.gl_interpreter.proofs.Words.{map, None, not, refl, refusal_line, rows_of, script_of, Some, subst, sym, TxnId}
 use Rattle.gl_modes.specs.declared.refusal.Refusal.TheVariants.{NoSuchTxn}
-use Rattle.gl_graph.specs.Refusals.{first_refusal, where_true}
-use Rattle.gl_model.specs.declared.answers.LockRow.{LockRow}
-use Rattle.gl_model.specs.declared.txn.TxnId.{TxnId}
-use Rattle.gl_table.specs.Table.{AreRowsOf, rows_of}
-use Rattle.gl_model.specs.Calls.{living_tests}
+use Rattle.gl_graph.specs.Refusals.{where_true}
 use Rattle.gl_model.specs.State.{lives, status_of}
-use Rattle.gl_table.proofs.calls.Queries.{are_rows}
-use Rattle.gl_table.proofs.calls.Queries.{passed}
+use Rattle.gl_table.proofs.calls.Queries.{are_rows, passed}
 use Rattle.gl_catalog.specs.Replies.{wait_of}
-use Rattle.gl_interpreter.specs.Printed.{refusal_line}
-use Rattle.gl_interpreter.specs.Rows.{listed, lock_row}
 use Rattle.gl_interpreter.specs.SoFar.{IsShown}
-use Rattle.gl_interpreter.specs.Views.{script_of}
 use Rattle.gl_interpreter.proofs.Orders.{nodes_in_order}
 use Rattle.gl_interpreter.proofs.RowByRow.{counting_rows, failed, listed_refusal, listed_rows}
 use Rattle.gl_interpreter.proofs.Writing.{Hands-then}

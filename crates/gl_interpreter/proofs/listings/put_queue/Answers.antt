@@ -1,12 +1,6 @@
-use Rattle.std.proofs.Common.{[], ◌∷◌, ◌++◌, flat_map, ap, sym, ◌∙◌}
-use Rattle.std.specs.Prelude.{codes}
-use Rattle.gl_graph.specs.Refusals.{first_refusal}
-use Rattle.gl_script.specs.Views.{node_of}
-use Rattle.gl_model.specs.Calls.{group_tests}
-use Rattle.gl_interpreter.specs.Printed.{first_unused, refusal_line}
-use Rattle.gl_interpreter.specs.Rows.{waiter_row}
+use Rattle.gl_interpreter.proofs.Words.{◌++◌, [], ◌∙◌, ◌∷◌, ap, codes, first_refusal, first_unused, flat_map, group_tests, node_of, refusal_line, script_of}
+use Rattle.gl_interpreter.proofs.Words.{sym, waiter_row}
 use Rattle.gl_interpreter.specs.SoFar.{IsShown}
-use Rattle.gl_interpreter.specs.Views.{script_of}
 use Rattle.gl_interpreter.proofs.RowByRow.{goes, listed_refusal, listed_rows, refuses}
 use Rattle.gl_interpreter.proofs.Writing.{Hands-then}
 use Rattle.gl_interpreter.proofs.listings.put_queue.Goals as goal

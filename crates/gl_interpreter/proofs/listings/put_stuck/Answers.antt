@@ -1,10 +1,4 @@
-use Rattle.std.proofs.Common.{◌<◌, length, arith, subst}
-use Rattle.gl_modes.specs.declared.mode.Mode.TheVariants.{NL}
-use Rattle.gl_slots.specs.Slots.{no_slots}
-use Rattle.gl_model.specs.declared.deadlock.Stuck.{Stuck}
-use Rattle.gl_interpreter.specs.Held.{Hands}
-use Rattle.gl_interpreter.specs.Rows.{wait_row}
-use Rattle.gl_interpreter.specs.Views.{script_of}
+use Rattle.gl_interpreter.proofs.Words.{◌<◌, arith, Hands, length, NL, no_slots, script_of, Stuck, subst, wait_row}
 use Rattle.gl_interpreter.proofs.RowByRow.{more_rows}
 use Rattle.gl_interpreter.proofs.Writing.{Hands-none, Hands-then}
 use Rattle.gl_interpreter.proofs.listings.put_stuck.Goals as goal

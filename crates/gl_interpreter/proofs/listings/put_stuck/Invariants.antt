@@ -1,7 +1,4 @@
-use Rattle.std.proofs.Common.{flat_map, take}
-use Rattle.gl_interpreter.specs.Held.{Hands}
-use Rattle.gl_interpreter.specs.Rows.{wait_row}
-use Rattle.gl_interpreter.specs.Views.{script_of}
+use Rattle.gl_interpreter.proofs.Words.{flat_map, Hands, script_of, take, wait_row}
 use Rattle.gl_interpreter.proofs.listings.put_stuck.Given as goal
 
 abbrev pub invariant-loop-other : goal.invariant-loop-other

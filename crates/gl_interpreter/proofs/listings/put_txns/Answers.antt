@@ -1,8 +1,4 @@
-use Rattle.std.proofs.Common.{ℕ, List, subst}
-use Rattle.gl_table.specs.Table.{living_in}
-use Rattle.gl_interpreter.specs.Held.{Hands}
-use Rattle.gl_interpreter.specs.Rows.{txn_row}
-use Rattle.gl_interpreter.specs.Views.{script_of}
+use Rattle.gl_interpreter.proofs.Words.{Hands, List, living_in, script_of, subst, txn_row, ℕ}
 use Rattle.gl_interpreter.proofs.RowByRow.{range_rows}
 use Rattle.gl_interpreter.proofs.Writing.{Hands-none, Hands-then}
 use Rattle.gl_interpreter.proofs.listings.put_txns.Goals as goal

@@ -1,9 +1,4 @@
-use Rattle.std.proofs.Common.{flat_map}
-use Rattle.std.specs.List.{range_with_len}
-use Rattle.gl_table.specs.Table.{living_in}
-use Rattle.gl_interpreter.specs.Held.{Hands}
-use Rattle.gl_interpreter.specs.Rows.{txn_row}
-use Rattle.gl_interpreter.specs.Views.{script_of}
+use Rattle.gl_interpreter.proofs.Words.{flat_map, Hands, living_in, range_with_len, script_of, txn_row}
 use Rattle.gl_interpreter.proofs.listings.put_txns.Given as goal
 
 abbrev pub invariant-loop-slot : goal.invariant-loop-slot

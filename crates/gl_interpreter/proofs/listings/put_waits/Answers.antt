@@ -1,14 +1,7 @@
-use Rattle.std.proofs.Common.{◌∷◌, ◌++◌, flat_map, ap, sym, ◌∙◌}
-use Rattle.std.specs.Prelude.{codes}
-use Rattle.gl_graph.specs.Refusals.{first_refusal}
-use Rattle.gl_slots.specs.Slots.{slots_of}
-use Rattle.gl_model.specs.declared.txn.TxnId.{TxnId}
-use Rattle.gl_model.specs.Calls.{living_tests}
+use Rattle.gl_interpreter.proofs.Words.{◌++◌, ◌∙◌, ◌∷◌, ap, blocker_row, codes, first_refusal, flat_map, living_tests, refusal_line, script_of, slots_of}
+use Rattle.gl_interpreter.proofs.Words.{slots_where, sym, TxnId}
 use Rattle.gl_model.specs.State.{waits_for}
-use Rattle.gl_interpreter.specs.Printed.{refusal_line}
-use Rattle.gl_interpreter.specs.Rows.{blocker_row, slots_where}
 use Rattle.gl_interpreter.specs.SoFar.{IsShown}
-use Rattle.gl_interpreter.specs.Views.{script_of}
 use Rattle.gl_interpreter.proofs.RowByRow.{goes, listed_refusal, listed_rows, refuses, slots_same}
 use Rattle.gl_interpreter.proofs.Writing.{Hands-then}
 use Rattle.gl_interpreter.proofs.listings.put_waits.Goals as goal

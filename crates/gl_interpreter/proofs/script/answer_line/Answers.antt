@@ -1,7 +1,6 @@
-use Rattle.std.proofs.Common.{◌∙◌, subst}
+use Rattle.gl_interpreter.proofs.Words.{◌∙◌, Prints, stage_of, subst}
 use Rattle.gl_interpreter.specs.Held.{Hands}
-use Rattle.gl_interpreter.specs.Report.{Prints}
-use Rattle.gl_interpreter.specs.SoFar.{Answered, HasReported, stage_of}
+use Rattle.gl_interpreter.specs.SoFar.{Answered, HasReported}
 use Rattle.gl_interpreter.proofs.Reading.{Prints-front}
 use Rattle.gl_interpreter.proofs.script.answer_line.Goals as goal
 

@@ -1,8 +1,8 @@
-use Rattle.std.proofs.Common.{◌++◌, [], refl, arith, take, length-append, length-take, subst, append-nil}
-use Rattle.std.specs.Io.KnownBytes.{Consumes}
-use Rattle.gl_interpreter.specs.SoFar.{Takes, choices_now}
-use Rattle.gl_interpreter.proofs.Writing.{Consumes-nil, Consumes-then, Consumes-kept}
-use Rattle.gl_interpreter.proofs.Reading.{SoFar-new, Ran-finished, Ran-broken, Ran-at_fault, Ran-too_much, OnOk-of}
+use Rattle.gl_interpreter.proofs.Words.{◌++◌, [], append-nil, arith, choices_now, Consumes, length-take, refl, subst, take}
+use Rattle.std.proofs.Common.{length-append}
+use Rattle.gl_interpreter.specs.SoFar.{Takes}
+use Rattle.gl_interpreter.proofs.Writing.{Consumes-kept, Consumes-nil, Consumes-then}
+use Rattle.gl_interpreter.proofs.Reading.{OnOk-of, Ran-at_fault, Ran-broken, Ran-finished, Ran-too_much, SoFar-new}
 use Rattle.gl_interpreter.proofs.script.answer_script.Goals as goal
 
 pub loop-total-init : goal.loop-total-init

@@ -1,6 +1,4 @@
-use Rattle.std.proofs.Common.{◌≡◌, ℕ, List, [], ◌-◌, ◌≤◌, length, false}
-use Rattle.std.specs.Io.KnownBytes.{Consumes}
-use Rattle.gl_interpreter.specs.SoFar.{SoFar, choices_now}
+use Rattle.gl_interpreter.proofs.Words.{◌-◌, [], ◌≡◌, ◌≤◌, choices_now, Consumes, false, length, List, SoFar, ℕ}
 use Rattle.gl_interpreter.proofs.script.answer_script.Given as goal
 
 abbrev pub invariant-loop-total : goal.invariant-loop-total

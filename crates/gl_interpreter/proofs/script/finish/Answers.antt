@@ -1,8 +1,7 @@
-use Rattle.std.proofs.Common.{refl, arith}
+use Rattle.gl_interpreter.proofs.Words.{arith, other_test, refl, same_test}
 use Rattle.gl_interpreter.specs.SoFar.{Finishes}
-use Rattle.gl_interpreter.proofs.Reading.{Ended, Ended-rest, Ended-none, Ended-flushed, Ended-whole, Ended-broken}
-use Rattle.gl_script.proofs.Splitting.{same_test, other_test}
-use Rattle.gl_interpreter.proofs.script.finish.Goals.{then-not-is_empty, else-not-is_empty}
+use Rattle.gl_interpreter.proofs.Reading.{Ended, Ended-broken, Ended-flushed, Ended-none, Ended-rest, Ended-whole}
+use Rattle.gl_interpreter.proofs.script.finish.Goals.{else-not-is_empty, then-not-is_empty}
 use Rattle.gl_interpreter.proofs.script.finish.Goals as goal
 
 pub returns-then-tool : goal.returns-then-tool

@@ -1,5 +1,5 @@
-use Rattle.std.proofs.Common.{◌≤◌, ◌+◌, ◌++◌, length, take, refl, arith, length-take, ap, ◌∙◌}
-use Rattle.gl_interpreter.proofs.Reading.{Takes-open, front-kept}
+use Rattle.gl_interpreter.proofs.Words.{◌+◌, ◌++◌, ◌∙◌, ◌≤◌, ap, arith, length, length-take, refl, take}
+use Rattle.gl_interpreter.proofs.Reading.{front-kept, Takes-open}
 use Rattle.gl_interpreter.proofs.Registers.{on_ok}
 use Rattle.gl_interpreter.proofs.script.keep.Goals as goal
 

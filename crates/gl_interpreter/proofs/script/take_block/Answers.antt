@@ -1,10 +1,7 @@
-use Rattle.std.proofs.Common.{◌≡◌, ◌∷◌, [], ◌+◌, ◌++◌, ◌-◌, refl, sym, ap, ◌∙◌, subst, get_or, take, drop, length, take_all, arith, length-drop}
-use Rattle.std.proofs.Math.Seq.{take-add}
-use Rattle.std.proofs.lemmas.List.{take_more, take_rest, take-append-drop}
-use Rattle.std.proofs.lemmas.Bool.Decides.{Decides-eqb}
-use Rattle.gl_interpreter.specs.Report.{IsOpen}
-use Rattle.gl_interpreter.specs.SoFar.{Takes, SoFar}
-use Rattle.gl_interpreter.proofs.Reading.{IsOpen-front, Takes-none, Takes-then, SoFar-flushed}
+use Rattle.gl_interpreter.proofs.Words.{◌+◌, ◌++◌, ◌-◌, [], ◌∙◌, ◌∷◌, ◌≡◌, ap, arith, Decides-eqb, drop, get_or, IsOpen, length, length-drop, refl, SoFar}
+use Rattle.gl_interpreter.proofs.Words.{subst, sym, take, take-add, take-append-drop, take_all, take_more, take_rest}
+use Rattle.gl_interpreter.specs.SoFar.{Takes}
+use Rattle.gl_interpreter.proofs.Reading.{IsOpen-front, SoFar-flushed, Takes-none, Takes-then}
 use Rattle.gl_interpreter.proofs.script.take_block.Goals as goal
 
 pub loop-count-init : goal.loop-count-init

@@ -1,4 +1,4 @@
-use Rattle.std.proofs.Common.{length, ◌-◌, ◌≤◌, take}
+use Rattle.gl_interpreter.proofs.Words.{◌-◌, ◌≤◌, length, take}
 use Rattle.gl_interpreter.specs.SoFar.{Takes}
 use Rattle.gl_interpreter.proofs.script.take_block.Given as goal
 

@@ -1,7 +1,5 @@
-use Rattle.std.proofs.Common.{◌∷◌, [], ◌++◌, append_assoc, refl, sym}
-use Rattle.std.proofs.lemmas.List.{nil_from_length}
+use Rattle.gl_interpreter.proofs.Words.{◌++◌, [], ◌∷◌, append_assoc, nil_from_length, refl, same_test, sym}
 use Rattle.gl_interpreter.specs.SoFar.{Takes}
-use Rattle.gl_script.proofs.Splitting.{same_test}
 use Rattle.gl_interpreter.proofs.Reading.{SoFar-newline, Takes-line}
 use Rattle.gl_interpreter.proofs.script.take_line.Goals as goal
 

@@ -1,7 +1,6 @@
-use Rattle.std.proofs.Common.{ap, ◌∙◌}
-use Rattle.gl_interpreter.specs.declared.sink.Sink.{Sink}
-use Rattle.gl_interpreter.proofs.Writing.{Hands-sent, Hands-broken}
-use Rattle.gl_interpreter.proofs.sink.flush.Goals.{then-not-sink, else-not-sink}
+use Rattle.gl_interpreter.proofs.Words.{◌∙◌, ap, Sink}
+use Rattle.gl_interpreter.proofs.Writing.{Hands-broken, Hands-sent}
+use Rattle.gl_interpreter.proofs.sink.flush.Goals.{else-not-sink, then-not-sink}
 use Rattle.gl_interpreter.proofs.sink.flush.Goals as goal
 
 pub returns-clause-text : goal.returns-clause-text

@@ -1,4 +1,4 @@
-use Rattle.std.proofs.Common.{refl}
+use Rattle.gl_interpreter.proofs.Words.{refl}
 use Rattle.gl_interpreter.proofs.Registers.{on_ok}
 use Rattle.gl_interpreter.proofs.Writing.{Hands-push}
 use Rattle.gl_interpreter.proofs.sink.put.Goals as goal

@@ -1,8 +1,6 @@
-use Rattle.std.proofs.Common.{◌≡◌, refl, subst, [], ◌∷◌, ◌++◌, ◌+◌, take, get_or, append-nil}
-use Rattle.std.proofs.lemmas.List.{take_more}
-use Rattle.gl_interpreter.specs.Held.{Hands}
+use Rattle.gl_interpreter.proofs.Words.{◌+◌, ◌++◌, [], ◌∷◌, ◌≡◌, append-nil, get_or, Hands, refl, subst, take, take_more}
 use Rattle.gl_interpreter.proofs.Writing.{Hands-none, Hands-push, Hands-then}
-use Rattle.gl_interpreter.proofs.sink.put_by_bytes.Goals.{then-is_full, else-is_full}
+use Rattle.gl_interpreter.proofs.sink.put_by_bytes.Goals.{else-is_full, then-is_full}
 use Rattle.gl_interpreter.proofs.sink.put_by_bytes.Goals as goal
 
 pub loop-byte-init : goal.loop-byte-init

@@ -1,5 +1,4 @@
-use Rattle.std.proofs.Common.{take}
-use Rattle.gl_interpreter.specs.Held.{Hands}
+use Rattle.gl_interpreter.proofs.Words.{Hands, take}
 use Rattle.gl_interpreter.proofs.sink.put_by_bytes.Given as goal
 
 abbrev pub invariant-loop-byte : goal.invariant-loop-byte

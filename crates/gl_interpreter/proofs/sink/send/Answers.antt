@@ -1,6 +1,5 @@
-use Rattle.std.proofs.Common.{arith, length-drop}
-use Rattle.std.proofs.lemmas.List.{take_rest}
-use Rattle.gl_interpreter.proofs.Writing.{Sends-more, Sends-front, Appends-kept}
+use Rattle.gl_interpreter.proofs.Words.{arith, length-drop, take_rest}
+use Rattle.gl_interpreter.proofs.Writing.{Appends-kept, Sends-front, Sends-more}
 use Rattle.gl_interpreter.proofs.sink.send.Goals as goal
 
 pub loop-at-preserved : goal.loop-at-preserved

@@ -1,5 +1,4 @@
-use Rattle.std.proofs.Common.{length, ◌-◌, ◌≤◌, take}
-use Rattle.std.specs.Io.KnownBytes.{Appends}
+use Rattle.gl_interpreter.proofs.Words.{◌-◌, ◌≤◌, Appends, length, take}
 use Rattle.gl_interpreter.proofs.sink.send.Given as goal
 
 abbrev pub invariant-loop-at : goal.invariant-loop-at

@@ -1,7 +1,4 @@
-use Rattle.std.proofs.Common.{◌<◌, ◌≡◌, ◌∙◌, ap, arith, get_or, length}
-use Rattle.std.proofs.lemmas.Result.{IfOk-at_ok}
-use Rattle.indexmap.specs.IndexMap.{insert_entry}
-use Rattle.gl_modes.specs.Nodes.{same_node}
+use Rattle.gl_lock_lists.proofs.Words.{◌<◌, ◌∙◌, ◌≡◌, ap, arith, get_or, IfOk-at_ok, insert_entry, length, same_node}
 use Rattle.gl_lock_lists.proofs.RowLemmas.{put_next}
 use Rattle.gl_lock_lists.proofs.rows.move_all.Goals as goal
 

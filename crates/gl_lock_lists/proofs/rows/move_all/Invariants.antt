@@ -1,5 +1,4 @@
-use Rattle.std.proofs.Common.{◌+◌, ◌≡◌, ◌≤◌, take}
-use Rattle.indexmap.specs.IndexMap.{spare}
+use Rattle.gl_lock_lists.proofs.Words.{◌+◌, ◌≡◌, ◌≤◌, spare, take}
 use Rattle.gl_lock_lists.proofs.rows.move_all.Given as goal
 
 -- the entries so far are in the hash map

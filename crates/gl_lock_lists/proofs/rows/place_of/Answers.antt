@@ -1,7 +1,6 @@
-use Rattle.std.proofs.Common.{◌-◌, ◌<◌, ◌∙◌, ◌==◌, ap, arith, get_or, length, sym}
+use Rattle.gl_lock_lists.proofs.Words.{◌-◌, ◌<◌, ◌==◌, ◌∙◌, ap, arith, get_or, length, same_node, split, sym}
 use Rattle.std.proofs.lemmas.List.{get_or_default}
-use Rattle.gl_modes.specs.Nodes.{same_node}
-use Rattle.gl_modes.proofs.Words.{other_number, same_number, split}
+use Rattle.gl_modes.proofs.Words.{other_number, same_number}
 use Rattle.gl_lock_lists.proofs.RowLemmas.{no_place, place_found}
 use Rattle.gl_lock_lists.proofs.rows.place_of.Goals as goal
 

@@ -1,6 +1,4 @@
-use Rattle.std.proofs.Common.{◌≡◌, ◌<◌, ◌≤◌, ℕ, false, get_or, length}
-use Rattle.gl_modes.specs.declared.node.NodeId.{NodeId}
-use Rattle.gl_modes.specs.Nodes.{same_node}
+use Rattle.gl_lock_lists.proofs.Words.{◌<◌, ◌≡◌, ◌≤◌, false, get_or, length, NodeId, same_node, ℕ}
 use Rattle.gl_lock_lists.proofs.rows.place_of.Given as goal
 
 -- no entry from here on has the node

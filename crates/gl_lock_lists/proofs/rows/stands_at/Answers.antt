@@ -1,10 +1,5 @@
-use Rattle.std.proofs.Common.{◌≡◌, ◌∙◌, ap, Some, slice_get, subst, sym}
+use Rattle.gl_lock_lists.proofs.Words.{◌∙◌, ◌≡◌, ap, index_of, NodeId, option_map, same_node, same_node-equal, slice_get, Some, subst, sym}
 use Rattle.std.specs.Map.Iter.{deref_pair}
-use Rattle.std.specs.Option.{option_map}
-use Rattle.indexmap.specs.IndexMap.{index_of}
-use Rattle.gl_modes.specs.declared.node.NodeId.{NodeId}
-use Rattle.gl_modes.specs.Nodes.{same_node}
-use Rattle.gl_modes.proofs.NodeLemmas.{same_node-equal}
 use Rattle.gl_lock_lists.proofs.RowLemmas.{place_of_row}
 use Rattle.gl_lock_lists.proofs.rows.stands_at.Goals as goal
 

@@ -1,9 +1,5 @@
-use Rattle.std.proofs.Common.{◌≡◌, ◌∙◌, List, position, Some, slice_get, sym, ℕ}
-use Rattle.std.specs.Map.{keys_of}
+use Rattle.gl_lock_lists.proofs.Words.{◌∙◌, ◌≡◌, keys_of, List, NodeId, Out, position, same_node, slice_get, Some, swap_out, sym, ℕ}
 use Rattle.indexmap.proofs.MapLemmas.{swap_remove_entry-found}
-use Rattle.indexmap.proofs.RemoveLemmas.{swap_out, Out}
-use Rattle.gl_modes.specs.declared.node.NodeId.{NodeId}
-use Rattle.gl_modes.specs.Nodes.{same_node}
 use Rattle.gl_lock_lists.proofs.RowLemmas.{node_equivalence}
 use Rattle.gl_lock_lists.proofs.rows.take_out.Given.{Over}
 use Rattle.gl_lock_lists.proofs.rows.take_out.Goals as goal

@@ -1,4 +1,4 @@
-use Rattle.gl_steps.proofs.MoverEffects.{rekey_keeps_mover, move_keeps_mover}
+use Rattle.gl_steps.proofs.MoverEffects.{move_keeps_mover, rekey_keeps_mover}
 use Rattle.gl_steps.proofs.EscalateEffects.{escalate_lowers_none}
 use Rattle.gl_steps.proofs.laws.mover_keeps_effects.Goals as goal
 

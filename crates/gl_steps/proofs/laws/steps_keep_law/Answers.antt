@@ -1,5 +1,5 @@
-use Rattle.gl_model.proofs.law.Takes.{empty-lawful}
-use Rattle.gl_steps.proofs.StepsKeepLaw.{steps_keep_law, runs_keep_law}
+use Rattle.gl_steps.proofs.Words.{empty-lawful}
+use Rattle.gl_steps.proofs.StepsKeepLaw.{runs_keep_law, steps_keep_law}
 use Rattle.gl_steps.proofs.laws.steps_keep_law.Goals as goal
 
 pub returns : goal.returns

@@ -1,6 +1,4 @@
-use Rattle.gl_slots.specs.Limit.{most_slots}
-use Rattle.gl_slots.specs.Slots.{Bits, no_bits}
-use Rattle.gl_table.proofs.Words.{◌∙◌, ap, Board, get_or, length, length-replicate, ℕ}
+use Rattle.gl_table.proofs.Words.{◌∙◌, ap, Bits, Board, get_or, length, length-replicate, most_slots, no_bits, ℕ}
 use Rattle.gl_table.proofs.inside.Boards.{board-all, empty_row, zeros}
 use Rattle.gl_table.proofs.boards.board.Goals as goal
 

@@ -1,5 +1,4 @@
-use Rattle.gl_slots.specs.Slots.{has_slot}
-use Rattle.gl_table.proofs.Words.{◌&&◌, ◌==◌, ◌||◌, ◌∙◌, ◌≡◌, ap, arith, Bool, nat_tests, not, ℕ}
+use Rattle.gl_table.proofs.Words.{◌&&◌, ◌==◌, ◌||◌, ◌∙◌, ◌≡◌, ap, arith, Bool, has_slot, nat_tests, not, ℕ}
 use Rattle.gl_table.proofs.boards.row_behind.Goals as goal
 
 turned : (b : Bool) (u s : ℕ) → (b && not (u == s)) ≡ (not (s == u) && b)

@@ -1,11 +1,10 @@
-use Rattle.gl_slots.specs.Limit.{most_slots}
+use Rattle.gl_table.proofs.Words.{◌<◌, ◌==◌, ◌||◌, ◌∙◌, ◌≡◌, ap, arith, Bool, get_or, header_or_new, length, length-set, most_slots, NL, refl, shown, subst}
+use Rattle.gl_table.proofs.Words.{sym, waits_for, ℕ}
 use Rattle.gl_slots.proofs.SlotLemmas.{bits_of-same}
-use Rattle.gl_table.proofs.Words.{◌<◌, ◌==◌, ◌||◌, ◌∙◌, ◌≡◌, ap, arith, Bool, get_or, header_or_new, length, NL, refl, shown, subst, sym, waits_for, ℕ}
-use Rattle.std.proofs.lemmas.List.{length-set}
 use Rattle.gl_table.proofs.inside.Boards.{AreRowsShown, reached-row, rows-shown}
 use Rattle.gl_model.proofs.queues.Waiters.{among-next, queue-below}
 use Rattle.gl_table.proofs.boards.show_queue.Goals as goal
-use Rattle.gl_table.proofs.boards.show_queue.Goals.{in-Some-wanted_on+then-not-contains, in-Some-wanted_on+else-not-contains, in_default-wanted_on}
+use Rattle.gl_table.proofs.boards.show_queue.Goals.{in-Some-wanted_on+else-not-contains, in-Some-wanted_on+then-not-contains, in_default-wanted_on}
 
 pub bounds-rows-slot : goal.bounds-rows-slot
 bounds-rows-slot c = queue-below c.in-Some.header.now c.queue-slot-items.result.now c.loop-slot.slot-index (0, NL) c.law.ensures.lawful

@@ -1,8 +1,6 @@
-use Rattle.gl_slots.specs.Slots.{Bits, bits_of, has_bit, has_slot, no_bits}
+use Rattle.gl_table.proofs.Words.{◌&&◌, ◌==◌, ◌∙◌, ◌≡◌, ⊎_elim, ap, arith, Bits, bits_of, blocks, Entries, false, get_or-set_same, has_bit, has_slot, inl, List}
+use Rattle.gl_table.proofs.Words.{Mode, no_bits, NodeId, not, Option, refl, shown, Slots, Some, status_in, subst, sym, TxnEntry, txns_of, Waiting, waits_for, ℕ}
 use Rattle.gl_slots.proofs.SlotLemmas.{bits_of-same, no_bits-none}
-use Rattle.gl_table.proofs.Words.{⊎_elim, ◌&&◌, ◌==◌, ◌∙◌, ◌≡◌, ap, arith, blocks, Entries, false, get_or-set_same, inl, List}
-use Rattle.gl_table.proofs.Words.{Mode, NodeId, not, Option, refl, TxnEntry}
-use Rattle.gl_table.proofs.Words.{shown, Slots, Some, status_in, subst, sym, txns_of, Waiting, waits_for, ℕ}
 use Rattle.gl_table.proofs.inside.Boards.{AreRowsShown, rows-idle, rows-shown}
 use Rattle.gl_table.proofs.boards.show_waiter.Goals as goal
 

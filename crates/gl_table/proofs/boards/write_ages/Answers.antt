@@ -1,6 +1,4 @@
-use Rattle.gl_table.proofs.Words.{◌<◌, ◌∙◌, age_in, ap, arith, length, Option, refl, Some, sym, txn_in}
-use Rattle.std.proofs.lemmas.List.{length-set}
-use Rattle.gl_table.specs.declared.txn_entry.TxnEntry.{TxnEntry}
+use Rattle.gl_table.proofs.Words.{◌<◌, ◌∙◌, age_in, ap, arith, length, length-set, Option, refl, Some, sym, txn_in, TxnEntry}
 use Rattle.gl_table.proofs.inside.Boards.{age_at, ages-begin, ages-passed, ages-read, ages-written}
 use Rattle.gl_table.proofs.boards.write_ages.Goals as goal
 

@@ -1,8 +1,6 @@
-use Rattle.std.proofs.Common.{sym, ◌∙◌}
-use Rattle.std.proofs.lemmas.Bool.{and_parts, and_from}
-use Rattle.gl_slots.specs.Slots.{has_slot}
+use Rattle.gl_waits.proofs.Words.{◌∙◌, and_from, and_parts, has_slot, sym}
 use Rattle.gl_waits.proofs.WalkLemmas.{reaches_join}
-use Rattle.gl_waits.proofs.CycleLemmas.{meets-cycle, cycle-meets}
+use Rattle.gl_waits.proofs.CycleLemmas.{cycle-meets, meets-cycle}
 use Rattle.gl_waits.proofs.cycle.on_cycle_in.Goals as goal
 
 pub returns-then-contains : goal.returns-then-contains

@@ -1,7 +1,4 @@
-use Rattle.std.proofs.Common.{ℕ, Bool, true, refl, sym, ◌∙◌}
-use Rattle.gl_slots.specs.Slots.{has_slot}
-use Rattle.gl_waits.specs.Boards.{row_edge}
-use Rattle.gl_waits.specs.Waits.{waits_of}
+use Rattle.gl_waits.proofs.Words.{◌∙◌, Bool, has_slot, refl, row_edge, sym, true, waits_of, ℕ}
 use Rattle.gl_waits.proofs.WalkLemmas.{reaches_back}
 use Rattle.gl_waits.proofs.cycle.reaching.Goals as goal
 

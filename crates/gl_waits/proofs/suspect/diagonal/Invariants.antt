@@ -1,6 +1,4 @@
-use Rattle.std.proofs.Common.{◌≡◌, ℕ, ◌&&◌, nat_lt}
-use Rattle.gl_slots.specs.Slots.{has_slot}
-use Rattle.gl_waits.specs.Boards.{row_edge}
+use Rattle.gl_waits.proofs.Words.{◌&&◌, ◌≡◌, has_slot, nat_lt, row_edge, ℕ}
 use Rattle.gl_waits.proofs.suspect.diagonal.Given as goal
 
 abbrev pub invariant-loop-slot : goal.invariant-loop-slot

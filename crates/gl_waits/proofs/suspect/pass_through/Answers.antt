@@ -1,14 +1,9 @@
-use Rattle.std.proofs.Common.{◌≡◌, ◌≢◌, ℕ, ◌+◌, ⊎_elim, Bool, true, false, ◌&&◌, ◌||◌, nat_lt, List, length, get_or, set, ◌<◌, ◌≤◌, refl, sym, ap}
-use Rattle.std.proofs.Common.{ap₂, ◌∙◌, subst, arith}
-use Rattle.std.proofs.lemmas.Bool.{cases_eq}
-use Rattle.std.proofs.lemmas.Bool.Decides.{nat_tests}
-use Rattle.std.proofs.lemmas.List.{get_or-set_same, get_or-set_other}
-use Rattle.gl_slots.specs.declared.slots.Slots.{Slots}
-use Rattle.gl_slots.specs.Slots.{has_slot, no_slots}
-use Rattle.gl_waits.specs.Boards.{row_edge}
+use Rattle.gl_waits.proofs.Words.{◌&&◌, ◌+◌, ◌<◌, ◌||◌, ◌∙◌, ◌≡◌, ◌≢◌, ◌≤◌, ⊎_elim, ap, arith, Bool, cases_eq, false, get_or, get_or-set_other, get_or-set_same}
+use Rattle.gl_waits.proofs.Words.{has_slot, length, List, nat_lt, nat_tests, no_slots, refl, row_edge, set, Slots, subst, sym, true, ℕ}
+use Rattle.std.proofs.Common.{ap₂}
 use Rattle.gl_waits.proofs.BoardLemmas.{row_edge-inside, row_edge-read}
 use Rattle.gl_waits.proofs.suspect.pass_through.Goals as goal
-use Rattle.gl_waits.proofs.suspect.pass_through.Goals.{then-contains, else-contains}
+use Rattle.gl_waits.proofs.suspect.pass_through.Goals.{else-contains, then-contains}
 
 -- the rows below i have what the middle reaches, if they have the middle
 abbrev IsPassed : List Slots → List Slots → ℕ → Slots → ℕ → Type 0

@@ -1,7 +1,4 @@
-use Rattle.std.proofs.Common.{◌≡◌, ℕ, ◌&&◌, ◌||◌, nat_lt, length}
-use Rattle.gl_slots.specs.Limit.{most_slots}
-use Rattle.gl_slots.specs.Slots.{has_slot}
-use Rattle.gl_waits.specs.Boards.{row_edge}
+use Rattle.gl_waits.proofs.Words.{◌&&◌, ◌||◌, ◌≡◌, has_slot, length, most_slots, nat_lt, row_edge, ℕ}
 use Rattle.gl_waits.proofs.suspect.pass_through.Given as goal
 
 abbrev pub invariant-loop-slot : goal.invariant-loop-slot

@@ -1,7 +1,6 @@
-use Rattle.std.proofs.Common.{arith}
-use Rattle.gl_waits.specs.Boards.{row_edge}
+use Rattle.gl_waits.proofs.Words.{arith, row_edge}
 use Rattle.gl_waits.proofs.BoardLemmas.{row_edge-inside}
-use Rattle.gl_waits.proofs.Closing.{closing-step, closing-done}
+use Rattle.gl_waits.proofs.Closing.{closing-done, closing-step}
 use Rattle.gl_waits.proofs.suspect.reaches_of_all.Goals as goal
 
 pub loop-middle-preserved : goal.loop-middle-preserved

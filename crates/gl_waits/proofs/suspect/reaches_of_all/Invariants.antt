@@ -1,6 +1,4 @@
-use Rattle.std.proofs.Common.{◌≡◌, length}
-use Rattle.gl_slots.specs.Limit.{most_slots}
-use Rattle.gl_waits.specs.Boards.{row_edge}
+use Rattle.gl_waits.proofs.Words.{◌≡◌, length, most_slots, row_edge}
 use Rattle.gl_waits.proofs.Closing.{IsClosedBelow}
 use Rattle.gl_waits.proofs.suspect.reaches_of_all.Given as goal
 

@@ -1,11 +1,6 @@
-use Rattle.std.proofs.Common.{◌≡◌, ◌≢◌, ℕ, ◌+◌, ◌<◌, ◌&&◌, ⊎_elim, Bool, false, nat_lt, length, set, sym, ap, ◌∙◌, subst, arith}
-use Rattle.std.proofs.lemmas.Bool.{cases_eq}
-use Rattle.std.proofs.lemmas.Bool.Decides.{nat_tests}
-use Rattle.std.proofs.lemmas.List.{length-replicate, length-set}
-use Rattle.gl_slots.specs.Limit.{most_slots}
-use Rattle.gl_slots.specs.Slots.{no_slots}
-use Rattle.gl_waits.specs.Boards.{board_edge, row_edge}
-use Rattle.gl_waits.proofs.BoardLemmas.{bit_edge-read, row_edge-replicate, row_edge-set_same, row_edge-set_other}
+use Rattle.gl_waits.proofs.Words.{◌&&◌, ◌+◌, ◌<◌, ◌∙◌, ◌≡◌, ◌≢◌, ⊎_elim, ap, arith, board_edge, Bool, cases_eq, false, length, length-replicate, length-set}
+use Rattle.gl_waits.proofs.Words.{most_slots, nat_lt, nat_tests, no_slots, row_edge, set, subst, sym, ℕ}
+use Rattle.gl_waits.proofs.BoardLemmas.{bit_edge-read, row_edge-replicate, row_edge-set_other, row_edge-set_same}
 use Rattle.gl_waits.proofs.suspect.rows_in.Goals as goal
 
 none-below : (s : ℕ) (b : Bool) → (nat_lt s 0 && b) ≡ false

@@ -1,6 +1,4 @@
-use Rattle.std.proofs.Common.{◌≡◌, ℕ, ◌&&◌, nat_lt, length}
-use Rattle.gl_slots.specs.Limit.{most_slots}
-use Rattle.gl_waits.specs.Boards.{board_edge, row_edge}
+use Rattle.gl_waits.proofs.Words.{◌&&◌, ◌≡◌, board_edge, length, most_slots, nat_lt, row_edge, ℕ}
 use Rattle.gl_waits.proofs.suspect.rows_in.Given as goal
 
 abbrev pub invariant-loop-slot : goal.invariant-loop-slot

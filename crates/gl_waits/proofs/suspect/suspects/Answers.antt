@@ -1,5 +1,4 @@
-use Rattle.std.proofs.Common.{sym, ◌∙◌}
-use Rattle.gl_waits.specs.Boards.{board_edge}
+use Rattle.gl_waits.proofs.Words.{◌∙◌, board_edge, sym}
 use Rattle.gl_waits.proofs.WalkLemmas.{no_step-no_cycle, on_cycle-reaches, reaches-on_cycle, reaches_more}
 use Rattle.gl_waits.proofs.suspect.suspects.Goals as goal
 

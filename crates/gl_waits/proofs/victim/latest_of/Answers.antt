@@ -1,5 +1,5 @@
-use Rattle.std.proofs.Common.{refl, sym, ◌∙◌}
-use Rattle.gl_waits.proofs.Chosen.{chosen-low, chosen-none, chosen-stays, chosen-later, chosen-latest, still-within}
+use Rattle.gl_waits.proofs.Words.{◌∙◌, refl, sym}
+use Rattle.gl_waits.proofs.Chosen.{chosen-later, chosen-latest, chosen-low, chosen-none, chosen-stays, still-within}
 use Rattle.gl_waits.proofs.victim.latest_of.Goals as goal
 
 pub loop-slot-init : goal.loop-slot-init

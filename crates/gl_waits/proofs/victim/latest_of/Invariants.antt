@@ -1,5 +1,4 @@
-use Rattle.std.proofs.Common.{◌≡◌, ℕ, true}
-use Rattle.gl_slots.specs.Slots.{has_slot, number_of}
+use Rattle.gl_waits.proofs.Words.{◌≡◌, has_slot, number_of, true, ℕ}
 use Rattle.gl_waits.proofs.Chosen.{IsChosen}
 use Rattle.gl_waits.proofs.victim.latest_of.Given as goal
 

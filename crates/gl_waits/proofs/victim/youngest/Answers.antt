@@ -1,5 +1,4 @@
-use Rattle.std.proofs.Common.{IsTrue, sym, ◌∙◌}
-use Rattle.gl_slots.specs.Slots.{has_bit, has_slot}
+use Rattle.gl_waits.proofs.Words.{◌∙◌, has_bit, has_slot, IsTrue, sym}
 use Rattle.gl_waits.specs.Boards.{age_in}
 use Rattle.gl_waits.proofs.VictimLemmas.{latest-youngest, same-some_latest}
 use Rattle.gl_waits.proofs.victim.youngest.Goals as goal

@@ -1,8 +1,4 @@
-use Rattle.std.proofs.Common.{ℕ, Bool, IsTrue, IfSome, sym, subst}
-use Rattle.gl_slots.specs.Slots.{has_slot}
-use Rattle.gl_waits.specs.Waits.{IsLowestLatest, IsOnCycleOf}
-use Rattle.gl_waits.specs.Victims.{IsCandidate}
-use Rattle.gl_waits.specs.declared.victims.Victims.{Victims}
+use Rattle.gl_waits.proofs.Words.{Bool, has_slot, IfSome, IsCandidate, IsLowestLatest, IsOnCycleOf, IsTrue, subst, sym, Victims, ℕ}
 use Rattle.gl_waits.proofs.CycleLemmas.{empty-no_cycle, no_cycle-empty}
 use Rattle.gl_waits.proofs.VictimLemmas.{same-some_latest}
 use Rattle.gl_waits.proofs.victims.victim_for.Goals as goal

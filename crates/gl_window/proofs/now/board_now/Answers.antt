@@ -1,6 +1,4 @@
-use Rattle.std.proofs.Common.{ap, subst, sym}
-use Rattle.gl_waits.specs.declared.board.Board.{Board}
-use Rattle.gl_window.specs.Boards.{Fine}
+use Rattle.gl_window.proofs.Words.{ap, Board, Fine, subst, sym}
 use Rattle.gl_window.proofs.RealBoards.{fine_board}
 use Rattle.gl_window.proofs.now.board_now.Goals as goal
 

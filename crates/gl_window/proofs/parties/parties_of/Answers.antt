@@ -1,12 +1,8 @@
-use Rattle.std.proofs.Common.{arith, ◌≡◌, ◌<◌, ℕ, true, ap, ◌∙◌}
+use Rattle.gl_window.proofs.Words.{◌<◌, ◌∙◌, ◌≡◌, ap, arith, clash, holds, is_wait, is_waiting_at, members, NodeId, split, State, state_of, status_of, true}
+use Rattle.gl_window.proofs.Words.{waiting_is, waits_at, ℕ}
 use Rattle.gl_modes.proofs.NodeLemmas.{same_node-refl}
-use Rattle.gl_modes.proofs.Words.{clash, split}
-use Rattle.gl_modes.specs.declared.node.NodeId.{NodeId}
-use Rattle.gl_header.specs.Header.{holds}
-use Rattle.gl_model.proofs.law.Keeps.{txn_there, waiting_is}
+use Rattle.gl_model.proofs.law.Keeps.{txn_there}
 use Rattle.gl_model.proofs.law.Settle.{wait_is}
-use Rattle.gl_model.specs.State.{State, is_wait, is_waiting_at, members, status_of, waits_at}
-use Rattle.gl_catalog.specs.Manager.{state_of}
 use Rattle.gl_window.proofs.parties.parties_of.Goals as goal
 
 pub returns : goal.returns

@@ -1,9 +1,4 @@
-use Rattle.std.proofs.Common.{◌≡◌, ℕ, ◌<◌, true}
-use Rattle.gl_modes.specs.declared.node.NodeId.{NodeId}
-use Rattle.gl_slots.specs.Slots.{has_slot}
-use Rattle.gl_header.specs.Header.{holds}
-use Rattle.gl_model.specs.State.{is_waiting_at, members}
-use Rattle.gl_catalog.specs.Manager.{state_of}
+use Rattle.gl_window.proofs.Words.{◌<◌, ◌≡◌, has_slot, holds, is_waiting_at, members, NodeId, state_of, true, ℕ}
 use Rattle.gl_window.proofs.parties.parties_of.Given as goal
 
 abbrev pub invariant-loop-slot : goal.invariant-loop-slot

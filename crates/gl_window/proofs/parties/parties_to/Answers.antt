@@ -1,24 +1,14 @@
-use Rattle.std.proofs.Common.{◌≡◌, ◌∙◌, [], ◌∷◌, ℕ, true, Option, Some, None, Result, Ok, Err, ap, refl, subst, sym}
-use Rattle.std.specs.Prelude.{IfOk, not}
+use Rattle.gl_window.proofs.Words.{[], ◌∙◌, ◌∷◌, ◌≡◌, ap, has_slot, holds, IsLawful, members, Mode, no, NodeId, None, none_some, not, number_same, Option, refl}
+use Rattle.gl_window.proofs.Words.{Refusal, Slots, Some, State, state_of, Status, status_in, status_of, subst, sym, true, Txn, TxnId, Waiting, waiting_is}
+use Rattle.gl_window.proofs.Words.{waits_at, ℕ}
+use Rattle.std.proofs.Common.{Err, Ok, Result}
+use Rattle.std.specs.Prelude.{IfOk}
 use Rattle.std.specs.Result.{result_unwrap_or}
-use Rattle.gl_modes.proofs.Words.{no, none_some, number_same, or_left, or_right}
-use Rattle.gl_modes.specs.declared.mode.Mode.{Mode}
-use Rattle.gl_modes.specs.declared.node.NodeId.{NodeId}
-use Rattle.gl_modes.specs.declared.refusal.Refusal.{Refusal}
+use Rattle.gl_modes.proofs.Words.{or_left, or_right}
 use Rattle.gl_modes.specs.declared.refusal.Refusal.TheVariants as refusal
-use Rattle.gl_slots.specs.Slots.{has_slot}
-use Rattle.gl_slots.specs.declared.slots.Slots.{Slots}
 use Rattle.gl_graph.specs.Refusals.{first_refusal, where_true}
-use Rattle.gl_header.specs.Header.{holds}
-use Rattle.gl_model.proofs.law.Keeps.{waiting_is}
-use Rattle.gl_model.specs.Calls.{RefusesOnly, group_tests}
-use Rattle.gl_model.specs.Lawful.{IsLawful}
-use Rattle.gl_model.specs.State.{State, Txn, is_waiting_at, members, status_in, status_of, waits_at}
-use Rattle.gl_model.specs.declared.txn.Status.{Status}
-use Rattle.gl_model.specs.declared.txn.Status.TheVariants.{Waiting}
-use Rattle.gl_model.specs.declared.txn.TxnId.{TxnId}
-use Rattle.gl_table.specs.Table.{living_in, named_in}
-use Rattle.gl_catalog.specs.Manager.{state_of}
+use Rattle.gl_model.specs.Calls.{group_tests, RefusesOnly}
+use Rattle.gl_table.specs.Table.{named_in}
 use Rattle.gl_window.proofs.parties.parties_to.Goals as goal
 
 -- the node for which a listed transaction waits

@@ -1,14 +1,6 @@
-use Rattle.std.proofs.Common.{◌≡◌, ap, sym, ◌∙◌}
-use Rattle.std.specs.Prelude.{Bool, false, if◌then◌else◌, ◌&&◌, not}
+use Rattle.gl_window.proofs.Words.{◌&&◌, ◌∙◌, ◌≡◌, Answer, ap, Bool, Command, false, has_none, if◌then◌else◌, is_empty, leaves_waiting, leaves_waits, not}
+use Rattle.gl_window.proofs.Words.{Slots, spares_waits, sym, Told}
 use Rattle.gl_slots.proofs.SlotLemmas.{none-test}
-use Rattle.gl_slots.specs.Slots.{has_none}
-use Rattle.gl_slots.specs.declared.slots.Slots.{Slots}
-use Rattle.gl_header.specs.Header.{is_empty}
-use Rattle.gl_model.specs.Tellings.{Told}
-use Rattle.gl_steps.specs.Served.{leaves_waiting}
-use Rattle.gl_steps.specs.declared.command.Answer.{Answer}
-use Rattle.gl_steps.specs.declared.command.Command.{Command}
-use Rattle.gl_window.specs.Tellings.{leaves_waits, spares_waits}
 use Rattle.gl_window.proofs.Emptiness.{tests_empty, tests_none}
 use Rattle.gl_window.proofs.telling.leaves_waits.Goals as goal
 

@@ -1,6 +1,4 @@
-use Rattle.std.specs.Prelude.{◌≡◌, ◌≤◌}
-use Rattle.gl_model.specs.declared.answers.Detect.TheVariants.{AtBlock}
-use Rattle.gl_window.specs.Boards.{last_epoch}
+use Rattle.gl_window.proofs.Words.{◌≡◌, ◌≤◌, AtBlock, last_epoch}
 use Rattle.gl_window.proofs.tests.watch_all.Given as goal
 
 -- no list is newer than the board

@@ -1,4 +1,5 @@
-use Rattle.std.specs.Prelude.{◌≡◌, All}
+use Rattle.gl_window.proofs.Words.{◌≡◌}
+use Rattle.std.specs.Prelude.{All}
 use Rattle.gl_window.proofs.window.places_of.Given as goal
 
 -- each place so far has the first list as its tag

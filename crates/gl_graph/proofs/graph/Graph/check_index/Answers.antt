@@ -16,10 +16,7 @@ refused_in_two (Some y) a b rest r w e = absurd (cc)
 passed_four : (w a b d : Option Refusal) (rest : List (Option Refusal)) → w ≡ None → first_refusal (a ∷ b ∷ []) ≡ None → d ≡ None
     → first_refusal (w ∷ a ∷ b ∷ d ∷ rest) ≡ first_refusal rest
 passed_four None None None None rest w e d = refl
-passed_four None None None (Some x) rest w e d = absurd (cc)
-passed_four None None (Some x) d rest w e h = absurd (cc)
-passed_four None (Some x) b d rest w e h = absurd (cc)
-passed_four (Some x) a b d rest w e h = absurd (cc)
+passed_four w a b d rest e f h = absurd (cc)
 
 neither : (a b : Bool) → a ≡ false → b ≡ false → (a || b) ≡ false
 neither a b x y = ap (λ z. z || b) x ∙ y

@@ -1,29 +1,14 @@
-use Rattle.std.proofs.Common.{◌≡◌, ◌∙◌, true, false, refl, sym, ap}
-use denote.Enum.Bare.{sameb}
-use Rattle.gl_modes.specs.contracts.mode.Mode.{the_type}
-use Rattle.gl_modes.specs.declared.mode.Mode.{Mode}
-use Rattle.gl_modes.specs.declared.mode.Mode.TheVariants.{NL, IS, IX, S, SIX, X}
-use Rattle.gl_modes.specs.Modes.{same_mode}
-use Rattle.gl_header.specs.Header.{with_mode}
-use Rattle.gl_header.specs.Groups.{held_by}
-use Rattle.gl_header.proofs.Groups.{within-group, intent-group, intent-held, main-group, main-held}
+use Rattle.gl_header.proofs.Words.{◌∙◌, ◌≡◌, ap, false, held_by, IS, IX, Mode, NL, refl, S, same_mode, sameb, SIX, sym, the_type, true, with_mode, X}
+use Rattle.gl_header.proofs.Groups.{intent-group, intent-held, main-group, main-held, within-group}
 use Rattle.gl_header.proofs.group.Group.hold.Goals as goal
 
 is-IS : (m : Mode) → sameb the_type m IS ≡ true → IS ≡ m
 is-IS IS h = refl
-is-IS NL h = cc
-is-IS IX h = cc
-is-IS S h = cc
-is-IS SIX h = cc
-is-IS X h = cc
+is-IS m h = cc
 
 not-IS : (m : Mode) → sameb the_type m IS ≡ false → same_mode m IS ≡ false
 not-IS IS h = h
-not-IS NL h = refl
-not-IS IX h = refl
-not-IS S h = refl
-not-IS SIX h = refl
-not-IS X h = refl
+not-IS m h = refl
 
 pub returns-then-eq-clause-group : goal.returns-then-eq-clause-group
 returns-then-eq-clause-group c =

@@ -1,20 +1,11 @@
-use Rattle.std.proofs.Common.{◌≡◌, ◌∙◌, true, ap, refl, sym}
-use denote.Enum.Bare.{sameb}
-use Rattle.gl_modes.specs.contracts.mode.Mode.{the_type}
-use Rattle.gl_modes.specs.declared.mode.Mode.{Mode}
-use Rattle.gl_modes.specs.declared.mode.Mode.TheVariants.{NL, IS, IX, S, SIX, X}
-use Rattle.gl_modes.proofs.Words.{clash, not_true}
+use Rattle.gl_header.proofs.Words.{◌∙◌, ◌≡◌, ap, clash, IS, IX, Mode, NL, not_true, refl, S, sameb, SIX, sym, the_type, true, X}
 use Rattle.gl_header.proofs.Ranges.{equal_tests}
 use Rattle.gl_header.proofs.Groups.{nobody-from_both, nobody-intents, nobody-mode}
 use Rattle.gl_header.proofs.group.Group.is_empty.Goals as goal
 
 is-NL : (m : Mode) → sameb the_type m NL ≡ true → m ≡ NL
 is-NL NL h = refl
-is-NL IS h = cc
-is-NL IX h = cc
-is-NL S h = cc
-is-NL SIX h = cc
-is-NL X h = cc
+is-NL m h = cc
 
 pub returns-then-eq : goal.returns-then-eq
 returns-then-eq c =

@@ -1,16 +1,6 @@
-use Rattle.std.proofs.Common.{◌≡◌, ◌∙◌, ℕ, Bool, true, false, ap, refl, sym, arith}
-use Rattle.std.proofs.lemmas.Bool.Decides.{nat_tests}
-use Rattle.std.proofs.Math.Path.{fun_ext}
+use Rattle.gl_header.proofs.Words.{◌==◌, ◌∙◌, ◌≡◌, ap, arith, Bool, false, fun_ext, held_by, holds, if◌then◌else◌, IS, IX, Members, Mode, nat_tests, NL, not}
+use Rattle.gl_header.proofs.Words.{refl, S, same_mode, same_mode-equal, sameb, SIX, sym, the_type, true, with_mode, X, ℕ}
 use Rattle.std.proofs.lemmas.Bool.{not-false}
-use Rattle.std.specs.Prelude.{◌==◌, if◌then◌else◌, not}
-use denote.Enum.Bare.{sameb}
-use Rattle.gl_modes.specs.contracts.mode.Mode.{the_type}
-use Rattle.gl_modes.specs.declared.mode.Mode.{Mode}
-use Rattle.gl_modes.specs.declared.mode.Mode.TheVariants.{NL, IS, IX, S, SIX, X}
-use Rattle.gl_modes.specs.Modes.{same_mode}
-use Rattle.gl_modes.proofs.ModeLemmas.{same_mode-equal}
-use Rattle.gl_header.specs.Groups.{held_by}
-use Rattle.gl_header.specs.Header.{Members, holds, with_mode}
 use Rattle.gl_header.proofs.group.Group.leave.Goals as goal
 
 -- a slot that holds nothing leaves all as they are
@@ -27,11 +17,7 @@ unheld-without g t none = fun_ext (λ u. by u (u == t) refl)
 -- a mode that equals NL is NL by `same_mode`
 none-held : (m : Mode) → not (sameb the_type m NL) ≡ false → not (same_mode m NL) ≡ false
 none-held NL h = refl
-none-held IS h = cc
-none-held IX h = cc
-none-held S h = cc
-none-held SIX h = cc
-none-held X h = cc
+none-held m h = cc
 
 pub returns-else-ne-clause-held : goal.returns-else-ne-clause-held
 returns-else-ne-clause-held c =

@@ -1,7 +1,4 @@
-use Rattle.std.proofs.Common.{◌∙◌, ap}
-use Rattle.gl_header.specs.Groups.{held_by}
-use Rattle.gl_header.specs.Header.{fits, with_mode}
-use Rattle.gl_header.specs.State.{slot_limit}
+use Rattle.gl_header.proofs.Words.{◌∙◌, ap, fits, held_by, slot_limit, with_mode}
 use Rattle.gl_header.proofs.First.{fits-nobody}
 use Rattle.gl_header.proofs.Unused.{unused-nobody}
 use Rattle.gl_header.proofs.group.Group.of.Goals as goal

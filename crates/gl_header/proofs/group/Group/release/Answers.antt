@@ -1,4 +1,4 @@
-use Rattle.std.proofs.Common.{◌∙◌, refl, sym}
+use Rattle.gl_header.proofs.Words.{◌∙◌, refl, sym}
 use Rattle.gl_header.proofs.Groups.{absent-without, apart-other, released-held, released-intent}
 use Rattle.gl_header.proofs.group.Group.release.Goals as goal
 

@@ -1,9 +1,5 @@
-use Rattle.std.proofs.Common.{sym, ap, ◌∙◌, cond}
-use Rattle.gl_modes.proofs.Words.{not_true}
-use Rattle.gl_modes.specs.declared.mode.Mode.TheVariants.{IS}
-use Rattle.gl_modes.specs.Modes.{supremum}
+use Rattle.gl_header.proofs.Words.{◌∙◌, ap, cond, has_none, IS, not_true, supremum, sym}
 use Rattle.gl_slots.proofs.SlotLemmas.{none-test, test-none}
-use Rattle.gl_slots.specs.Slots.{has_none}
 use Rattle.gl_header.proofs.group.Group.supremum.Goals as goal
 
 pub returns-then-is_empty : goal.returns-then-is_empty

@@ -1,9 +1,5 @@
-use Rattle.std.proofs.Common.{◌≡◌, [], refl, sym, subst, ap, ◌∙◌}
-use Rattle.gl_header.specs.Groups.{Grouped, held_by}
-use Rattle.gl_header.specs.Header.{front, without_waiter}
-use Rattle.gl_header.specs.Entries.{without}
-use Rattle.gl_header.specs.Sound.{IsLawful}
-use Rattle.gl_header.specs.State.{HeaderState, members_of, slot_limit}
+use Rattle.gl_header.proofs.Words.{[], ◌∙◌, ◌≡◌, ap, front, Grouped, HeaderState, held_by, IsLawful, members_of, refl, slot_limit, subst, sym, without}
+use Rattle.gl_header.proofs.Words.{without_waiter}
 use Rattle.gl_header.proofs.Queues.{without-queue}
 use Rattle.gl_header.proofs.Orderly.{orderly-waiter_gone}
 use Rattle.gl_header.proofs.Pumped.{front-stuck}

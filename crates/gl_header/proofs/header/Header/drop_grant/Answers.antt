@@ -1,13 +1,9 @@
-use Rattle.std.proofs.Common.{◌≡◌, true, false, refl, sym, subst}
-use Rattle.gl_modes.specs.declared.mode.Mode.TheVariants.{NL}
-use Rattle.gl_header.specs.Groups.{held_by}
-use Rattle.gl_header.specs.Header.{holds, is_among_waiters, with_mode, pumped_members, pumped_queue}
-use Rattle.gl_header.specs.Sound.{IsOrderly, IsLawful}
-use Rattle.gl_header.specs.State.{HeaderState, members_of, slot_limit}
+use Rattle.gl_header.proofs.Words.{◌≡◌, false, HeaderState, held_by, holds, is_among_waiters, IsLawful, IsOrderly, members_of, NL, pumped_members, pumped_queue}
+use Rattle.gl_header.proofs.Words.{refl, slot_limit, subst, sym, true, with_mode}
 use Rattle.gl_header.proofs.Orderly.{member-below, orderly-member_gone}
 use Rattle.gl_header.proofs.Pumped.{lawful-pumped}
 use Rattle.gl_header.proofs.Lawful.{lawful}
-use Rattle.gl_header.proofs.Asks.{orderly-by, lawful-by}
+use Rattle.gl_header.proofs.Asks.{lawful-by, orderly-by}
 use Rattle.gl_header.proofs.header.Header.drop_grant.Goals as goal
 
 orderly : (c : goal.After-pump) → IsOrderly (held_by c.release.new.self) c.self.inside.queue.items

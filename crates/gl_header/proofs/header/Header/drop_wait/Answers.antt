@@ -1,14 +1,10 @@
-use Rattle.std.proofs.Common.{◌≡◌, refl, subst, ap, ◌∙◌}
-use Rattle.gl_header.specs.Groups.{held_by}
-use Rattle.gl_header.specs.Header.{front, pumped_members, pumped_queue, without_waiter}
-use Rattle.gl_header.specs.Entries.{without}
-use Rattle.gl_header.specs.Sound.{IsOrderly, IsLawful}
-use Rattle.gl_header.specs.State.{HeaderState, members_of, slot_limit}
+use Rattle.gl_header.proofs.Words.{◌∙◌, ◌≡◌, ap, front, HeaderState, held_by, IsLawful, IsOrderly, members_of, pumped_members, pumped_queue, refl, slot_limit}
+use Rattle.gl_header.proofs.Words.{subst, without, without_waiter}
 use Rattle.gl_header.proofs.Queues.{without-queue}
 use Rattle.gl_header.proofs.Orderly.{orderly-waiter_gone}
 use Rattle.gl_header.proofs.Pumped.{lawful-pumped}
 use Rattle.gl_header.proofs.Lawful.{lawful}
-use Rattle.gl_header.proofs.Asks.{orderly-by, lawful-by}
+use Rattle.gl_header.proofs.Asks.{lawful-by, orderly-by}
 use Rattle.gl_header.proofs.header.Header.drop_wait.Goals as goal
 
 pub pump-requires-clause-orderly : goal.pump-requires-clause-orderly

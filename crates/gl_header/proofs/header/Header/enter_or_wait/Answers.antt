@@ -1,10 +1,5 @@
-use Rattle.std.proofs.Common.{◌≡◌, true, false, refl, sym, subst, ap, ◌∙◌}
-use Rattle.gl_modes.specs.Modes.{supremum}
-use Rattle.gl_header.specs.Answers.{asked_queue}
-use Rattle.gl_header.specs.Groups.{held_by}
-use Rattle.gl_header.specs.Header.{enters, is_among_waiters}
-use Rattle.gl_header.specs.Sound.{IsLawful, state_of}
-use Rattle.gl_header.specs.State.{HeaderState, is_granted, members_of, slot_limit, wanted}
+use Rattle.gl_header.proofs.Words.{◌∙◌, ◌≡◌, ap, asked_queue, enters, false, HeaderState, held_by, is_among_waiters, is_granted, IsLawful, members_of, refl}
+use Rattle.gl_header.proofs.Words.{slot_limit, state_of, subst, supremum, sym, true, wanted}
 use Rattle.gl_header.proofs.Lawful.{lawful}
 use Rattle.gl_header.proofs.Asks.{lawful-by, lawful-granted, lawful-waiting, queue-waiting}
 use Rattle.gl_header.proofs.header.Header.enter_or_wait.Goals as goal

@@ -1,6 +1,4 @@
-use Rattle.std.proofs.Common.{◌≡◌, subst, ◌∙◌}
-use Rattle.gl_header.specs.Header.{group_of}
-use Rattle.gl_header.specs.State.{HeaderState, members_of, slot_limit}
+use Rattle.gl_header.proofs.Words.{◌∙◌, ◌≡◌, group_of, HeaderState, members_of, slot_limit, subst}
 use Rattle.gl_header.proofs.Groups.{group_mode-is}
 use Rattle.gl_header.proofs.header.Header.group.Goals as goal
 

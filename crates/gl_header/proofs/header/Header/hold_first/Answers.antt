@@ -1,8 +1,4 @@
-use Rattle.std.proofs.Common.{◌≡◌, ◌∙◌, true, ap, sym}
-use Rattle.gl_header.specs.Groups.{held_by}
-use Rattle.gl_header.specs.Header.{with_mode}
-use Rattle.gl_header.specs.Sound.{IsLawful, state_of}
-use Rattle.gl_header.specs.State.{IsLawfulHeader, is_unused}
+use Rattle.gl_header.proofs.Words.{◌∙◌, ◌≡◌, ap, held_by, is_unused, IsLawful, IsLawfulHeader, state_of, sym, true, with_mode}
 use Rattle.gl_header.proofs.Lawful.{lawful}
 use Rattle.gl_header.proofs.Asks.{lawful-granted}
 use Rattle.gl_header.proofs.First.{first-free, first-granted, first-nobody, first-wanted}

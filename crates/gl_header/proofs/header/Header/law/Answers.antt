@@ -1,5 +1,4 @@
-use Rattle.std.proofs.Common.{subst}
-use Rattle.gl_header.specs.State.{HeaderState, IsLawfulHeader}
+use Rattle.gl_header.proofs.Words.{HeaderState, IsLawfulHeader, subst}
 use Rattle.gl_header.proofs.Lawful.{lawful}
 use Rattle.gl_header.proofs.header.Header.law.Goals as goal
 

@@ -1,6 +1,4 @@
-use Rattle.std.proofs.Common.{[], refl, ap, ◌∙◌}
-use Rattle.gl_header.specs.Groups.{held_by, nobody}
-use Rattle.gl_header.specs.Sound.{IsLawful}
+use Rattle.gl_header.proofs.Words.{[], ◌∙◌, ap, held_by, IsLawful, nobody, refl}
 use Rattle.gl_header.proofs.Unused.{unused-nobody}
 use Rattle.gl_header.proofs.Asks.{lawful-by}
 use Rattle.gl_header.proofs.header.Header.new.Goals as goal

@@ -1,9 +1,5 @@
-use Rattle.std.proofs.Common.{◌≡◌, true, false, sym, subst, ap, ◌∙◌, arith}
-use Rattle.gl_modes.specs.Modes.{supremum}
-use Rattle.gl_header.specs.Groups.{held_by}
-use Rattle.gl_header.specs.Header.{enters, is_among_waiters}
-use Rattle.gl_header.specs.Sound.{IsLawful, state_of}
-use Rattle.gl_header.specs.State.{HeaderState, IsLawfulHeader, is_granted, members_of, slot_limit, wanted}
+use Rattle.gl_header.proofs.Words.{◌∙◌, ◌≡◌, ap, arith, enters, false, HeaderState, held_by, is_among_waiters, is_granted, IsLawful, IsLawfulHeader, members_of}
+use Rattle.gl_header.proofs.Words.{slot_limit, state_of, subst, supremum, sym, true, wanted}
 use Rattle.gl_header.proofs.Lawful.{lawful}
 use Rattle.gl_header.proofs.Asks.{lawful-granted}
 use Rattle.gl_header.proofs.header.Header.try_ask.Goals as goal

@@ -1,9 +1,5 @@
-use Rattle.std.proofs.Common.{◌≡◌, ℕ, Bool, ◌&&◌, ◌||◌, ◌==◌, not, subst, ap, ap₂, ◌∙◌, arith}
-use Rattle.std.proofs.lemmas.Bool.Decides.{nat_tests}
-use Rattle.gl_modes.specs.Modes.{are_compatible}
-use Rattle.gl_slots.specs.Slots.{has_slot}
-use Rattle.gl_header.specs.Header.{is_ahead}
-use Rattle.gl_header.specs.State.{HeaderState, members_of}
+use Rattle.gl_header.proofs.Words.{◌&&◌, ◌==◌, ◌||◌, ◌∙◌, ◌≡◌, ap, ap₂, are_compatible, arith, Bool, has_slot, HeaderState, is_ahead, members_of, nat_tests}
+use Rattle.gl_header.proofs.Words.{not, subst, ℕ}
 use Rattle.gl_header.proofs.header.Header.waits_for.Goals as goal
 
 turned : (b : Bool) (u s : ℕ) → (b && not (u == s)) ≡ (not (s == u) && b)

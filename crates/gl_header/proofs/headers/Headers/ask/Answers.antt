@@ -1,10 +1,5 @@
-use Rattle.std.proofs.Common.{◌≡◌, ◌∙◌, ap, refl, sym}
-use Rattle.gl_modes.proofs.Words.{clash}
-use Rattle.gl_header.specs.Answers.{asked}
-use Rattle.gl_header.specs.Header.{holds, is_among_waiters}
-use Rattle.gl_header.specs.Places.{ArePlaces, entries_in}
-use Rattle.gl_header.specs.State.{HeaderState, is_granted, members_of}
-use Rattle.gl_header.proofs.AtPlace.{IsAt, asked-changed, asked-places, entries_are, held_place, is_asked, is_at-alone}
+use Rattle.gl_header.proofs.Words.{◌∙◌, ◌≡◌, ap, ArePlaces, asked, clash, entries_in, HeaderState, holds, is_among_waiters, is_granted, members_of, refl, sym}
+use Rattle.gl_header.proofs.AtPlace.{asked-changed, asked-places, entries_are, held_place, is_asked, is_at-alone, IsAt}
 use Rattle.gl_header.proofs.ByKey.{places-same}
 use Rattle.gl_header.proofs.Changed.{asked-granted, asked-waits}
 use Rattle.gl_header.proofs.headers.Headers.ask.Goals.{After-index_mut-place}

@@ -1,9 +1,5 @@
-use Rattle.std.proofs.Common.{◌∙◌, ap, arith, refl}
-use Rattle.gl_header.specs.Header.{front, is_among_waiters, without_waiter}
-use Rattle.gl_header.specs.Headers.{held_of}
-use Rattle.gl_header.specs.Places.{members_by}
-use Rattle.gl_header.specs.State.{HeaderState, members_of, slot_limit}
-use Rattle.gl_header.proofs.AtPlace.{IsAt, awaited_at, awaited_place, entries_are, write-held, write-places, write-queue}
+use Rattle.gl_header.proofs.Words.{◌∙◌, ap, arith, front, HeaderState, held_of, is_among_waiters, members_by, members_of, refl, slot_limit, without_waiter}
+use Rattle.gl_header.proofs.AtPlace.{awaited_at, awaited_place, entries_are, IsAt, write-held, write-places, write-queue}
 use Rattle.gl_header.proofs.Changed.{with_members-same}
 use Rattle.gl_header.proofs.headers.Headers.dismiss.Goals.{After-index_mut}
 use Rattle.gl_header.proofs.headers.Headers.dismiss.Goals as goal

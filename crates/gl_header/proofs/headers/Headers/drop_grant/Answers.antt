@@ -1,8 +1,6 @@
-use Rattle.std.proofs.Common.{◌∙◌, ap, arith}
-use Rattle.gl_modes.specs.declared.mode.Mode.TheVariants.{NL}
-use Rattle.gl_header.specs.Header.{front, holds, is_among_waiters, pumped_members, pumped_queue, with_mode}
-use Rattle.gl_header.specs.State.{HeaderState, members_of, slot_limit}
-use Rattle.gl_header.proofs.AtPlace.{IsAt, entries_are, held_at, held_place, write-held, write-places, write-queue}
+use Rattle.gl_header.proofs.Words.{◌∙◌, ap, arith, front, HeaderState, holds, is_among_waiters, members_of, NL, pumped_members, pumped_queue, slot_limit}
+use Rattle.gl_header.proofs.Words.{with_mode}
+use Rattle.gl_header.proofs.AtPlace.{entries_are, held_at, held_place, IsAt, write-held, write-places, write-queue}
 use Rattle.gl_header.proofs.headers.Headers.drop_grant.Goals.{After-index_mut-place}
 use Rattle.gl_header.proofs.headers.Headers.drop_grant.Goals as goal
 

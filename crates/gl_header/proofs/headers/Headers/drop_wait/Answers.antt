@@ -1,7 +1,5 @@
-use Rattle.std.proofs.Common.{◌∙◌, ap, arith}
-use Rattle.gl_header.specs.Header.{front, is_among_waiters, pumped_members, pumped_queue, without_waiter}
-use Rattle.gl_header.specs.State.{HeaderState, members_of, slot_limit}
-use Rattle.gl_header.proofs.AtPlace.{IsAt, awaited_at, awaited_place, entries_are, write-held, write-places, write-queue}
+use Rattle.gl_header.proofs.Words.{◌∙◌, ap, arith, front, HeaderState, is_among_waiters, members_of, pumped_members, pumped_queue, slot_limit, without_waiter}
+use Rattle.gl_header.proofs.AtPlace.{awaited_at, awaited_place, entries_are, IsAt, write-held, write-places, write-queue}
 use Rattle.gl_header.proofs.headers.Headers.drop_wait.Goals.{After-index_mut-place}
 use Rattle.gl_header.proofs.headers.Headers.drop_wait.Goals as goal
 

@@ -1,7 +1,4 @@
-use Rattle.std.proofs.Common.{◌∙◌, ap, sym}
-use Rattle.gl_header.specs.Header.{group_of}
-use Rattle.gl_header.specs.Headers.{header_or_new}
-use Rattle.gl_header.specs.State.{members_of, slot_limit}
+use Rattle.gl_header.proofs.Words.{◌∙◌, ap, group_of, header_or_new, members_of, slot_limit, sym}
 use Rattle.gl_header.proofs.Changed.{nobody-group}
 use Rattle.gl_header.proofs.Unused.{unused-nobody}
 use Rattle.gl_header.proofs.headers.Headers.group.Goals as goal

@@ -1,7 +1,4 @@
-use Rattle.std.proofs.Common.{◌∙◌, ap, sym}
-use Rattle.gl_header.specs.Header.{holds}
-use Rattle.gl_header.specs.Headers.{header_or_new}
-use Rattle.gl_header.specs.State.{members_of}
+use Rattle.gl_header.proofs.Words.{◌∙◌, ap, header_or_new, holds, members_of, sym}
 use Rattle.gl_header.proofs.Alone.{alone-below}
 use Rattle.gl_header.proofs.headers.Headers.holders.Goals as goal
 

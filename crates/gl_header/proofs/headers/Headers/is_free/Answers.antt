@@ -1,9 +1,4 @@
-use Rattle.std.proofs.Common.{◌≡◌, ◌∙◌, ap, arith, refl, sym}
-use Rattle.std.proofs.lemmas.List.{get_or_past}
-use Rattle.std.specs.Prelude.{length, slice_index_or}
-use Rattle.gl_modes.proofs.Words.{clash}
-use Rattle.gl_header.specs.Places.{place_at}
-use Rattle.gl_header.specs.declared.places.Place.TheVariants.{Free}
+use Rattle.gl_header.proofs.Words.{◌∙◌, ◌≡◌, ap, arith, clash, Free, get_or_past, length, place_at, refl, slice_index_or, sym}
 use Rattle.gl_header.proofs.AtPlace.{entries_are, free_key, free_standing, nothing-free}
 use Rattle.gl_header.proofs.headers.Headers.is_free.Goals as goal
 

@@ -1,5 +1,4 @@
-use Rattle.std.proofs.Common.{subst}
-use Rattle.gl_header.specs.Headers.{AreDistinct, AreHeaders}
+use Rattle.gl_header.proofs.Words.{AreDistinct, AreHeaders, subst}
 use Rattle.gl_header.proofs.AtPlace.{alone_by_key, entries_are}
 use Rattle.gl_header.proofs.ByKey.{are_headers, distinct}
 use Rattle.gl_header.proofs.headers.Headers.law.Goals as goal

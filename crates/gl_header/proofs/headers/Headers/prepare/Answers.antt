@@ -1,4 +1,4 @@
-use Rattle.std.proofs.Common.{refl}
+use Rattle.gl_header.proofs.Words.{refl}
 use Rattle.gl_header.proofs.Alone.{alone-lawful}
 use Rattle.gl_header.proofs.headers.Headers.prepare.Goals as goal
 

@@ -1,8 +1,4 @@
-use Rattle.std.proofs.Common.{◌<◌, ap, arith, length, refl}
-use Rattle.gl_header.specs.Headers.{HeadersState}
-use Rattle.gl_header.specs.Places.{IsOf, IsPlace}
-use Rattle.gl_header.specs.State.{HeaderState, held_by_one, members_of}
-use Rattle.gl_header.specs.declared.places.Place.TheVariants.{Held}
+use Rattle.gl_header.proofs.Words.{◌<◌, ap, arith, HeadersState, HeaderState, Held, held_by_one, IsOf, IsPlace, length, members_of, refl}
 use Rattle.gl_header.proofs.Alone.{alone-below, alone-lock, alone-used}
 use Rattle.gl_header.proofs.AtPlace.{entries_are, free-own, of-is, place-is, write-held, write-places, write-queue}
 use Rattle.gl_header.proofs.headers.Headers.put.Goals as goal

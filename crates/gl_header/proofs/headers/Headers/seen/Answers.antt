@@ -1,9 +1,4 @@
-use Rattle.std.proofs.Common.{◌∙◌, ap, arith, sym}
-use Rattle.std.proofs.lemmas.List.{get_or_past}
-use Rattle.std.specs.Prelude.{length, slice_index_or}
-use Rattle.gl_header.specs.Places.{header_in, stands}
-use Rattle.gl_header.specs.declared.places.Place.{Place}
-use Rattle.gl_header.specs.declared.places.Place.TheVariants.{Free}
+use Rattle.gl_header.proofs.Words.{◌∙◌, ap, arith, Free, get_or_past, header_in, length, Place, slice_index_or, stands, sym}
 use Rattle.gl_header.proofs.AtPlace.{entries_are, found_in, lawful-at}
 use Rattle.gl_header.proofs.headers.Headers.seen.Goals as goal
 

@@ -1,12 +1,8 @@
-use Rattle.std.proofs.Common.{◌≡◌, ◌∙◌, [], ap, arith, refl, subst, sym}
-use Rattle.std.specs.Prelude.{IfNone, IfSome, Some, slice_set}
-use Rattle.gl_modes.specs.declared.mode.Mode.TheVariants.{NL}
-use Rattle.gl_header.specs.Headers.{header_at, header_or_new, held_of, queue_of}
-use Rattle.gl_header.specs.Places.{ArePlaces, entries_in, header_of, stands}
-use Rattle.gl_header.specs.State.{HeaderState}
-use Rattle.gl_header.specs.declared.places.Shared.{Shared}
-use Rattle.gl_header.proofs.AtPlace.{IsAt, entries_are, free-of, free-place, has_header_at, has_place, is_at, no_box-no_queue}
-use Rattle.gl_header.proofs.AtPlace.{write-held, write-places, write-queue}
+use Rattle.gl_header.proofs.Words.{[], ◌∙◌, ◌≡◌, ap, ArePlaces, arith, entries_in, header_at, header_of, header_or_new, HeaderState, held_of, NL, queue_of}
+use Rattle.gl_header.proofs.Words.{refl, Shared, slice_set, Some, stands, subst, sym}
+use Rattle.std.specs.Prelude.{IfNone, IfSome}
+use Rattle.gl_header.proofs.AtPlace.{entries_are, free-of, free-place, has_header_at, has_place, is_at, IsAt, no_box-no_queue, write-held, write-places}
+use Rattle.gl_header.proofs.AtPlace.{write-queue}
 use Rattle.gl_header.proofs.Unused.{unused-nobody}
 use Rattle.gl_header.proofs.headers.Headers.take.Goals.{in-Shared, in_default}
 use Rattle.gl_header.proofs.headers.Headers.take.Goals as goal

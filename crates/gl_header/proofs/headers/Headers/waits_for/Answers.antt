@@ -1,4 +1,4 @@
-use Rattle.std.proofs.Common.{sym}
+use Rattle.gl_header.proofs.Words.{sym}
 use Rattle.gl_header.proofs.Alone.{alone-below}
 use Rattle.gl_header.proofs.headers.Headers.waits_for.Goals as goal
 

@@ -1,9 +1,4 @@
-use Rattle.std.proofs.Common.{[], ◌∙◌, ap, sym}
-use Rattle.gl_modes.specs.Modes.{supremum}
-use Rattle.gl_modes.proofs.Words.{number_same}
-use Rattle.gl_header.specs.Header.{Members, enters}
-use Rattle.gl_header.specs.Headers.{header_or_new}
-use Rattle.gl_header.specs.State.{held_by_one, is_granted, slot_limit}
+use Rattle.gl_header.proofs.Words.{[], ◌∙◌, ap, enters, header_or_new, held_by_one, is_granted, Members, number_same, slot_limit, supremum, sym}
 use Rattle.gl_header.proofs.Alone.{alone-below, other-granted, own-granted}
 use Rattle.gl_header.proofs.Changed.{nobody-enters}
 use Rattle.gl_header.proofs.Unused.{unused-nobody}

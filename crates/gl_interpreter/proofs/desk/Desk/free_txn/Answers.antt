@@ -1,6 +1,5 @@
-use Rattle.std.proofs.Common.{◌≡◌, sym, ◌∙◌, true≢false}
+use Rattle.gl_interpreter.proofs.Words.{◌∙◌, ◌≡◌, names_of, sym, true≢false}
 use Rattle.gl_steps.specs.declared.command.Answer.TheVariants as answer
-use Rattle.gl_interpreter.specs.Views.{names_of}
 use Rattle.gl_interpreter.proofs.desk.Desk.free_txn.Goals.{in-Done, in_default}
 use Rattle.gl_interpreter.proofs.desk.Desk.free_txn.Goals as goal
 

@@ -1,4 +1,4 @@
-use Rattle.gl_interpreter.specs.Views.{names_of}
+use Rattle.gl_interpreter.proofs.Words.{names_of}
 use Rattle.gl_interpreter.proofs.desk.Desk.make_room.Goals as goal
 
 pub returns-in-Node-clause-names : goal.returns-in-Node-clause-names

@@ -1,9 +1,5 @@
-use Rattle.std.proofs.Common.{◌∙◌, ap, Some, Option, if◌then◌else◌}
-use Rattle.std.specs.Str.{bytes_eq}
-use Rattle.gl_model.specs.declared.txn.TxnId.{TxnId}
-use Rattle.gl_script.specs.Grammar.{Text}
+use Rattle.gl_interpreter.proofs.Words.{◌∙◌, ap, bytes_eq, if◌then◌else◌, names_of, Option, Some, Text, TxnId}
 use Rattle.gl_interpreter.specs.Names.{same_txn}
-use Rattle.gl_interpreter.specs.Views.{names_of}
 use Rattle.gl_interpreter.proofs.desk.Desk.name_next_txn.Goals as goal
 
 -- the ids of names, with one more

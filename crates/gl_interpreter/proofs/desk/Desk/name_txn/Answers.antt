@@ -1,4 +1,4 @@
-use Rattle.gl_interpreter.specs.Views.{names_of}
+use Rattle.gl_interpreter.proofs.Words.{names_of}
 use Rattle.gl_interpreter.proofs.desk.Desk.name_txn.Goals as goal
 
 pub returns-in-Begun-clause-names : goal.returns-in-Begun-clause-names

@@ -1,9 +1,6 @@
-use Rattle.std.proofs.Common.{◌≤◌, ◌<◌, ◌∷◌, [], ◌++◌, length, map, arith, ap, ap₂, sym, ◌∙◌, length-take, None, get_or}
-use Rattle.std.proofs.lemmas.List.{get_or-map, get_or_default, length-map, take_more}
-use Rattle.gl_script.specs.declared.reads.Used.{Used}
-use Rattle.gl_script.specs.Views.{node_of, nodes_of}
-use Rattle.gl_interpreter.specs.Script.{node_id, node_ids}
-use Rattle.gl_interpreter.specs.Views.{script_of}
+use Rattle.gl_interpreter.proofs.Words.{◌++◌, ◌<◌, [], ◌∙◌, ◌∷◌, ◌≤◌, ap, ap₂, arith, get_or, get_or-map, get_or_default, length, length-map, length-take, map}
+use Rattle.gl_interpreter.proofs.Words.{node_id, node_ids, node_of, None, script_of, sym, take_more, Used}
+use Rattle.gl_script.specs.Views.{nodes_of}
 use Rattle.gl_interpreter.proofs.Registers.{on_ok}
 use Rattle.gl_interpreter.proofs.desk.Desk.resolve.Goals as goal
 

@@ -1,7 +1,5 @@
-use Rattle.std.proofs.Common.{◌≡◌, take}
+use Rattle.gl_interpreter.proofs.Words.{◌≡◌, node_ids, script_of, take}
 use Rattle.gl_script.specs.Views.{nodes_of}
-use Rattle.gl_interpreter.specs.Script.{node_ids}
-use Rattle.gl_interpreter.specs.Views.{script_of}
 use Rattle.gl_interpreter.proofs.desk.Desk.resolve.Given as goal
 
 abbrev pub invariant-loop-node : goal.invariant-loop-node

@@ -1,16 +1,11 @@
-use Rattle.std.proofs.Common.{refl, ap, sym, ◌∙◌, subst}
-use Rattle.std.specs.Prelude.{ℕ}
+use Rattle.gl_interpreter.proofs.Words.{◌∙◌, ap, command_of, does_to_names, ManagerView, names_of, nodes_of, refl, Script, script_of, state_of, subst, sym, ℕ}
 use Rattle.gl_table.specs.Orders.{KeepsPlaces}
-use Rattle.gl_table.specs.Table.{nodes_of}
 use Rattle.gl_catalog.specs.Deadlocks.{KeepsDeadlock}
-use Rattle.gl_catalog.specs.Manager.{ManagerView, state_of}
 use Rattle.gl_steps.specs.Step.{Step}
-use Rattle.gl_script.specs.Views.{command_of}
 use Rattle.gl_interpreter.specs.declared.request.Request.{Request}
 use Rattle.gl_interpreter.specs.declared.request.Said.TheVariants as said
 use Rattle.gl_interpreter.specs.Rooms.{HasRoomFor}
-use Rattle.gl_interpreter.specs.Script.{Asks, IsStoodFor, Releases, Script, Serves, does_to_names, is_in_use, mark_of, renamed}
-use Rattle.gl_interpreter.specs.Views.{names_of, script_of}
+use Rattle.gl_interpreter.specs.Script.{Asks, is_in_use, IsStoodFor, mark_of, Releases, renamed, Serves}
 use Rattle.gl_interpreter.proofs.Serving.{does_handed, does_refused, same_script}
 use Rattle.gl_interpreter.proofs.desk.Desk.serve.Goals as goal
 

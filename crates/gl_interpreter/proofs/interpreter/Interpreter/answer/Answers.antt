@@ -1,6 +1,5 @@
-use Rattle.std.proofs.Common.{is_some, true≢false, sym, ap, ◌∙◌}
+use Rattle.gl_interpreter.proofs.Words.{◌∙◌, ap, is_some, script_of, sym, true≢false}
 use Rattle.gl_interpreter.specs.SoFar.{Answered, CarriesOut}
-use Rattle.gl_interpreter.specs.Views.{script_of}
 use Rattle.gl_interpreter.proofs.Openings.{goes_on, nothing}
 use Rattle.gl_interpreter.proofs.interpreter.Interpreter.answer.Goals as goal
 

@@ -1,11 +1,6 @@
-use Rattle.std.proofs.Common.{◌≡◌, None, Some, sym, ap, ◌∙◌, subst}
-use Rattle.std.specs.Prelude.{codes}
-use Rattle.gl_modes.proofs.Words.{none_some}
-use Rattle.gl_table.specs.Table.{nodes_of}
-use Rattle.gl_catalog.specs.Manager.{ManagerView, state_of}
-use Rattle.gl_interpreter.specs.Report.{Prints}
-use Rattle.gl_interpreter.specs.SoFar.{Answered, CarriesOut, IsReadyWith, stage_with}
-use Rattle.gl_interpreter.specs.Views.{script_of}
+use Rattle.gl_interpreter.proofs.Words.{◌∙◌, ◌≡◌, ap, codes, IsReadyWith, ManagerView, nodes_of, None, none_some, Prints, script_of, Some, stage_with, state_of}
+use Rattle.gl_interpreter.proofs.Words.{subst, sym}
+use Rattle.gl_interpreter.specs.SoFar.{Answered, CarriesOut}
 use Rattle.gl_interpreter.proofs.Openings.{chooses, goes_on}
 use Rattle.gl_interpreter.proofs.interpreter.Interpreter.answer_first.Goals.{in_default-via-in-Some+in_default, in_default-via-in_default}
 use Rattle.gl_interpreter.proofs.interpreter.Interpreter.answer_first.Goals as goal

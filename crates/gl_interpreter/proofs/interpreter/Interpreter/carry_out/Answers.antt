@@ -1,13 +1,11 @@
-use Rattle.std.proofs.Common.{ℕ, List, [], ◌≢◌, length, refl, inl, inr, arith}
+use Rattle.gl_interpreter.proofs.Words.{[], ◌≢◌, arith, command_of, inl, inr, length, List, other_test, refl, same_test, script_of, ℕ}
 use Rattle.std.specs.Prelude.{slice_index}
-use Rattle.gl_script.specs.Views.{command_of, listing_of}
+use Rattle.gl_script.specs.Views.{listing_of}
 use Rattle.gl_interpreter.specs.Printed.{printed}
-use Rattle.gl_interpreter.specs.Report.{IsSilent, bad_line}
+use Rattle.gl_interpreter.specs.Report.{bad_line, IsSilent}
 use Rattle.gl_interpreter.specs.SoFar.{CarriesOut, IsShown, Obeys}
-use Rattle.gl_interpreter.specs.Views.{script_of}
-use Rattle.gl_script.proofs.Splitting.{other_test, same_test}
 use Rattle.gl_interpreter.proofs.Writing.{Hands-none}
-use Rattle.gl_interpreter.proofs.interpreter.Interpreter.carry_out.Goals.{then-is_empty-via-then-is_empty, then-is_empty-via-else-is_empty+then-line-eq35}
+use Rattle.gl_interpreter.proofs.interpreter.Interpreter.carry_out.Goals.{then-is_empty-via-else-is_empty+then-line-eq35, then-is_empty-via-then-is_empty}
 use Rattle.gl_interpreter.proofs.interpreter.Interpreter.carry_out.Goals as goal
 
 -- a line has an answer if it is neither empty nor a comment

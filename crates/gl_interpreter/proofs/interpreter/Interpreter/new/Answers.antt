@@ -1,11 +1,7 @@
-use Rattle.std.proofs.Common.{◌≡◌, Some, refl, sym, ap, ◌∙◌, subst}
-use Rattle.gl_table.specs.Table.{nodes_of}
-use Rattle.gl_catalog.specs.Manager.{ManagerView, state_of}
+use Rattle.gl_interpreter.proofs.Words.{◌∙◌, ◌≡◌, ap, choices_of, IsReadyWith, ManagerView, nodes_of, Opening, refl, Script, script_of, Some, state_of, subst}
+use Rattle.gl_interpreter.proofs.Words.{sym}
 use Rattle.gl_script.specs.declared.form.Version.TheVariants as version
-use Rattle.gl_interpreter.specs.Report.{Opening}
-use Rattle.gl_interpreter.specs.Script.{Script, begun}
-use Rattle.gl_interpreter.specs.SoFar.{IsReadyWith, choices_of}
-use Rattle.gl_interpreter.specs.Views.{script_of}
+use Rattle.gl_interpreter.specs.Script.{begun}
 use Rattle.gl_interpreter.proofs.Orders.{none_kept}
 use Rattle.gl_interpreter.proofs.interpreter.Interpreter.new.Goals as goal
 

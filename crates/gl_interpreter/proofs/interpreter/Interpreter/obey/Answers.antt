@@ -1,4 +1,4 @@
-use Rattle.std.proofs.Common.{refl}
+use Rattle.gl_interpreter.proofs.Words.{refl}
 use Rattle.gl_interpreter.specs.SoFar.{Obeys}
 use Rattle.gl_interpreter.proofs.Writing.{Hands-then}
 use Rattle.gl_interpreter.proofs.interpreter.Interpreter.obey.Goals as goal

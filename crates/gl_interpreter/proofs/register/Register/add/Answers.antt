@@ -1,4 +1,4 @@
-use Rattle.std.proofs.Common.{Some}
+use Rattle.gl_interpreter.proofs.Words.{Some}
 use Rattle.gl_interpreter.proofs.Registers.{ids-updated, names-updated, on_ok}
 use Rattle.gl_interpreter.proofs.register.Register.add.Goals as goal
 

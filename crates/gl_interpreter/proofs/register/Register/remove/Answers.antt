@@ -1,4 +1,4 @@
-use Rattle.std.proofs.Common.{None, [], refl, arith}
+use Rattle.gl_interpreter.proofs.Words.{[], arith, None, refl}
 use Rattle.gl_interpreter.proofs.Registers.{ids-updated, names-updated}
 use Rattle.gl_interpreter.proofs.register.Register.remove.Goals as goal
 

@@ -1,8 +1,4 @@
-use Rattle.gl_lock_lists.specs.Lists.{count_of, is_listed, mode_of}
-use Rattle.gl_modes.specs.Nodes.{same_node}
-use Rattle.indexmap.specs.IndexMap.{keys, spare}
-use Rattle.std.specs.List.{count_by}
-use Rattle.std.specs.Prelude.{take, ◌+◌, ◌≡◌, ◌≤◌}
+use Rattle.gl_lock_lists.proofs.Words.{◌+◌, ◌≡◌, ◌≤◌, count_by, count_of, is_listed, keys, mode_of, same_node, spare, take}
 use Rattle.gl_modes.specs.declared.node.NodeId.{NodeId as Node}
 use Rattle.gl_lock_lists.proofs.list.LockList.count_down.Given as goal
 

@@ -1,8 +1,5 @@
 use Rattle.gl_lock_lists.specs.Apart.{IsApart}
-use Rattle.gl_lock_lists.specs.Lists.{mode_in}
-use Rattle.std.proofs.Common.{ap, arith, refl, rules, sym, ◌∙◌}
-use Rattle.std.proofs.lemmas.Bool.{false≢true}
-use Rattle.std.specs.Prelude.{is_some, ◌-◌}
+use Rattle.gl_lock_lists.proofs.Words.{◌-◌, ◌∙◌, ap, arith, false≢true, is_some, mode_in, refl, rules, sym}
 use Rattle.gl_lock_lists.proofs.Lists.{at_each, CountsDown, CountsDown-last, IsWritten-same, IsWritten-twice, SameListed, SameMode, StaysApart}
 use Rattle.gl_lock_lists.proofs.list.LockList.count_one_down.Goals as goal
 

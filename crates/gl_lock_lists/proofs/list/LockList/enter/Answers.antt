@@ -1,5 +1,5 @@
 use Rattle.gl_lock_lists.specs.Apart.{IsApart}
-use Rattle.std.proofs.Common.{refl, sym, ◌∙◌}
+use Rattle.gl_lock_lists.proofs.Words.{◌∙◌, refl, sym}
 use Rattle.gl_lock_lists.proofs.Lists.{at_each, count_in-unlisted, SameCount, StaysApart}
 use Rattle.gl_lock_lists.proofs.list.LockList.enter.Goals as goal
 

@@ -1,15 +1,6 @@
-use Rattle.gl_graph.specs.Graph.{is_child}
-use Rattle.gl_graph.specs.View.{graph_of}
-use Rattle.gl_lock_lists.specs.Lists.{mode_of}
+use Rattle.gl_lock_lists.proofs.Words.{◌&&◌, ◌++◌, [], ◌∙◌, ◌∷◌, ◌≤◌, ap, get_or_from_slice_get, graph_of, is_child, keys, length-map, List, mode_of, NL}
+use Rattle.gl_lock_lists.proofs.Words.{NodeId, not, same_mode, slice_get_within, subst, sym, take, take_all, take_more, ℕ}
 use Rattle.gl_modes.proofs.Words.{and_both}
-use Rattle.gl_modes.specs.Modes.{same_mode}
-use Rattle.gl_modes.specs.declared.mode.Mode.TheVariants.{NL}
-use Rattle.gl_modes.specs.declared.node.NodeId.{NodeId}
-use Rattle.indexmap.specs.IndexMap.{keys}
-use Rattle.std.proofs.Common.{ap, subst, sym, ◌∙◌}
-use Rattle.std.proofs.lemmas.List.{length-map, take_all, take_more}
-use Rattle.std.proofs.lemmas.Option.{get_or_from_slice_get, slice_get_within}
-use Rattle.std.specs.Prelude.{List, [], not, take, ℕ, ◌&&◌, ◌++◌, ◌∷◌, ◌≤◌}
 use Rattle.gl_lock_lists.proofs.Children.{first_found, first_more, held_listed, IsFirst}
 use Rattle.gl_lock_lists.proofs.list.LockList.first_child.Goals as goal
 

@@ -1,10 +1,4 @@
-use Rattle.gl_graph.specs.Graph.{is_child}
-use Rattle.gl_graph.specs.View.{graph_of}
-use Rattle.gl_lock_lists.specs.Lists.{mode_of}
-use Rattle.gl_modes.specs.Modes.{same_mode}
-use Rattle.gl_modes.specs.declared.mode.Mode.TheVariants.{NL}
-use Rattle.indexmap.specs.IndexMap.{keys}
-use Rattle.std.specs.Prelude.{not, take, ◌&&◌}
+use Rattle.gl_lock_lists.proofs.Words.{◌&&◌, graph_of, is_child, keys, mode_of, NL, not, same_mode, take}
 use Rattle.gl_lock_lists.proofs.Children.{IsFirst}
 use Rattle.gl_lock_lists.proofs.list.LockList.first_child.Given as goal
 

@@ -1,11 +1,8 @@
 use Rattle.gl_lock_lists.specs.Apart.{IsApart}
-use Rattle.gl_lock_lists.specs.Lists.{count_in, loose_of}
-use Rattle.std.proofs.Common.{ap, arith, refl, rules, subst, sym, ◌∙◌, ◌≡◌}
-use Rattle.gl_modes.specs.declared.node.NodeId.{NodeId}
-use Rattle.std.proofs.lemmas.Bool.{false≢true}
+use Rattle.gl_lock_lists.proofs.Words.{◌∙◌, ◌≡◌, ap, arith, count_in, false≢true, IfOk-at_ok, is_some, loose_of, NodeId, None, Option, refl, rules, subst, sym}
+use Rattle.gl_lock_lists.proofs.Words.{ℕ}
 use Rattle.std.specs.declared.alloc.AllocFailed.{AllocFailed}
-use Rattle.std.proofs.lemmas.Result.{IfOk-at_ok}
-use Rattle.std.specs.Prelude.{Err, None, is_some, IsOk, Ok, Option, Result, ℕ}
+use Rattle.std.specs.Prelude.{Err, IsOk, Ok, Result}
 use Rattle.gl_lock_lists.proofs.Lists.{at_each, IsTakenOut, IsTakenOut-apart, IsTakenOut-here, IsWritten-same, SameCount, StaysApart}
 use Rattle.gl_lock_lists.proofs.list.LockList.leave.Goals as goal
 

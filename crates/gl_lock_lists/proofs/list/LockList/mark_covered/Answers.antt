@@ -1,7 +1,4 @@
-use Rattle.gl_graph.specs.View.{graph_of}
-use Rattle.std.proofs.Common.{refl, subst, sym, ◌∙◌}
-use Rattle.std.proofs.lemmas.List.{length-map}
-use Rattle.std.specs.Prelude.{ℕ, ◌<◌, ◌≤◌}
+use Rattle.gl_lock_lists.proofs.Words.{◌<◌, ◌∙◌, ◌≤◌, graph_of, length-map, refl, subst, sym, ℕ}
 use Rattle.gl_lock_lists.proofs.Children.{marks_begin, marks_end, marks_more}
 use Rattle.gl_lock_lists.proofs.list.LockList.mark_covered.Goals as goal
 

@@ -1,8 +1,4 @@
-use Rattle.gl_graph.specs.View.{graph_of}
-use Rattle.gl_lock_lists.specs.Lists.{count_of, is_listed}
-use Rattle.gl_modes.specs.declared.node.NodeId.{NodeId}
-use Rattle.indexmap.specs.IndexMap.{keys}
-use Rattle.std.specs.Prelude.{take, ◌≡◌}
+use Rattle.gl_lock_lists.proofs.Words.{◌≡◌, count_of, graph_of, is_listed, keys, NodeId, take}
 use Rattle.gl_lock_lists.proofs.Children.{HasMarked}
 use Rattle.gl_lock_lists.proofs.list.LockList.mark_covered.Given as goal
 

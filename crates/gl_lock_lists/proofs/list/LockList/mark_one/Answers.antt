@@ -1,6 +1,4 @@
-use Rattle.gl_graph.specs.View.{graph_of}
-use Rattle.gl_lock_lists.specs.Lists.{covered_in, mode_of}
-use Rattle.std.proofs.Common.{sym, ◌∙◌}
+use Rattle.gl_lock_lists.proofs.Words.{◌∙◌, covered_in, graph_of, mode_of, sym}
 use Rattle.gl_lock_lists.proofs.Lists.{key_at, marks_none, marks_one}
 use Rattle.gl_lock_lists.proofs.list.LockList.mark_one.Goals as goal
 

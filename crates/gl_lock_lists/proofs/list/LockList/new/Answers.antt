@@ -1,5 +1,5 @@
 use Rattle.gl_lock_lists.specs.Apart.{IsApart}
-use Rattle.std.proofs.Common.{rules}
+use Rattle.gl_lock_lists.proofs.Words.{rules}
 use Rattle.gl_lock_lists.proofs.list.LockList.new.Goals as goal
 
 pub invariant_of-result : goal.invariant_of-result

@@ -1,7 +1,5 @@
 use Rattle.gl_lock_lists.specs.Apart.{IsApart}
-use Rattle.gl_lock_lists.specs.Lists.{count_in, loose_of}
-use Rattle.std.proofs.Common.{ap, refl, rules, sym}
-use Rattle.std.specs.Prelude.{is_some}
+use Rattle.gl_lock_lists.proofs.Words.{ap, count_in, is_some, loose_of, refl, rules, sym}
 use Rattle.gl_lock_lists.proofs.Lists.{at_each, IsWritten-same, SameCount, SameListed, StaysApart}
 use Rattle.gl_lock_lists.proofs.list.LockList.set_mode.Goals as goal
 

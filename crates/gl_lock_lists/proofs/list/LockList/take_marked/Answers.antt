@@ -1,17 +1,7 @@
-use Rattle.gl_lock_lists.specs.Lists.{count_of, is_listed, mode_in, mode_of}
+use Rattle.gl_lock_lists.proofs.Words.{◌∙◌, ◌≤◌, ap, count_by, count_of, if◌then◌else◌, is_listed, is_some, is_some-lookup, keys, List, mode_in, mode_of, NL}
+use Rattle.gl_lock_lists.proofs.Words.{NodeId, not, option_map, same_mode, same_node, slice_get-map, subst, sym, ℕ}
 use Rattle.gl_modes.proofs.NodeLemmas.{same_node-differ, same_node-other}
-use Rattle.gl_modes.specs.Modes.{same_mode}
-use Rattle.gl_modes.specs.Nodes.{same_node}
-use Rattle.gl_modes.specs.declared.mode.Mode.TheVariants.{NL}
-use Rattle.gl_modes.specs.declared.node.NodeId.{NodeId}
 use Rattle.indexmap.proofs.SetLemmas.{keys_swap_remove_entry}
-use Rattle.indexmap.specs.IndexMap.{keys}
-use Rattle.std.proofs.Common.{ap, subst, sym, ◌∙◌}
-use Rattle.std.proofs.lemmas.Map.Made.{is_some-lookup}
-use Rattle.std.proofs.lemmas.Option.{slice_get-map}
-use Rattle.std.specs.List.{count_by}
-use Rattle.std.specs.Option.{option_map}
-use Rattle.std.specs.Prelude.{List, if◌then◌else◌, is_some, not, ℕ, ◌≤◌}
 use Rattle.gl_lock_lists.proofs.Lists.{first_or_later, held_not, not_taken, still_passed, still_within}
 use Rattle.gl_lock_lists.proofs.Children.{nl_is}
 use Rattle.gl_lock_lists.proofs.list.LockList.take_marked.Goals as goal

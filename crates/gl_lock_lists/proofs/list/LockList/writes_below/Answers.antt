@@ -1,16 +1,6 @@
-use Rattle.gl_graph.specs.Graph.{is_child}
-use Rattle.gl_graph.specs.View.{graph_of}
-use Rattle.gl_lock_lists.specs.Lists.{mode_of}
-use Rattle.gl_modes.specs.declared.node.NodeId.{NodeId}
-use Rattle.gl_modes.specs.Modes.{is_at_least}
-use Rattle.gl_modes.specs.declared.mode.Mode.TheVariants.{IX}
-use Rattle.indexmap.specs.IndexMap.{keys}
-use Rattle.std.proofs.Common.{ap, ap₂, subst, sym, ◌∙◌}
-use Rattle.std.proofs.lemmas.List.{length-map, take_all}
-use Rattle.std.proofs.lemmas.List.Folds.{list_any_at, list_any_more}
-use Rattle.std.proofs.lemmas.Option.{get_or_from_slice_get, slice_get_within}
-use Rattle.std.specs.List.{list_any}
-use Rattle.std.specs.Prelude.{ℕ, ◌&&◌, ◌||◌, ◌≤◌}
+use Rattle.gl_lock_lists.proofs.Words.{◌&&◌, ◌||◌, ◌∙◌, ◌≤◌, ap, ap₂, get_or_from_slice_get, graph_of, is_at_least, is_child, IX, keys, length-map, list_any}
+use Rattle.gl_lock_lists.proofs.Words.{list_any_more, mode_of, NodeId, slice_get_within, subst, sym, take_all, ℕ}
+use Rattle.std.proofs.lemmas.List.Folds.{list_any_at}
 use Rattle.gl_lock_lists.proofs.Children.{writes_listed}
 use Rattle.gl_lock_lists.proofs.list.LockList.writes_below.Goals as goal
 

@@ -1,11 +1,4 @@
-use Rattle.gl_graph.specs.Graph.{is_child}
-use Rattle.gl_graph.specs.View.{graph_of}
-use Rattle.gl_lock_lists.specs.Lists.{mode_of}
-use Rattle.gl_modes.specs.Modes.{is_at_least}
-use Rattle.gl_modes.specs.declared.mode.Mode.TheVariants.{IX}
-use Rattle.indexmap.specs.IndexMap.{keys}
-use Rattle.std.specs.List.{list_any}
-use Rattle.std.specs.Prelude.{false, take, ◌&&◌, ◌≡◌}
+use Rattle.gl_lock_lists.proofs.Words.{◌&&◌, ◌≡◌, false, graph_of, is_at_least, is_child, IX, keys, list_any, mode_of, take}
 use Rattle.gl_lock_lists.proofs.list.LockList.writes_below.Given as goal
 
 -- none of the nodes seen so far is such a child

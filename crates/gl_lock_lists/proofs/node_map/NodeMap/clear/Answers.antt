@@ -1,10 +1,5 @@
-use Rattle.std.specs.Prelude.{◌++◌, ◌≡◌, [], List}
-use Rattle.std.proofs.Common.{ap₂, rules, subst, sym}
-use Rattle.std.proofs.lemmas.List.{nil_from_length}
+use Rattle.gl_lock_lists.proofs.Words.{◌++◌, [], ◌≡◌, ap₂, keys_of, List, nil_from_length, NodeId, rules, same_node, subst, sym}
 use Rattle.std.specs.List.{IsDistinct}
-use Rattle.std.specs.Map.{keys_of}
-use Rattle.gl_modes.specs.Nodes.{same_node}
-use Rattle.gl_modes.specs.declared.node.NodeId.{NodeId}
 use Rattle.gl_lock_lists.proofs.node_map.NodeMap.clear.Goals as goal
 
 none_distinct : {V : Type 0} (es : List (NodeId × V)) → es ≡ [] → IsDistinct same_node (keys_of es)

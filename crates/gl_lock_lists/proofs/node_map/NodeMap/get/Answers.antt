@@ -1,8 +1,5 @@
-use Rattle.std.proofs.Common.{◌∙◌, ap, sym}
-use Rattle.std.proofs.lemmas.Option.{slice_get-map}
-use Rattle.std.specs.Option.{option_copied, option_map}
-use Rattle.indexmap.proofs.MapLemmas.{Found-position, Missing-position}
-use Rattle.gl_modes.specs.Nodes.{same_node}
+use Rattle.gl_lock_lists.proofs.Words.{◌∙◌, ap, Found-position, Missing-position, option_map, same_node, slice_get-map, sym}
+use Rattle.std.specs.Option.{option_copied}
 use Rattle.gl_lock_lists.proofs.node_map.NodeMap.get.Goals as goal
 
 pub returns-in_err-place : goal.returns-in_err-place

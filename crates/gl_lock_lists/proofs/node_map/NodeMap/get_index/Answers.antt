@@ -1,8 +1,6 @@
-use Rattle.std.proofs.Common.{◌≡◌, ◌<◌, ◌∙◌, ap, get_or, IfSome, length, rules, slice_get, Some, subst, sym}
+use Rattle.gl_lock_lists.proofs.Words.{◌<◌, ◌∙◌, ◌≡◌, ap, get_or, length, lookup, rules, same_node, slice_get, slice_get-get_or, Some, subst, sym}
+use Rattle.std.proofs.Common.{IfSome}
 use Rattle.std.proofs.lemmas.Map.Entries.{lookup_from_place}
-use Rattle.std.proofs.lemmas.Option.{slice_get-get_or}
-use Rattle.std.specs.Map.{lookup}
-use Rattle.gl_modes.specs.Nodes.{same_node}
 use Rattle.gl_lock_lists.proofs.RowLemmas.{node_equivalence, nothing_after}
 use Rattle.gl_lock_lists.proofs.node_map.NodeMap.get_index.Goals as goal
 

@@ -1,10 +1,8 @@
-use Rattle.std.proofs.Common.{◌≡◌, ◌∙◌, ℕ, ap, is_some, refl, slice_get, Some, subst, sym, true≢false}
-use Rattle.std.specs.List.{IsDistinct}
-use Rattle.indexmap.specs.IndexMap.{index_of, IsUnique, values, with_value_at, WritesThrough}
-use Rattle.indexmap.proofs.CallerLemmas.{keys-with_value_at, index_map_len-with_value_at, updates-with_value_at}
-use Rattle.indexmap.proofs.MapLemmas.{Found-position, Missing-position}
-use Rattle.gl_modes.specs.declared.node.NodeId.{NodeId}
-use Rattle.gl_modes.specs.Nodes.{same_node}
+use Rattle.gl_lock_lists.proofs.Words.{◌∙◌, ◌≡◌, ap, Found-position, index_of, is_some, IsDistinct, Missing-position, NodeId, refl, same_node, slice_get, Some}
+use Rattle.gl_lock_lists.proofs.Words.{subst, sym, with_value_at, ℕ}
+use Rattle.std.proofs.Common.{true≢false}
+use Rattle.indexmap.specs.IndexMap.{IsUnique, values, WritesThrough}
+use Rattle.indexmap.proofs.CallerLemmas.{index_map_len-with_value_at, keys-with_value_at, updates-with_value_at}
 use Rattle.gl_lock_lists.specs.Rows.{Listed}
 use Rattle.gl_lock_lists.proofs.RowLemmas.{node_equivalence, row_at, set_nowhere, set_there}
 use Rattle.gl_lock_lists.proofs.node_map.NodeMap.get_mut.Goals as goal

@@ -1,10 +1,7 @@
-use Rattle.std.proofs.Common.{◌≡◌, ◌<◌, ◌∙◌, ◌++◌, ◌∷◌, [], ap, length, List, None, rules, Some, subst, sym}
+use Rattle.gl_lock_lists.proofs.Words.{◌++◌, ◌<◌, [], ◌∙◌, ◌∷◌, ◌≡◌, ap, keys_of, length, List, lookup, NodeId, None, rules, same_node, Some, subst, sym}
 use Rattle.std.proofs.lemmas.List.{length_push}
 use Rattle.std.specs.List.{IsDistinct}
-use Rattle.std.specs.Map.{keys_of, lookup}
 use Rattle.indexmap.proofs.CallerLemmas.{insert_entry-new}
-use Rattle.gl_modes.specs.declared.node.NodeId.{NodeId}
-use Rattle.gl_modes.specs.Nodes.{same_node}
 use Rattle.gl_lock_lists.proofs.RowLemmas.{nothing_after, put_last, put_last-distinct, writes_as}
 use Rattle.gl_lock_lists.proofs.node_map.NodeMap.insert_new.Given.{Over}
 use Rattle.gl_lock_lists.proofs.node_map.NodeMap.insert_new.Goals as goal

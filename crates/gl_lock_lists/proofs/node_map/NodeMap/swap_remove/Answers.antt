@@ -1,12 +1,7 @@
-use Rattle.std.proofs.Common.{◌≡◌, ◌∙◌, ◌++◌, ap, List, None, position, rules, Some, subst, sym}
-use Rattle.std.proofs.lemmas.Option.{slice_get-get_or}
-use Rattle.std.specs.List.{IsDistinct}
-use Rattle.std.specs.Map.{keys_of, lookup}
+use Rattle.gl_lock_lists.proofs.Words.{◌++◌, ◌∙◌, ◌≡◌, ap, Found-position, IsDistinct, keys_of, List, lookup, Missing-position, NodeId, None, Out, position}
+use Rattle.gl_lock_lists.proofs.Words.{rules, same_node, slice_get-get_or, Some, subst, swap_out, sym}
 use Rattle.indexmap.specs.IndexMap.{swap_remove_entry}
-use Rattle.indexmap.proofs.MapLemmas.{Found-position, Missing-position, swap_remove_entry-found}
-use Rattle.indexmap.proofs.RemoveLemmas.{swap_out, Out}
-use Rattle.gl_modes.specs.declared.node.NodeId.{NodeId}
-use Rattle.gl_modes.specs.Nodes.{same_node}
+use Rattle.indexmap.proofs.MapLemmas.{swap_remove_entry-found}
 use Rattle.gl_lock_lists.proofs.RowLemmas.{node_equivalence, none_taken, nothing_after, writes_as}
 use Rattle.gl_lock_lists.proofs.node_map.NodeMap.swap_remove.Given.{Over}
 use Rattle.gl_lock_lists.proofs.node_map.NodeMap.swap_remove.Goals as goal

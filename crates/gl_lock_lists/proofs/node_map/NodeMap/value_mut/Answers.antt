@@ -1,15 +1,9 @@
-use Rattle.std.proofs.Common.{◌≡◌, ◌<◌, ◌-◌, ◌∙◌, ◌++◌, ◌==◌, ap, arith, if◌then◌else◌, length, length-set, List, refl, rules, slice_get}
-use Rattle.std.proofs.Common.{slice_set, Some, subst, sym}
+use Rattle.gl_lock_lists.proofs.Words.{◌++◌, ◌-◌, ◌<◌, ◌==◌, ◌∙◌, ◌≡◌, ap, arith, hash_map, if◌then◌else◌, IsDistinct, keys_of, length, length-set, List}
+use Rattle.gl_lock_lists.proofs.Words.{NodeId, option_map, refl, rules, same_node, set_value_at, slice_get, slice_get-get_or, slice_get-map, slice_set, Some}
+use Rattle.gl_lock_lists.proofs.Words.{spare, subst, sym, with_value_at}
 use Rattle.std.specs.Vec.{vec_capacity}
-use Rattle.std.proofs.lemmas.Option.{slice_get-get_or, slice_get-map}
-use Rattle.std.specs.List.{IsDistinct}
-use Rattle.std.specs.Map.{keys_of, values_of}
-use Rattle.std.specs.Option.{option_map}
-use Rattle.indexmap.specs.IndexMap.{spare, with_value_at}
-use Rattle.indexmap.specs.Layout.{hash_map, set_value_at}
+use Rattle.std.specs.Map.{values_of}
 use Rattle.indexmap.proofs.CallerLemmas.{index_map_len-with_value_at, keys-with_value_at}
-use Rattle.gl_modes.specs.declared.node.NodeId.{NodeId}
-use Rattle.gl_modes.specs.Nodes.{same_node}
 use Rattle.gl_lock_lists.specs.Sound.{rows_that_fit}
 use Rattle.gl_lock_lists.proofs.RowLemmas.{nothing_after, row_set}
 use Rattle.gl_lock_lists.proofs.node_map.NodeMap.value_mut.Given.{Over}

@@ -1,23 +1,18 @@
-use Rattle.gl_table.proofs.Words.{◌&&◌, ◌+◌, ◌<◌, ◌^◌, ◌∙◌, ◌≡◌, ◌≤◌, Agrees, and-false, ap, ap₂, AreHeaders, arith, Asked, asked_at, clash, count_by}
-use Rattle.gl_table.proofs.Words.{count_of, CountsHeld, enters_at, false, graph_of, held_of, holds, if◌then◌else◌, is_granted_at, MayAct, members, mode_of}
-use Rattle.gl_table.proofs.Words.{NL, not, not-false, not-true, parents_of, refl, rules, same_mode, same_node, spare, state_in, subst, supremum, sym, true}
-use Rattle.gl_table.proofs.Words.{unlisted, wanted, with_item, is_at_least, ℕ}
+use Rattle.gl_table.proofs.Words.{◌&&◌, ◌+◌, ◌<◌, ◌^◌, ◌∙◌, ◌≡◌, ◌≤◌, Agrees, and-false, ap, ap₂, AreHeaders, arith, Asked, asked_at, clash, count_by, count_of}
+use Rattle.gl_table.proofs.Words.{CountsHeld, enters_at, false, graph_of, HasAsked, held_of, holds, if◌then◌else◌, is_at_least, is_granted_at, KeepsPlaces}
+use Rattle.gl_table.proofs.Words.{keys, Ledger, ListsKeepPlaces, LockList, MayAct, members, mode_of, NL, nl_is, not, not-false, not-true, parents_of, refl}
+use Rattle.gl_table.proofs.Words.{rules, same_mode, same_node, slice_index_or, slice_set, spare, state_in, subst, supremum, sym, true, unlisted, wanted}
+use Rattle.gl_table.proofs.Words.{with_item, ℕ}
 use Rattle.gl_header.specs.declared.header.Asked.TheVariants as asked
-use Rattle.gl_table.specs.declared.ledger.Ledger.{Ledger}
-use Rattle.gl_table.specs.inside.Steps.{HasAsked}
-use Rattle.gl_table.proofs.inside.Asks.{answer-enters, answer-waits, is_granted, IsGranted, own-few, own-listed, own-mode, own-room}
-use Rattle.gl_table.proofs.inside.Asks.{parents-room, roomy_may, roomy_ready, roomy_same, roomy_says, says_is, slot-listed, state-same}
+use Rattle.gl_table.proofs.inside.Asks.{answer-enters, answer-waits, is_granted, IsGranted, its_key, own-few, own-listed, own-mode, own-room, parents-room}
+use Rattle.gl_table.proofs.inside.Asks.{roomy_may, roomy_ready, roomy_same, roomy_says, says_is, slot-listed, state-same}
 use Rattle.gl_table.proofs.inside.Covered.{covered-asked}
 use Rattle.gl_table.proofs.inside.Enqueues.{has_wait-set, HasWait, is_enqueued, IsEnqueued}
-use Rattle.gl_table.proofs.inside.Asks.{its_key}
-use Rattle.gl_table.proofs.inside.Slots.{also_held, also_listed, counts-entered, has_node-set, none_more}
-use Rattle.gl_lock_lists.proofs.Children.{nl_is}
-use Rattle.gl_table.proofs.ledger.Ledger.ask.Goals.{After-make_room_to_ask, After-count_up, After-set_mode, After-set_status, then-not-is_member}
-use Rattle.gl_table.proofs.ledger.Ledger.ask.Goals.{else-not-is_member}
+use Rattle.gl_table.proofs.inside.Slots.{also_held, also_listed, counts-entered, has_node-set, none_more, set_keeps}
+use Rattle.gl_table.proofs.ledger.Ledger.ask.Goals.{After-count_up, After-make_room_to_ask, After-set_mode, After-set_status, else-not-is_member}
+use Rattle.gl_table.proofs.ledger.Ledger.ask.Goals.{then-not-is_member}
 use Rattle.gl_table.proofs.ledger.Ledger.ask.Goals as goal
-use Rattle.gl_table.proofs.Words.{keys, KeepsPlaces, ListsKeepPlaces, LockList, slice_index_or, slice_set}
 use Rattle.gl_table.proofs.inside.Places.{enters_last, kept_lose, kept_then, lists_here, lists_keep, same_order}
-use Rattle.gl_table.proofs.inside.Slots.{set_keeps}
 
 -- whether the slot holds the node, as the caller says
 held_is : (c : After-make_room_to_ask) → c.ne-is_member.result ≡ not (same_mode c.args.held NL)

@@ -1,11 +1,8 @@
-use Rattle.gl_table.proofs.Words.{NL, NodeId, None, ap, ap₂, bad_mode, commit_tests, first_refusal, fun_ext, graph_of, held_by, held_of, lock_tests}
-use Rattle.gl_table.proofs.Words.{mode_of, ◌∙◌, ◌≡◌}
-use Rattle.gl_table.proofs.Words.{parents_of, rule_refusal, rules, state_in, supremum, sym, where_true}
+use Rattle.gl_table.proofs.Words.{◌∙◌, ◌≡◌, ap, ap₂, bad_mode, commit_tests, first_refusal, fun_ext, graph_of, held_by, held_of, lock_tests, mode_of, NL}
+use Rattle.gl_table.proofs.Words.{node_at, NodeId, None, parents_of, rule_refusal, rules, shape_of, state_in, supremum, sym, where_true}
 use Rattle.gl_modes.specs.declared.refusal.Refusal.TheVariants as no
-use Rattle.gl_graph.specs.Graph.{node_at, shape_of}
-use Rattle.gl_table.proofs.calls.Calls.{test_passed}
+use Rattle.gl_table.proofs.calls.Calls.{dead_by, live_by, mode_refused, node_refused, requester_listed, requester_refused, rule_decides, test_passed}
 use Rattle.gl_table.proofs.calls.Locking.{test_refused}
-use Rattle.gl_table.proofs.calls.Calls.{requester_listed, requester_refused, dead_by, live_by, mode_refused, node_refused, rule_decides}
 use Rattle.gl_table.proofs.inside.Slots.{by_list-at}
 use Rattle.gl_table.proofs.ledger.Ledger.check_ask.Goals.{After-check_rule}
 use Rattle.gl_table.proofs.ledger.Ledger.check_ask.Goals as goal

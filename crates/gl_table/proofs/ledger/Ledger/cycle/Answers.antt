@@ -1,5 +1,4 @@
-use Rattle.gl_table.proofs.Words.{◌↔◌, IsOnCycleOf, IsTrue, List, Option, TxnEntry, shown, subst, waits_for}
-use Rattle.gl_slots.specs.Slots.{has_slot}
+use Rattle.gl_table.proofs.Words.{◌↔◌, has_slot, IsOnCycleOf, IsTrue, List, Option, shown, subst, TxnEntry, waits_for}
 use Rattle.gl_table.proofs.ledger.Ledger.cycle.Goals as goal
 
 pub returns : goal.returns

@@ -1,8 +1,7 @@
 use Rattle.gl_table.proofs.Words.{◌&&◌, ◌==◌, ◌∙◌, ◌≡◌, ap, books_of, Bool, CanEnd, CanHold, false, front, front_at, graph_of, held_of, if◌then◌else◌}
 use Rattle.gl_table.proofs.Words.{is_among_waiters, List, members, NL, NodeId, parents_of, queue_of, refl, rules, same_node, slot_limit, State, state_in, subst}
-use Rattle.gl_table.proofs.Words.{sym, true, txns_of, Waiter, Wakes, with_grant, with_mode, ℕ}
+use Rattle.gl_table.proofs.Words.{sym, true, txns_of, Waiter, Wakes, well_granted, with_grant, with_mode, woken_front, ℕ}
 use Rattle.gl_table.proofs.inside.Granted.{can_wake_front, held-pumped, members-with_grant, pumped_by_fields, queue-pumped, released_front}
-use Rattle.gl_model.proofs.telling.Fronts.{well_granted, woken_front}
 use Rattle.gl_table.proofs.ledger.Ledger.drop_and_wake.Goals.{After-as_slice}
 use Rattle.gl_table.proofs.ledger.Ledger.drop_and_wake.Goals as goal
 

@@ -1,13 +1,10 @@
-use Rattle.gl_table.proofs.Words.{◌&&◌, ◌+◌, ◌<◌, ◌==◌, ◌^◌, ◌∙◌, ◌≡◌, ◌≤◌, adds_to, ap, Bool, count_by, count_of, counted_by, graph_of, IsTold}
-use Rattle.gl_table.proofs.Words.{length-set, List, mode_of, NL, NodeId, not, parents_of, same_mode, same_node, State, state_in, stays, subst, sym, unlisted}
-use Rattle.gl_table.proofs.Words.{ℕ}
+use Rattle.gl_table.proofs.Words.{◌&&◌, ◌+◌, ◌<◌, ◌==◌, ◌^◌, ◌∙◌, ◌≡◌, ◌≤◌, adds_to, ap, Bool, count_by, count_of, counted_by, graph_of, IsTold, keys}
+use Rattle.gl_table.proofs.Words.{length-set, List, mode_of, NL, NodeId, not, parents_of, same_mode, same_node, State, state_in, stays, subst, sym, unlisted, ℕ}
 use Rattle.gl_model.specs.declared.answers.Notice.TheVariants as notice
 use Rattle.gl_table.proofs.inside.TurnedAway.{is_lost}
-use Rattle.gl_table.proofs.inside.Slots.{agrees_recounted, by_list-at, counts_recounted}
+use Rattle.gl_table.proofs.inside.Slots.{agrees_recounted, by_list-at, counts_recounted, set_loses}
 use Rattle.gl_table.proofs.ledger.Ledger.follow.Goals as goal
-use Rattle.gl_table.proofs.Words.{keys}
 use Rattle.gl_table.proofs.inside.Places.{lose_then, same_order}
-use Rattle.gl_table.proofs.inside.Slots.{set_loses}
 
 -- the mover's list says what it holds of the node
 held_here : (c : goal.After-parents) → mode_of c.index_mut-list.result.now c.args.node

@@ -1,10 +1,5 @@
-use Rattle.gl_table.proofs.Words.{List, ◌||◌, ◌∙◌, ◌≡◌, ◌<◌, ◌≤◌, ◌+◌, ap, arith, false, get_or, length, list_any, nodes_by, NodeId}
-use Rattle.gl_table.proofs.Words.{refl, slice_get-get_or, sym}
-use Rattle.std.proofs.Common.{ap₂}
-use Rattle.std.proofs.lemmas.List.{take_all}
-use Rattle.std.proofs.lemmas.List.Folds.{list_any_at, list_any_more}
-use Rattle.std.specs.Option.{option_map_or}
-use Rattle.gl_table.specs.inside.Ledger.{hinders_by}
+use Rattle.gl_table.proofs.Words.{◌+◌, ◌<◌, ◌||◌, ◌∙◌, ◌≡◌, ◌≤◌, ap, ap₂, arith, false, get_or, hinders_by, length, List, list_any, list_any_at, list_any_more}
+use Rattle.gl_table.proofs.Words.{NodeId, nodes_by, option_map_or, refl, slice_get-get_or, sym, take_all}
 use Rattle.gl_table.proofs.inside.Orders.{rows_are}
 use Rattle.gl_table.proofs.ledger.Ledger.hinders.Goals.{After-hinders_at}
 use Rattle.gl_table.proofs.ledger.Ledger.hinders.Goals as goal

@@ -1,5 +1,4 @@
-use Rattle.gl_table.proofs.Words.{◌≡◌, false, list_any, nodes_by, take}
-use Rattle.gl_table.specs.inside.Ledger.{hinders_by}
+use Rattle.gl_table.proofs.Words.{◌≡◌, false, hinders_by, list_any, nodes_by, take}
 use Rattle.gl_table.proofs.ledger.Ledger.hinders.Given as goal
 
 -- none of the nodes seen so far is such a one

@@ -1,6 +1,4 @@
-use Rattle.gl_table.proofs.Words.{◌∙◌, ap, false, sym}
-use Rattle.std.specs.Option.{option_map_or}
-use Rattle.gl_table.specs.inside.Ledger.{hinders_by}
+use Rattle.gl_table.proofs.Words.{◌∙◌, ap, false, hinders_by, option_map_or}
 use Rattle.gl_table.proofs.inside.Orders.{node_there}
 use Rattle.gl_table.proofs.ledger.Ledger.hinders_at.Goals as goal
 

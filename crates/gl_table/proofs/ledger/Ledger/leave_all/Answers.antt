@@ -1,9 +1,6 @@
-use Rattle.gl_table.proofs.Words.{List, NodeId, ap, arith, holds, length, list_any, members, nodes_by, none_some, not, or-false, true, ◌&&◌, ◌-◌}
-use Rattle.gl_table.proofs.Words.{◌||◌, ◌∙◌, ◌≡◌, is_wait, status_in}
-use Rattle.gl_table.proofs.Words.{same_node, slice_get, slice_get-get_or, refl, false, Some, State, state_in, subst, sym, take, ℕ}
-use Rattle.std.proofs.lemmas.List.{take_all}
-use Rattle.gl_lock_lists.proofs.Children.{nl_is}
-use Rattle.gl_model.proofs.telling.Fronts.{in_no_queue, stands_other, waits_there}
+use Rattle.gl_table.proofs.Words.{◌&&◌, ◌-◌, ◌||◌, ◌∙◌, ◌≡◌, ap, arith, false, holds, in_no_queue, is_wait, length, List, list_any, members, nl_is, NodeId}
+use Rattle.gl_table.proofs.Words.{nodes_by, none_some, not, or-false, refl, same_node, slice_get, slice_get-get_or, Some, stands_other, State, state_in}
+use Rattle.gl_table.proofs.Words.{status_in, subst, sym, take, take_all, true, waits_there, ℕ}
 use Rattle.gl_table.proofs.inside.Departures.{holds_after, IsLeaving, leaving_begins, leaving_one, leaving_order, leaving_out, left_released}
 use Rattle.gl_table.proofs.inside.Orders.{all_but_this, among_these, listed_as, node_there, rows_are, unique_at}
 use Rattle.gl_table.proofs.inside.Places.{lists_here, lose_then}

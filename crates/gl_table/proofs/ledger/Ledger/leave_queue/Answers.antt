@@ -1,9 +1,10 @@
-use Rattle.gl_table.proofs.Words.{◌∙◌, ◌≡◌, ap, books_of, CanEnd, CanHold, false, front, front_at, graph_of, held_of, is_among_waiters, List, members}
-use Rattle.gl_table.proofs.Words.{not_true, parents_of, pumped, queue_of, refl, rules, same_node, same_node-sym, slot_limit, State, state_in, subst}
-use Rattle.gl_table.proofs.Words.{sym, true, txns_of, Waiter, WaitWell, Wakes, without_wait, without_waiter, ℕ}
+use Rattle.gl_table.proofs.Words.{◌∙◌, ◌≡◌, ap, books_of, CanEnd, CanHold, false, front, front_at, front_stands, graph_of, held_of, is_among_waiters, List}
+use Rattle.gl_table.proofs.Words.{members, not_true, out_of_without, parents_of, pumped, queue_of, refl, rules, same_node, same_node-sym, slot_limit}
+use Rattle.gl_table.proofs.Words.{stands_there, State, state_in, subst, sym, true, txns_of, Waiter, WaitWell, Wakes, without_wait, without_waiter, woken_front}
+use Rattle.gl_table.proofs.Words.{ℕ}
 use Rattle.gl_table.proofs.inside.Granted.{can_wake_front, held-pumped, pumped_by_fields, queue-pumped, status_last, withdrawn_front}
-use Rattle.gl_model.proofs.queues.Edits.{out_of_without, without_none}
-use Rattle.gl_model.proofs.telling.Fronts.{front_stands, stands_only, stands_there, waits_only, well_without, woken_front}
+use Rattle.gl_model.proofs.queues.Edits.{without_none}
+use Rattle.gl_model.proofs.telling.Fronts.{stands_only, waits_only, well_without}
 use Rattle.gl_table.proofs.ledger.Ledger.leave_queue.Goals.{After-as_slice}
 use Rattle.gl_table.proofs.ledger.Ledger.leave_queue.Goals as goal
 

@@ -1,13 +1,10 @@
-use Rattle.gl_table.proofs.Words.{◌+◌, ◌<◌, ◌^◌, ◌∙◌, ◌≤◌, ap, ap₂, arith, count_by, count_of, graph_of, held_of, if◌then◌else◌, NL, not, parents_of, refl}
-use Rattle.gl_table.proofs.Words.{same_mode, same_node, spare, State, state_in, subst, supremum, sym, unlisted, with_grant, with_item, ℕ}
-use Rattle.gl_table.proofs.inside.Asks.{is_placed, IsGranted, own-few, own-listed, own-room, parents-room, slot-listed}
-use Rattle.gl_table.proofs.inside.Asks.{free_key}
-use Rattle.gl_table.proofs.inside.Slots.{counts-entered, has_node-set}
+use Rattle.gl_table.proofs.Words.{◌+◌, ◌<◌, ◌^◌, ◌∙◌, ◌≤◌, ap, ap₂, arith, count_by, count_of, graph_of, held_of, if◌then◌else◌, keys, NL, not, parents_of}
+use Rattle.gl_table.proofs.Words.{refl, same_mode, same_node, spare, State, state_in, subst, supremum, sym, unlisted, with_grant, with_item, ℕ}
+use Rattle.gl_table.proofs.inside.Asks.{free_key, is_placed, IsGranted, own-few, own-listed, own-room, parents-room, slot-listed}
+use Rattle.gl_table.proofs.inside.Slots.{counts-entered, has_node-set, set_keeps}
 use Rattle.gl_table.proofs.ledger.Ledger.place.Goals.{After-self-1}
 use Rattle.gl_table.proofs.ledger.Ledger.place.Goals as goal
-use Rattle.gl_table.proofs.Words.{keys}
 use Rattle.gl_table.proofs.inside.Places.{enters_last}
-use Rattle.gl_table.proofs.inside.Slots.{set_keeps}
 
 -- the node is the only one of its key that lives
 pub put-requires-clause-free : goal.put-requires-clause-free

@@ -1,9 +1,7 @@
-use Rattle.gl_table.proofs.Words.{◌∙◌, and-not_self, ap, arith, clash, holds, is_wait, keys, members, none_some, slice_get_past, State, state_in, status_in}
-use Rattle.gl_table.proofs.Words.{subst, sym, ℕ}
-use Rattle.gl_model.proofs.telling.Fronts.{stands_other, waits_there}
+use Rattle.gl_table.proofs.Words.{◌∙◌, and-not_self, ap, arith, clash, holds, is_wait, keys, members, none_some, refl, slice_get_past, stands_other, State}
+use Rattle.gl_table.proofs.Words.{state_in, status_in, subst, sym, waits_there, ℕ}
 use Rattle.gl_table.proofs.inside.Departures.{leaving_begins}
 use Rattle.gl_table.proofs.inside.Marked.{IsReleasing, marked_childless, marked_counted, releasing_ends, releasing_modes, releasing_one}
-use Rattle.gl_table.proofs.Words.{refl}
 use Rattle.gl_table.proofs.inside.Places.{lists_here, lose_then, loses_then, lost_one, same_order}
 use Rattle.gl_table.proofs.ledger.Ledger.release_marked.Goals as goal
 

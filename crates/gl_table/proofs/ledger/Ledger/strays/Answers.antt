@@ -1,9 +1,8 @@
 use Rattle.gl_table.proofs.Words.{◌+◌, ◌<◌, ◌∙◌, ◌≡◌, ap, arith, Bool, graph_of, intends_over, length, List, mode_of, NL, NodeId, not, parents_of, queue_of}
-use Rattle.gl_table.proofs.Words.{refl, slice_index_or, State, state_in, stays, subst, sym, take, Waiter, ℕ}
+use Rattle.gl_table.proofs.Words.{refl, slice_index_or, State, state_in, stays, subst, sym, take, Waiter, waiters_below, ℕ}
 use Rattle.gl_table.proofs.inside.TurnedAway.{allowed_stays}
 use Rattle.gl_model.proofs.law.Strays.{among_at, IsSetOf, set-with, set-without}
-use Rattle.gl_model.proofs.telling.Fronts.{waiters_below}
-use Rattle.gl_table.proofs.ledger.Ledger.strays.Goals.{then-not-is_allowed, else-not-is_allowed}
+use Rattle.gl_table.proofs.ledger.Ledger.strays.Goals.{else-not-is_allowed, then-not-is_allowed}
 use Rattle.gl_table.proofs.ledger.Ledger.strays.Goals as goal
 
 pub index-list-requires : goal.index-list-requires

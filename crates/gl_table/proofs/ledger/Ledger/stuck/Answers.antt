@@ -1,4 +1,4 @@
-use Rattle.gl_table.proofs.Words.{◌∙◌, ◌≡◌, ap, clash, is_wait, Option, rules, TxnEntry, Some, status_in, sym, true, Txn, txn_in}
+use Rattle.gl_table.proofs.Words.{◌∙◌, ◌≡◌, ap, clash, is_wait, Option, rules, Some, status_in, sym, true, Txn, txn_in, TxnEntry}
 use Rattle.gl_table.proofs.ledger.Ledger.stuck.Goals.{in_default-via-in-Some+in_default, in_default-via-in_default}
 use Rattle.gl_table.proofs.ledger.Ledger.stuck.Goals as goal
 

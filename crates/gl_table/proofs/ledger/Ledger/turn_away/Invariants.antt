@@ -1,5 +1,4 @@
-use Rattle.gl_table.proofs.Words.{graph_of, parents_of, state_in, stays}
-use Rattle.gl_slots.specs.Slots.{has_slot, number_of}
+use Rattle.gl_table.proofs.Words.{graph_of, has_slot, number_of, parents_of, state_in, stays}
 use Rattle.gl_table.proofs.inside.TurnedAway.{IsTurning}
 use Rattle.gl_table.proofs.ledger.Ledger.turn_away.Given as goal
 

@@ -1,11 +1,10 @@
 use denote.Bor.{Bor}
-use Rattle.gl_slots.specs.Limit.{most_slots}
 use Rattle.gl_table.proofs.Words.{[], ◌∙◌, ◌≡◌, ◌≤◌, Agrees, ap, as_left, books_of, CanEnd, CanStrike, CountsHeld, departed, fun_ext, graph_of, header_at}
-use Rattle.gl_table.proofs.Words.{header_or_new, IfNone, IfSome, is_among_waiters, List, NodeId, parents_of, queue_of, same_node, Some, State, state_in}
-use Rattle.gl_table.proofs.Words.{Strikes, subst, sym, Waiter, WaitsEnd, ℕ}
+use Rattle.gl_table.proofs.Words.{header_or_new, IfNone, IfSome, is_among_waiters, List, most_slots, NodeId, parents_of, queue_of, same_node, Some, State}
+use Rattle.gl_table.proofs.Words.{state_in, Strikes, subst, sym, Waiter, WaitsEnd, ℕ}
 use Rattle.gl_model.specs.declared.answers.Notice.TheVariants as notice
 use Rattle.gl_table.proofs.inside.Vacated.{agrees_vacated, can_free, can_strike, counts_vacated, MayVacate, txns_freed, waiter_childless}
-use Rattle.gl_table.proofs.ledger.Ledger.vacate.Goals.{After-parents, After-strike, Joined-taken, in-None, in-Some}
+use Rattle.gl_table.proofs.ledger.Ledger.vacate.Goals.{After-parents, After-strike, in-None, in-Some, Joined-taken}
 use Rattle.gl_table.proofs.ledger.Ledger.vacate.Goals as goal
 use Rattle.gl_table.proofs.inside.Places.{lose_then}
 

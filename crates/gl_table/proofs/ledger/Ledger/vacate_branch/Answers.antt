@@ -1,8 +1,8 @@
 use Rattle.gl_table.proofs.Words.{◌∙◌, age_in, ap, departed, graph_of, holds, is_among_waiters, list_any, members, NL, not, refl, same_mode, same_node}
 use Rattle.gl_table.proofs.Words.{slice_index_or, State, state_in, sym, take}
 use Rattle.gl_model.proofs.law.Departures.{age_freed_among}
-use Rattle.gl_table.proofs.inside.Branches.{before_act, before_unawaited, child_here, child_left, end_left}
-use Rattle.gl_table.proofs.inside.Branches.{departed_none, end_held, end_queue, end_whole, item_at, MayClear, one_more, take_all, told_after}
+use Rattle.gl_table.proofs.inside.Branches.{before_act, before_unawaited, child_here, child_left, departed_none, end_held, end_left, end_queue, end_whole}
+use Rattle.gl_table.proofs.inside.Branches.{item_at, MayClear, one_more, take_all, told_after}
 use Rattle.gl_table.proofs.inside.Places.{lists_here, lose_then}
 use Rattle.gl_table.proofs.ledger.Ledger.vacate_branch.Goals.{After-intervals-interval-items}
 use Rattle.gl_table.proofs.ledger.Ledger.vacate_branch.Goals as goal

@@ -1,4 +1,4 @@
-use Rattle.gl_table.proofs.Words.{AreExact, departed, graph_of, IsBySlot, list_any, ListsLose, notices_in, same_node, state_in, take, ℕ, ◌≡◌}
+use Rattle.gl_table.proofs.Words.{◌≡◌, AreExact, departed, graph_of, IsBySlot, list_any, ListsLose, notices_in, same_node, state_in, take, ℕ}
 use Rattle.gl_table.proofs.ledger.Ledger.vacate_branch.Given as goal
 
 -- the locks on the children before this place are gone

@@ -1,5 +1,5 @@
-use Rattle.gl_table.proofs.Words.{age_in, Graph, IfNone, IsCandidate, IsLowestLatest, IsOnNoCycle, IsOrderly, IsVictim, List, Option, refl, TxnEntry, shown}
-use Rattle.gl_table.proofs.Words.{since_in, state_on, subst, sym, txns_of, waits_for, ℕ}
+use Rattle.gl_table.proofs.Words.{age_in, Graph, IfNone, IsCandidate, IsLowestLatest, IsOnNoCycle, IsOrderly, IsVictim, List, Option, refl, shown, since_in}
+use Rattle.gl_table.proofs.Words.{state_on, subst, sym, TxnEntry, txns_of, waits_for, ℕ}
 use Rattle.gl_table.proofs.inside.Boards.{victim_waits}
 use Rattle.gl_table.proofs.ledger.Ledger.victim.Goals.{In_ok-victim}
 use Rattle.gl_table.proofs.ledger.Ledger.victim.Goals as goal

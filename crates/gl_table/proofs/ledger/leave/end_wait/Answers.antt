@@ -1,7 +1,7 @@
 use Rattle.gl_table.proofs.Words.{◌<◌, count_of, length, spare, subst, sym, ℕ}
 use Rattle.gl_table.proofs.inside.Slots.{by_list-at, written-left}
 use Rattle.gl_table.proofs.inside.Woken.{ends_one}
-use Rattle.gl_table.proofs.ledger.leave.end_wait.Goals.{After-leave, After-index_mut}
+use Rattle.gl_table.proofs.ledger.leave.end_wait.Goals.{After-index_mut}
 use Rattle.gl_table.proofs.ledger.leave.end_wait.Goals as goal
 
 listed : (c : After-index_mut) → c.args.slot < length c.args.lists.now.items

@@ -1,5 +1,5 @@
-use Rattle.gl_table.proofs.Words.{◌+◌, ◌∙◌, ap, ap₂, as_held, count_by, count_of, if◌then◌else◌, mode_of, NL, not-false, not-true, same_mode, same_node, sym}
-use Rattle.gl_table.proofs.Words.{keys}
+use Rattle.gl_table.proofs.Words.{◌+◌, ◌∙◌, ap, ap₂, as_held, count_by, count_of, if◌then◌else◌, keys, mode_of, NL, not-false, not-true, same_mode, same_node}
+use Rattle.gl_table.proofs.Words.{sym}
 use Rattle.gl_table.proofs.inside.Places.{same_order}
 use Rattle.gl_table.proofs.inside.Slots.{by_list-at, few-kept, none_more, room-kept, written}
 use Rattle.gl_table.proofs.ledger.wake.hold.Goals as goal

@@ -1,9 +1,7 @@
-use Rattle.gl_table.proofs.Words.{◌∙◌, ◌≡◌, ap, cancelled, false, is_wait, IsBySlot, rules, State, state_at, status_of, subst, sym}
+use Rattle.gl_table.proofs.Words.{◌∙◌, ◌≡◌, ap, cancelled, false, is_wait, IsBySlot, ListsLose, Locks, rules, State, state_at, status_of, subst, sym}
 use Rattle.gl_table.proofs.inside.Departures.{free_cancelled, free_idle, free_same, IsFree}
-use Rattle.gl_table.proofs.locks.Locks.abort.Goals.{Joined-txn_entry, in-Some-Waiting, in-Some+in-Active-1, in-None-1}
+use Rattle.gl_table.proofs.locks.Locks.abort.Goals.{in-None-1, in-Some+in-Active-1, in-Some-Waiting, Joined-txn_entry}
 use Rattle.gl_table.proofs.locks.Locks.abort.Goals as goal
-use Rattle.gl_table.specs.declared.locks.Locks.{Locks}
-use Rattle.gl_table.proofs.Words.{ListsLose}
 use Rattle.gl_table.proofs.inside.Places.{lists_here, lose_then}
 
 abbrev before : Joined-txn_entry → State

@@ -1,8 +1,7 @@
-use Rattle.gl_table.proofs.Words.{◌==◌, ◌∙◌, ◌≡◌, age_in, ap, ap₂, Condemned, if◌then◌else◌, is_wait, is_waiting_at, IsBetween, Mode, rules, Some}
-use Rattle.gl_table.proofs.Words.{State, state_at, status_of, subst, sym, told_to, Waiting, ℕ}
+use Rattle.gl_table.proofs.Words.{◌==◌, ◌∙◌, ◌≡◌, age_in, ap, ap₂, Condemned, if◌then◌else◌, is_wait, is_waiting_at, IsBetween, Mode, rules, Some, State}
+use Rattle.gl_table.proofs.Words.{state_at, status_of, subst, sym, told_to, Waiting, waiting_is, ℕ}
 use Rattle.gl_model.specs.declared.answers.Notice.TheVariants as notice
-use Rattle.gl_model.proofs.law.Keeps.{waiting_is}
-use Rattle.gl_model.proofs.telling.GivenUp.{TellsVictim, victim_absent, victim_told, victim_untold, between_withdrawn}
+use Rattle.gl_model.proofs.telling.GivenUp.{between_withdrawn, TellsVictim, victim_absent, victim_told, victim_untold}
 use Rattle.gl_table.proofs.locks.Locks.condemn.Goals.{After-tell, After-withdraw}
 use Rattle.gl_table.proofs.locks.Locks.condemn.Goals as goal
 

@@ -1,11 +1,9 @@
-use Rattle.gl_slots.specs.Limit.{most_slots}
-use Rattle.gl_table.proofs.Words.{◌<◌, ◌∙◌, ◌≡◌, ◌≤◌, Agrees, ap, if◌then◌else◌, IsOrderly, length, length-set, None, slice_set, State, state_in, subst, sym}
-use Rattle.gl_table.proofs.Words.{told_to, ℕ}
+use Rattle.gl_table.proofs.Words.{◌<◌, ◌∙◌, ◌≡◌, ◌≤◌, Agrees, ap, if◌then◌else◌, IsOrderly, keys, length, length-set, most_slots, None, slice_set, State}
+use Rattle.gl_table.proofs.Words.{state_in, subst, sym, told_to, ℕ}
 use Rattle.gl_table.proofs.inside.Lists.{IsBare}
 use Rattle.gl_table.proofs.inside.TxnEntries.{agrees-gone, counts-gone, orderly-gone, state-freed}
 use Rattle.gl_model.proofs.telling.Between.{gone_tells}
 use Rattle.gl_table.proofs.locks.Locks.end.Goals as goal
-use Rattle.gl_table.proofs.Words.{keys}
 use Rattle.gl_table.proofs.inside.Places.{lose_then, loses_all}
 use Rattle.gl_table.proofs.inside.Slots.{set_loses}
 

@@ -1,7 +1,6 @@
-use Rattle.gl_table.proofs.Words.{◌<◌, ◌∙◌, Agrees, CanStrike, CountsHeld, IsOrderly, List, NodeId, State, state_at, Strikes, subst, sym, ℕ}
+use Rattle.gl_table.proofs.Words.{◌<◌, ◌∙◌, Agrees, CanStrike, CountsHeld, IsOrderly, List, NodeId, State, state_at, Strikes, subst, sym, txn_there, ℕ}
 use Rattle.gl_table.proofs.inside.Back.{place_left}
 use Rattle.gl_table.proofs.inside.Released.{agrees_released, can_strike, counts_released}
-use Rattle.gl_model.proofs.law.Keeps.{txn_there}
 use Rattle.gl_model.proofs.telling.Fronts.{orderly_unlocked}
 use Rattle.gl_table.proofs.locks.Locks.release.Goals as goal
 use Rattle.gl_table.proofs.inside.Places.{lose_then}

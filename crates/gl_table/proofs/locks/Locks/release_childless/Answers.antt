@@ -1,7 +1,6 @@
 use Rattle.gl_table.proofs.Words.{◌-◌, ◌==◌, ◌∙◌, ◌≡◌, ap, arith, is_wait, length, List, nat_tests, NodeId, nodes_by, none_some, other_number, same_number}
-use Rattle.gl_table.proofs.Words.{slice_get, slice_get_past, split, State, state_at, subst, sym, ℕ}
+use Rattle.gl_table.proofs.Words.{slice_get, slice_get_past, split, State, state_at, subst, sym, waits_there, ℕ}
 use Rattle.gl_lock_lists.proofs.Lists.{place_from}
-use Rattle.gl_model.proofs.telling.Fronts.{waits_there}
 use Rattle.gl_table.proofs.inside.Back.{back_begins, back_one, back_tells, IsGoingBack, listed_held, none_held, some_held}
 use Rattle.gl_table.proofs.inside.Orders.{childless_there, parent_there, rows_are}
 use Rattle.gl_table.proofs.inside.Places.{lists_here, lose_then}

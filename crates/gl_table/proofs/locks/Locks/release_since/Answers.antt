@@ -1,7 +1,6 @@
-use Rattle.gl_table.proofs.Words.{◌∙◌, ◌≡◌, ap, arith, clash, drop, holds_child, list_any, ListsLose, NodeId, nodes_by, same_node, state_at, subst}
-use Rattle.gl_table.proofs.Words.{sym, Told, true}
+use Rattle.gl_table.proofs.Words.{◌∙◌, ◌≡◌, ap, arith, clash, drop, holds_child, list_any, ListsLose, Locks, NodeId, nodes_by, same_node, state_at, subst, sym}
+use Rattle.gl_table.proofs.Words.{Told, true}
 use Rattle.std.proofs.lemmas.List.{drop_all}
-use Rattle.gl_table.specs.declared.locks.Locks.{Locks}
 use Rattle.gl_table.proofs.inside.Back.{back_begins, back_pass, back_tells, IsGoingBack}
 use Rattle.gl_table.proofs.inside.Orders.{rows_are}
 use Rattle.gl_table.proofs.inside.Places.{lists_here, lose_then}

@@ -1,5 +1,5 @@
-use Rattle.gl_table.proofs.Words.{◌<◌, ◌≡◌, Deadlock, IsBetween, is_wait, ListsLose, None, notices_in, SettlesKeeping}
-use Rattle.gl_table.proofs.Words.{State, state_at, status_of, TellsAll, true, ℕ}
+use Rattle.gl_table.proofs.Words.{◌<◌, ◌≡◌, Deadlock, is_wait, IsBetween, ListsLose, None, notices_in, SettlesKeeping, State, state_at, status_of, TellsAll}
+use Rattle.gl_table.proofs.Words.{true, ℕ}
 use Rattle.gl_table.proofs.inside.Withdrawn.{how_many_wait}
 use Rattle.gl_table.proofs.locks.Locks.settle.Given as goal
 

@@ -1,7 +1,6 @@
-use Rattle.gl_table.proofs.Words.{◌==◌, ◌∙◌, ◌≡◌, ap, filter, filter-from_retain, not, notices_in, refl, rules, state_at, sym}
+use Rattle.gl_table.proofs.Words.{◌==◌, ◌∙◌, ◌≡◌, ap, filter, filter-from_retain, nobody_told, not, notices_in, refl, rules, state_at, sym}
 use Rattle.gl_model.proofs.telling.Fronts.{between_here}
 use Rattle.gl_model.proofs.telling.Lists.{told_in_order, told_nothing}
-use Rattle.gl_model.proofs.telling.Between.{nobody_told}
 use Rattle.gl_table.proofs.locks.Locks.settle_requester.Goals as goal
 use Rattle.gl_table.proofs.inside.Places.{lists_here}
 

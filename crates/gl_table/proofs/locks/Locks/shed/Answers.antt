@@ -1,10 +1,8 @@
-use Rattle.gl_table.proofs.Words.{◌∙◌, graph_of, length-set, State, state_at, state_in}
+use Rattle.gl_table.proofs.Words.{◌∙◌, graph_of, keys, length-set, State, state_at, state_in}
 use Rattle.gl_table.proofs.inside.Marked.{agrees-back, counts-back, list_there, parents_counted, shedding_begins, taken_out}
-use Rattle.gl_table.proofs.inside.Slots.{agrees-set, counts-set}
+use Rattle.gl_table.proofs.inside.Slots.{agrees-set, counts-set, lists_back}
 use Rattle.gl_table.proofs.locks.Locks.shed.Goals as goal
-use Rattle.gl_table.proofs.Words.{keys}
 use Rattle.gl_table.proofs.inside.Places.{loses_then, same_order}
-use Rattle.gl_table.proofs.inside.Slots.{lists_back}
 
 pub mark_covered-requires : goal.mark_covered-requires
 mark_covered-requires c =

@@ -1,17 +1,13 @@
 use Rattle.gl_table.proofs.Words.{◌&&◌, ◌<◌, ◌∙◌, ◌≡◌, Agrees, ap, count_of, CountsHeld, false, if◌then◌else◌, is_listed, is_wait, is_waiting_at, IsOrderly}
-use Rattle.gl_table.proofs.Words.{length, List, LockList, mode_of, NL, NodeId, not, not-false, not-true, pumped, same_node, slice_set, spare, State, state_at}
-use Rattle.gl_table.proofs.Words.{state_in, subst, sym, true, without_wait, ℕ}
-use Rattle.gl_table.proofs.inside.Slots.{by_list-at}
+use Rattle.gl_table.proofs.Words.{keys, length, List, LockList, mode_of, NL, NodeId, not, not-false, not-true, out_of_without, pumped, refl, same_node}
+use Rattle.gl_table.proofs.Words.{slice_set, spare, State, state_at, state_in, subst, sym, true, txn_there, waiting_is, waits_there, without_wait, ℕ}
+use Rattle.gl_table.proofs.inside.Slots.{by_list-at, set_loses}
 use Rattle.gl_table.proofs.inside.Withdrawn.{agrees_withdrawn, counts_withdrawn, room_left, Unlists, unlists_held, unlists_left}
-use Rattle.gl_model.proofs.law.Keeps.{txn_there, waiting_is}
-use Rattle.gl_model.proofs.queues.Edits.{out_of_without}
-use Rattle.gl_model.proofs.telling.Fronts.{waits_only, waits_there}
+use Rattle.gl_model.proofs.telling.Fronts.{waits_only}
 use Rattle.gl_model.proofs.telling.GivenUp.{orderly_without}
 use Rattle.gl_table.proofs.locks.Locks.withdraw.Goals.{After-holds}
 use Rattle.gl_table.proofs.locks.Locks.withdraw.Goals as goal
-use Rattle.gl_table.proofs.Words.{keys, refl}
 use Rattle.gl_table.proofs.inside.Places.{lose_then, lost_one, same_order}
-use Rattle.gl_table.proofs.inside.Slots.{set_loses}
 
 abbrev before : After-holds → State
 before c = state_at c.args.self.now

@@ -1,8 +1,7 @@
-use Rattle.gl_table.proofs.Words.{◌∙◌, ap, released, state_of, TableView, told, view_of}
+use Rattle.gl_table.proofs.Words.{◌∙◌, ap, refl, released, state_of, TableView, told, view_of}
 use Rattle.gl_table.proofs.calls.Calls.{sound_released, state_released}
 use Rattle.gl_table.proofs.calls.Ends.{told_ended}
-use Rattle.gl_table.proofs.Words.{refl}
-use Rattle.gl_table.proofs.calls.Orders.{losses_seen}
+use Rattle.gl_table.proofs.calls.Orders.{losses_of}
 use Rattle.gl_table.proofs.table.Table.abort_telling.Goals as goal
 
 pub invariant_of-self : goal.invariant_of-self
@@ -20,6 +19,4 @@ returns-clause-told c =
     ∙ ap (λ (v : TableView). told (state_of v) (state_of (view_of (record c.self.inside { locks = c.abort.new.self })))) c.self.view_is
 
 pub returns-clause-orders : goal.returns-clause-orders
-returns-clause-orders c =
-    losses_seen c.self.inside.locks.ledger.lists.items c.abort.new.self.ledger.lists.items c.abort.ensures.orders
-    c.args.self.now _ (ap (λ (v : TableView). v.lists) c.self.view_is) refl
+returns-clause-orders c = losses_of c.self.inside c.self.view_is c.abort.ensures.orders refl

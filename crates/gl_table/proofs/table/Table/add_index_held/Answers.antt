@@ -1,13 +1,10 @@
-use Rattle.gl_table.proofs.Words.{◌∙◌, ◌≡◌, Active, ap, AreExact, first_not_ix, graph_of, IsIndexBorn, IsPrepared, NodeId, None, Option, Refusal, Refuses}
-use Rattle.gl_table.proofs.Words.{Some, State, state_in, state_of, status_of, subst, sym, TableView, view_of, with_grant, with_graph, X, ℕ}
-use Rattle.gl_table.specs.declared.ledger.Ledger.{Ledger}
-use Rattle.gl_table.specs.declared.table.Table.TheInside.{Inside}
+use Rattle.gl_table.proofs.Words.{◌∙◌, ◌≡◌, Active, ap, AreExact, first_not_ix, graph_of, Inside, IsIndexBorn, IsPrepared, Ledger, NodeId, None, Option, refl}
+use Rattle.gl_table.proofs.Words.{Refusal, Refuses, reindex_refusal, Some, State, state_in, state_of, status_of, subst, sym, TableView, view_of, with_grant}
+use Rattle.gl_table.proofs.Words.{with_graph, X, ℕ}
 use Rattle.gl_table.proofs.calls.Dropping.{index_fresh, stands_indexed, stands_placed_index, state_indexed}
 use Rattle.gl_table.proofs.calls.Records.{same_state, stands_roomy}
-use Rattle.gl_graph.specs.Refusals.{reindex_refusal}
 use Rattle.gl_table.proofs.calls.Stands.{may_act, MayStand, put}
-use Rattle.gl_table.proofs.Words.{refl}
-use Rattle.gl_table.proofs.calls.Orders.{orders_seen}
+use Rattle.gl_table.proofs.calls.Orders.{orders_of}
 use Rattle.gl_table.proofs.inside.Places.{kept_then}
 use Rattle.gl_table.proofs.table.Table.add_index_held.Goals.{After-add_index_unrefused, After-prepare}
 use Rattle.gl_table.proofs.table.Table.add_index_held.Goals as goal
@@ -93,6 +90,4 @@ returns-clause-state c = let at = (goal.at.returns-clause-state c).After-add_ind
     ∙ ap (λ (s : State). with_grant (with_graph s (graph_of c.add_index_unrefused.new.self)) c.args.t.slot c.in_ok-index.index X) (same at)
 
 pub returns-clause-orders : goal.returns-clause-orders
-returns-clause-orders c =
-    orders_seen c.self.inside.locks.ledger.lists.items c.place.new.self.lists.items (kept_then c.prepare.ensures.kept.lists c.place.ensures.orders)
-    c.args.self.now _ (ap (λ (v : TableView). v.lists) c.self.view_is) refl
+returns-clause-orders c = orders_of c.self.inside c.self.view_is (kept_then c.prepare.ensures.kept.lists c.place.ensures.orders) refl

@@ -1,14 +1,10 @@
-use Rattle.gl_table.proofs.Words.{◌∙◌, ◌≡◌, Active, ap, AreExact, graph_of, IsBorn, IsPrepared, NodeId, None, Option, Rec, record_parents, record_refusal}
-use Rattle.gl_table.proofs.Words.{Refusal, Refuses, rule_refusal, Some, State, state_in, state_of, status_of, subst, sym, TableView, View, view_of}
-use Rattle.gl_table.proofs.Words.{with_grant, with_graph, ℕ}
-use Rattle.gl_table.specs.declared.ledger.Ledger.{Ledger}
-use Rattle.gl_table.specs.declared.table.Table.TheInside.{Inside}
+use Rattle.gl_table.proofs.Words.{◌∙◌, ◌≡◌, Active, ap, AreExact, graph_of, Inside, IsBorn, IsPrepared, Ledger, marked, NodeId, None, Option, Rec}
+use Rattle.gl_table.proofs.Words.{record_parents, record_refusal, refl, Refusal, Refuses, rule_refusal, Some, State, state_in, state_of, status_of, subst, sym}
+use Rattle.gl_table.proofs.Words.{TableView, View, view_of, with_grant, with_graph, ℕ}
 use Rattle.gl_table.proofs.calls.Adopting.{adopted_fresh, file_stands, stands_adopted, stands_locked, state_adopted}
 use Rattle.gl_table.proofs.calls.Records.{same_state, stands_grown, stands_roomy}
 use Rattle.gl_table.proofs.calls.Stands.{may_act, MayStand, put, with_locks}
-use Rattle.gl_graph.specs.Changes.{marked}
-use Rattle.gl_table.proofs.Words.{refl}
-use Rattle.gl_table.proofs.calls.Orders.{orders_seen}
+use Rattle.gl_table.proofs.calls.Orders.{orders_of}
 use Rattle.gl_table.proofs.inside.Places.{kept_then}
 use Rattle.gl_table.proofs.table.Table.adopt_under.Goals.{After-add_record_under, After-prepare}
 use Rattle.gl_table.proofs.table.Table.adopt_under.Goals as goal
@@ -111,6 +107,4 @@ returns-clause-state c = state_after (goal.at.returns-clause-state c).After-add_
     c.mark_adopted.ensures.marked c.place.new.self c.place.ensures.state
 
 pub returns-clause-orders : goal.returns-clause-orders
-returns-clause-orders c =
-    orders_seen c.self.inside.locks.ledger.lists.items c.place.new.self.lists.items (kept_then c.prepare.ensures.kept.lists c.place.ensures.orders)
-    c.args.self.now _ (ap (λ (v : TableView). v.lists) c.self.view_is) refl
+returns-clause-orders c = orders_of c.self.inside c.self.view_is (kept_then c.prepare.ensures.kept.lists c.place.ensures.orders) refl

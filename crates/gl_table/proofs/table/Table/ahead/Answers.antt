@@ -1,4 +1,4 @@
-use Rattle.gl_table.proofs.Words.{◌∙◌, ◌≡◌, ap, Bool, false, refl, if◌then◌else◌, is_waiter, lives, None, Option, position, Some, state_of, Status, status_of}
+use Rattle.gl_table.proofs.Words.{◌∙◌, ◌≡◌, ap, Bool, false, if◌then◌else◌, is_waiter, lives, None, Option, position, refl, Some, state_of, Status, status_of}
 use Rattle.gl_table.proofs.Words.{sym, TableView, true, Waiting}
 use Rattle.gl_table.specs.Table.{ahead_in}
 use Rattle.gl_table.proofs.calls.Places.{place-ahead}

@@ -1,5 +1,5 @@
-use Rattle.gl_table.proofs.Words.{◌∙◌, ◌≡◌, ap, begin_tests, begun_again, Err, first_refusal, free_slot, is_free, is_wait, None, none_some, position, refl}
-use Rattle.gl_table.proofs.Words.{Ok, Refuses, Some, state_of, status_of, subst, sym, TableView, TxnId, view_of}
+use Rattle.gl_table.proofs.Words.{◌∙◌, ◌≡◌, ap, begin_tests, begun_again, Err, first_refusal, free_slot, is_free, is_wait, None, none_some, Ok, position, refl}
+use Rattle.gl_table.proofs.Words.{Refuses, Some, state_of, status_of, subst, sym, TableView, TxnId}
 use Rattle.gl_modes.specs.declared.refusal.Refusal.TheVariants as no
 use Rattle.gl_table.proofs.calls.Law.{begin-refusal, found-slot, free-place}
 use Rattle.gl_table.proofs.table.Table.begin_again.Goals.{In-Some}

@@ -1,7 +1,6 @@
-use Rattle.gl_table.proofs.Words.{◌∙◌, ◌≡◌, ap, cancelled, is_waiting_at, state_of, TableView, told_but, true, view_of}
+use Rattle.gl_table.proofs.Words.{◌∙◌, ◌≡◌, ap, cancelled, is_waiting_at, refl, state_of, TableView, told_but, true, view_of}
 use Rattle.gl_table.proofs.calls.Ends.{sound_cancelled, state_cancelled, told_cancelled}
-use Rattle.gl_table.proofs.Words.{refl}
-use Rattle.gl_table.proofs.calls.Orders.{losses_seen}
+use Rattle.gl_table.proofs.calls.Orders.{losses_of}
 use Rattle.gl_table.proofs.table.Table.cancel_telling.Goals.{After-withdraw}
 use Rattle.gl_table.proofs.table.Table.cancel_telling.Goals as goal
 
@@ -25,6 +24,4 @@ returns-clause-told c =
     ∙ ap (λ (v : TableView). told_but c.args.t.slot (state_of v) (state_of (view_of (record c.self.inside { locks = c.withdraw.new.self })))) c.self.view_is
 
 pub returns-clause-orders : goal.returns-clause-orders
-returns-clause-orders c =
-    losses_seen c.self.inside.locks.ledger.lists.items c.withdraw.new.self.ledger.lists.items c.withdraw.ensures.orders
-    c.args.self.now _ (ap (λ (v : TableView). v.lists) c.self.view_is) refl
+returns-clause-orders c = losses_of c.self.inside c.self.view_is c.withdraw.ensures.orders refl

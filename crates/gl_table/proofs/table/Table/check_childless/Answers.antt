@@ -1,4 +1,4 @@
-use Rattle.gl_table.proofs.Words.{[], ◌∷◌, ◌≡◌, Err, first_refusal, held_child, not_held, None, Ok, Some, state_of, subst, TableView, verdict, view_of}
+use Rattle.gl_table.proofs.Words.{[], ◌∷◌, ◌≡◌, Err, first_refusal, held_child, None, not_held, Ok, Some, state_of, subst, TableView, verdict, view_of}
 use Rattle.gl_modes.specs.declared.refusal.Refusal.TheVariants as no
 use Rattle.gl_table.proofs.calls.Queries.{says_child, says_none, says_not_held}
 use Rattle.gl_table.proofs.table.Table.check_childless.Goals as goal

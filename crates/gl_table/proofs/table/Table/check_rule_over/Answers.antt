@@ -1,5 +1,5 @@
-use Rattle.gl_table.proofs.Words.{ap, fun_ext, length, lives, Mode, mode_of, NL, NodeId, rule_refusal, state_of, subst}
-use Rattle.gl_table.proofs.Words.{sym, TableView, true, verdict, view_of, ℕ, ◌<◌, ◌∙◌, ◌≡◌}
+use Rattle.gl_table.proofs.Words.{◌<◌, ◌∙◌, ◌≡◌, ap, fun_ext, length, lives, Mode, mode_of, NL, NodeId, rule_refusal, state_of, subst, sym, TableView, true}
+use Rattle.gl_table.proofs.Words.{verdict, view_of, ℕ}
 use Rattle.gl_table.proofs.calls.Queries.{named}
 use Rattle.gl_table.proofs.inside.Slots.{by_list-at}
 use Rattle.gl_table.proofs.table.Table.check_rule_over.Goals as goal

@@ -1,5 +1,5 @@
-use Rattle.gl_table.proofs.Words.{ap, first_not_ix, fun_ext, length, lives, Mode, mode_of, NL, NodeId, state_of, subst, sym, TableView, true, verdict}
-use Rattle.gl_table.proofs.Words.{view_of, ℕ, ◌<◌, ◌∙◌, ◌≡◌}
+use Rattle.gl_table.proofs.Words.{◌<◌, ◌∙◌, ◌≡◌, ap, first_not_ix, fun_ext, length, lives, Mode, mode_of, NL, NodeId, state_of, subst, sym, TableView, true}
+use Rattle.gl_table.proofs.Words.{verdict, view_of, ℕ}
 use Rattle.gl_table.proofs.inside.Slots.{by_list-at}
 use Rattle.gl_table.proofs.calls.Queries.{named}
 use Rattle.gl_table.proofs.table.Table.check_writable.Goals as goal

@@ -1,10 +1,8 @@
-use Rattle.gl_table.proofs.Words.{◌∙◌, ◌≡◌, ap, None, refl, Some, state_of, subst, sym, TableView, TellsOthers, Told, told, view_of}
-use Rattle.gl_table.proofs.Words.{first_refusal, commit_tests, state_at}
-use Rattle.std.proofs.Common.{inl, inr}
-use Rattle.gl_table.specs.Keeping.{CommitsKeeping}
+use Rattle.gl_table.proofs.Words.{◌∙◌, ◌≡◌, ap, commit_tests, CommitsKeeping, first_refusal, inl, inr, None, refl, Some, state_at, state_of, subst, sym}
+use Rattle.gl_table.proofs.Words.{TableView, TellsOthers, Told, told, view_of}
 use Rattle.gl_table.proofs.calls.Calls.{test_passed}
 use Rattle.gl_table.proofs.calls.Keeping.{keeps_ended, keeps_renewed, Rolled, sound_end, sound_mid, told_end, told_renewed}
-use Rattle.gl_table.proofs.calls.Orders.{losses_seen}
+use Rattle.gl_table.proofs.calls.Orders.{losses_of}
 use Rattle.gl_table.proofs.inside.Places.{lose_then}
 use Rattle.gl_table.proofs.table.Table.commit_keeping_telling.Goals.{After-release_since-released, then-self-via-else-self+then-hinders}
 use Rattle.gl_table.proofs.table.Table.commit_keeping_telling.Goals.{then-self-via-then-self}
@@ -49,8 +47,7 @@ returns-then-self-clause-told c =
 
 pub returns-then-self-clause-orders : goal.returns-then-self-clause-orders
 returns-then-self-clause-orders c =
-    losses_seen c.self.inside.locks.ledger.lists.items c.end.new.self.ledger.lists.items
-    (lose_then c.release_since-released.ensures.orders c.end.ensures.orders) c.args.self.now _ (ap (λ (v : TableView). v.lists) c.self.view_is) refl
+    losses_of c.self.inside c.self.view_is (lose_then c.release_since-released.ensures.orders c.end.ensures.orders) refl
 
 pub returns-clause-keeps : goal.returns-clause-keeps
 returns-clause-keeps c =
@@ -65,6 +62,4 @@ returns-clause-told c =
     ∙ ap (λ (v : TableView). told (state_of v) (state_of c.start.new.self)) c.self.view_is
 
 pub returns-clause-orders : goal.returns-clause-orders
-returns-clause-orders c =
-    losses_seen c.self.inside.locks.ledger.lists.items c.release_since-released.new.self.ledger.lists.items c.release_since-released.ensures.orders
-    c.args.self.now c.start.new.self (ap (λ (v : TableView). v.lists) c.self.view_is) (sym c.start.ensures.lists)
+returns-clause-orders c = losses_of c.self.inside c.self.view_is c.release_since-released.ensures.orders (sym c.start.ensures.lists)

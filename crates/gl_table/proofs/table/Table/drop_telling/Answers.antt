@@ -1,14 +1,10 @@
-use Rattle.gl_table.proofs.Words.{◌∙◌, ◌≡◌, Active, ap, departed, false, graph_of, NodeId, same_mode, shape_of, Some, state_in, state_of, status_of, subst}
-use Rattle.gl_table.proofs.Words.{sym, TableView, TellsGone, Told, told, true, view_of, X, ℕ}
-use Rattle.gl_graph.specs.Refusals.{is_in_use}
-use Rattle.gl_graph.specs.Shapes.{is_movable_shape}
-use Rattle.gl_model.specs.Calls.{dropped, goes_with}
+use Rattle.gl_table.proofs.Words.{◌∙◌, ◌≡◌, Active, ap, departed, false, goes_with, graph_of, Inside, is_in_use, is_movable_shape, NodeId, refl, same_mode}
+use Rattle.gl_table.proofs.Words.{shape_of, Some, state_in, state_of, status_of, subst, sym, TableView, TellsGone, Told, told, true, view_of, X, ℕ}
+use Rattle.gl_model.specs.Calls.{dropped}
 use Rattle.gl_table.proofs.calls.Departing.{AreGone, stands_departed, state_departed, told_departed}
 use Rattle.gl_table.proofs.calls.Dropping.{branch_gone, branch_left}
 use Rattle.gl_table.proofs.calls.Stands.{as_it_was, may_act, MayStand, with_locks}
-use Rattle.gl_table.specs.declared.table.Table.TheInside.{Inside}
-use Rattle.gl_table.proofs.Words.{refl}
-use Rattle.gl_table.proofs.calls.Orders.{losses_seen}
+use Rattle.gl_table.proofs.calls.Orders.{losses_of}
 use Rattle.gl_table.proofs.table.Table.drop_telling.Goals.{After-remove_node}
 use Rattle.gl_table.proofs.table.Table.drop_telling.Goals as goal
 
@@ -79,6 +75,4 @@ returns-clause-told c =
     ∙ ap (λ (v : TableView). told (state_of v) (with_locks c.self.inside (state_in c.remove_node.new.self c.vacate_branch.new.self))) c.self.view_is
 
 pub returns-clause-orders : goal.returns-clause-orders
-returns-clause-orders c =
-    losses_seen c.self.inside.locks.ledger.lists.items c.vacate_branch.new.self.lists.items c.vacate_branch.ensures.orders
-    c.args.self.now _ (ap (λ (v : TableView). v.lists) c.self.view_is) refl
+returns-clause-orders c = losses_of c.self.inside c.self.view_is c.vacate_branch.ensures.orders refl

@@ -1,4 +1,4 @@
-use Rattle.gl_table.proofs.Words.{◌∙◌, verdict_ok, ap, TableView, state_of}
+use Rattle.gl_table.proofs.Words.{◌∙◌, ap, state_of, TableView, verdict_ok}
 use Rattle.gl_table.proofs.calls.Queries.{answers, both_pass}
 use Rattle.gl_table.proofs.table.Table.held.Goals as goal
 

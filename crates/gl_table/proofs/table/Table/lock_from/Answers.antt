@@ -1,15 +1,14 @@
-use Rattle.gl_table.proofs.Words.{◌<◌, ◌∙◌, ◌≡◌, Active, ap, enters_at, false, first_refusal, lock_tests, LocksKeeping, None, Option, Refusal, Refuses}
-use Rattle.gl_table.proofs.Words.{holds, members, no, none_some, refl, rules, state_in, state_of, subst, sym, TableView, told_but, true, view_of, ℕ}
+use Rattle.gl_table.proofs.Words.{◌<◌, ◌∙◌, ◌≡◌, Active, ap, enters_at, false, first_refusal, holds, lock_tests, LocksKeeping, MayLock, members, no, None}
+use Rattle.gl_table.proofs.Words.{none_some, Option, refl, Refusal, Refuses, rules, state_in, state_of, subst, sym, TableView, told_but, true, txn_there}
+use Rattle.gl_table.proofs.Words.{view_of, ℕ}
 use Rattle.gl_model.specs.Calls.{Locks}
-use Rattle.gl_table.proofs.calls.Locking.{can_ask, granted_answer, granted_keeps, granted_locks, granted_told, kept_locked, may_ask, may_lock_by}
-use Rattle.gl_table.proofs.calls.Locking.{law_asked, sound_locked, stands_granted, stands_kept, state_granted, state_locked, tests-seen, told_locked, unrefused}
+use Rattle.gl_table.proofs.calls.Locking.{can_ask, granted_answer, granted_keeps, granted_locks, granted_told, kept_locked, law_asked, may_ask, may_lock_by}
+use Rattle.gl_table.proofs.calls.Locking.{sound_locked, stands_granted, stands_kept, state_granted, state_locked, tests-seen, told_locked, unrefused}
 use Rattle.gl_table.proofs.calls.Stands.{MayStand, with_locks}
 use Rattle.gl_table.proofs.inside.Asks.{answer-enters, answer-granted, answer-waits}
-use Rattle.gl_model.proofs.law.Keeps.{txn_there}
-use Rattle.gl_model.proofs.law.Lock.{MayLock}
-use Rattle.gl_table.proofs.calls.Orders.{orders_seen}
+use Rattle.gl_table.proofs.calls.Orders.{orders_of}
 use Rattle.gl_table.proofs.inside.Places.{keep_then}
-use Rattle.gl_table.proofs.table.Table.lock_from.Goals.{In_ok-held, In_err-granted, In-Granted, In-Waiting}
+use Rattle.gl_table.proofs.table.Table.lock_from.Goals.{In-Granted, In-Waiting, In_err-granted, In_ok-held}
 use Rattle.gl_table.proofs.table.Table.lock_from.Goals as goal
 
 -- the tests of the request passed, and this is the mode held
@@ -165,11 +164,8 @@ pub returns-in-Waiting-clause-before : goal.returns-in-Waiting-clause-before
 returns-in-Waiting-clause-before c = (checked (goal.at.returns-in-Waiting-clause-before c).In_ok-held).1
 
 pub returns-in-Granted-clause-orders : goal.returns-in-Granted-clause-orders
-returns-in-Granted-clause-orders c =
-    orders_seen c.self.inside.locks.ledger.lists.items c.ask.new.self.lists.items c.ask.ensures.orders
-    c.args.self.now _ (ap (λ (v : TableView). v.lists) c.self.view_is) refl
+returns-in-Granted-clause-orders c = orders_of c.self.inside c.self.view_is c.ask.ensures.orders refl
 
 pub returns-in-Waiting-clause-orders : goal.returns-in-Waiting-clause-orders
 returns-in-Waiting-clause-orders c =
-    orders_seen c.self.inside.locks.ledger.lists.items c.settle_requester.new.self.ledger.lists.items
-    (keep_then c.ask.ensures.orders c.settle_requester.ensures.orders) c.args.self.now _ (ap (λ (v : TableView). v.lists) c.self.view_is) refl
+    orders_of c.self.inside c.self.view_is (keep_then c.ask.ensures.orders c.settle_requester.ensures.orders) refl

@@ -1,12 +1,9 @@
-use Rattle.gl_table.proofs.Words.{◌∙◌, ◌≡◌, Active, ap, AreExact, first_not_ix, graph_of, IsBorn, IsPrepared, NodeId, None, Option, Rec, record_parents}
-use Rattle.gl_table.proofs.Words.{record_refusal, Refusal, Refuses, Some, State, state_in, state_of, status_of, subst, sym, TableView, view_of, with_grant}
-use Rattle.gl_table.proofs.Words.{with_graph, X, ℕ}
-use Rattle.gl_table.specs.declared.ledger.Ledger.{Ledger}
-use Rattle.gl_table.specs.declared.table.Table.TheInside.{Inside}
+use Rattle.gl_table.proofs.Words.{◌∙◌, ◌≡◌, Active, ap, AreExact, first_not_ix, graph_of, Inside, IsBorn, IsPrepared, Ledger, NodeId, None, Option, Rec}
+use Rattle.gl_table.proofs.Words.{record_parents, record_refusal, refl, Refusal, Refuses, Some, State, state_in, state_of, status_of, subst, sym, TableView}
+use Rattle.gl_table.proofs.Words.{view_of, with_grant, with_graph, X, ℕ}
 use Rattle.gl_table.proofs.calls.Records.{record_fresh, same_state, stands_grown, stands_placed, stands_roomy, state_placed}
 use Rattle.gl_table.proofs.calls.Stands.{may_act, MayStand, put}
-use Rattle.gl_table.proofs.Words.{refl}
-use Rattle.gl_table.proofs.calls.Orders.{orders_seen}
+use Rattle.gl_table.proofs.calls.Orders.{orders_of}
 use Rattle.gl_table.proofs.inside.Places.{kept_then}
 use Rattle.gl_table.proofs.table.Table.place_under.Goals.{After-add_record_under, After-prepare}
 use Rattle.gl_table.proofs.table.Table.place_under.Goals as goal
@@ -95,6 +92,4 @@ returns-clause-state c = let at = (goal.at.returns-clause-state c).After-add_rec
     ∙ ap (λ (s : State). with_grant (with_graph s (graph_of c.add_record_under.new.self)) c.args.t.slot c.in_ok-rec.rec X) (same at)
 
 pub returns-clause-orders : goal.returns-clause-orders
-returns-clause-orders c =
-    orders_seen c.self.inside.locks.ledger.lists.items c.place.new.self.lists.items (kept_then c.prepare.ensures.kept.lists c.place.ensures.orders)
-    c.args.self.now _ (ap (λ (v : TableView). v.lists) c.self.view_is) refl
+returns-clause-orders c = orders_of c.self.inside c.self.view_is (kept_then c.prepare.ensures.kept.lists c.place.ensures.orders) refl

@@ -1,10 +1,9 @@
-use Rattle.gl_table.proofs.Words.{◌∙◌, ◌≡◌, ap, first_cycle, graph_of, moved_to, Node, state_in, state_of, sym, TableView, told, view_of, with_parents}
-use Rattle.gl_table.proofs.calls.Moves.{agreed_moved, move_call, recount_moved, shut_moved, stands_moved}
-use Rattle.gl_table.proofs.calls.Moves.{state_moved, told_moved}
-use Rattle.gl_model.proofs.law.Move.{moved_node, Moves}
+use Rattle.gl_table.proofs.Words.{◌∙◌, ◌≡◌, ap, first_cycle, graph_of, moved_to, Moves, Node, refl, state_in, state_of, sym, TableView, told, view_of}
+use Rattle.gl_table.proofs.Words.{with_parents}
+use Rattle.gl_table.proofs.calls.Moves.{agreed_moved, move_call, recount_moved, shut_moved, stands_moved, state_moved, told_moved}
+use Rattle.gl_model.proofs.law.Move.{moved_node}
 use Rattle.gl_table.proofs.calls.Stands.{MayStand, with_locks}
-use Rattle.gl_table.proofs.Words.{refl}
-use Rattle.gl_table.proofs.calls.Orders.{losses_seen}
+use Rattle.gl_table.proofs.calls.Orders.{losses_of}
 use Rattle.gl_table.proofs.table.Table.regraft_telling.Goals.{After-follow}
 use Rattle.gl_table.proofs.table.Table.regraft_telling.Goals as goal
 
@@ -62,6 +61,4 @@ returns-clause-told c = let at = (goal.at.returns-clause-told c).After-follow in
     c.self.view_is
 
 pub returns-clause-orders : goal.returns-clause-orders
-returns-clause-orders c =
-    losses_seen c.self.inside.locks.ledger.lists.items c.follow.new.self.lists.items c.follow.ensures.orders
-    c.args.self.now _ (ap (λ (v : TableView). v.lists) c.self.view_is) refl
+returns-clause-orders c = losses_of c.self.inside c.self.view_is c.follow.ensures.orders refl

@@ -1,8 +1,7 @@
-use Rattle.gl_table.proofs.Words.{◌∙◌, ◌≡◌, Active, ap, GoesBack, nodes_of, Some, state_of, status_of, subst, sym, TableView, told, view_of}
+use Rattle.gl_table.proofs.Words.{◌∙◌, ◌≡◌, Active, ap, GoesBack, nodes_of, refl, Some, state_of, status_of, subst, sym, TableView, told, view_of}
 use Rattle.gl_table.proofs.calls.Back.{seen_back, sound_back, told_back}
 use Rattle.gl_table.proofs.calls.Calls.{is_active, test_passed}
-use Rattle.gl_table.proofs.Words.{refl}
-use Rattle.gl_table.proofs.calls.Orders.{losses_seen}
+use Rattle.gl_table.proofs.calls.Orders.{losses_of}
 use Rattle.gl_table.proofs.table.Table.release_since_telling.Goals.{After-release_since}
 use Rattle.gl_table.proofs.table.Table.release_since_telling.Goals as goal
 
@@ -33,6 +32,4 @@ returns-clause-told c =
     ∙ ap (λ (v : TableView). told (state_of v) (state_of (view_of (record c.self.inside { locks = c.release_since.new.self })))) c.self.view_is
 
 pub returns-clause-orders : goal.returns-clause-orders
-returns-clause-orders c =
-    losses_seen c.self.inside.locks.ledger.lists.items c.release_since.new.self.ledger.lists.items c.release_since.ensures.orders
-    c.args.self.now _ (ap (λ (v : TableView). v.lists) c.self.view_is) refl
+returns-clause-orders c = losses_of c.self.inside c.self.view_is c.release_since.ensures.orders refl

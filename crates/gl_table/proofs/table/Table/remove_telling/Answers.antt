@@ -1,12 +1,10 @@
-use Rattle.gl_table.proofs.Words.{◌∙◌, ◌≡◌, Active, ap, deleted, departed, graph_of, holds, is_record_shape, members, NodeId, rec_live, same_mode, same_node}
-use Rattle.gl_table.proofs.Words.{shape_of, Some, state_in, state_of, status_of, subst, sym, TableView, TellsGone, Told, told, true, view_of, X}
+use Rattle.gl_table.proofs.Words.{◌∙◌, ◌≡◌, Active, ap, deleted, departed, graph_of, holds, Inside, is_record_shape, members, NodeId, rec_live, refl, same_mode}
+use Rattle.gl_table.proofs.Words.{same_node, shape_of, Some, state_in, state_of, status_of, subst, sym, TableView, TellsGone, Told, told, true, view_of, X}
 use Rattle.gl_table.proofs.inside.Vacated.{record-childless}
 use Rattle.gl_table.proofs.calls.Departing.{AreGone, stands_departed, state_departed, told_departed}
 use Rattle.gl_table.proofs.calls.Records.{held_alone, record_gone}
 use Rattle.gl_table.proofs.calls.Stands.{as_it_was, may_act, MayStand, with_locks}
-use Rattle.gl_table.specs.declared.table.Table.TheInside.{Inside}
-use Rattle.gl_table.proofs.Words.{refl}
-use Rattle.gl_table.proofs.calls.Orders.{losses_seen}
+use Rattle.gl_table.proofs.calls.Orders.{losses_of}
 use Rattle.gl_table.proofs.table.Table.remove_telling.Goals.{After-remove_record}
 use Rattle.gl_table.proofs.table.Table.remove_telling.Goals as goal
 
@@ -65,6 +63,4 @@ returns-clause-told c =
     ∙ ap (λ (v : TableView). told (state_of v) (with_locks c.self.inside (state_in c.remove_record.new.self c.vacate.new.self))) c.self.view_is
 
 pub returns-clause-orders : goal.returns-clause-orders
-returns-clause-orders c =
-    losses_seen c.self.inside.locks.ledger.lists.items c.vacate.new.self.lists.items c.vacate.ensures.orders
-    c.args.self.now _ (ap (λ (v : TableView). v.lists) c.self.view_is) refl
+returns-clause-orders c = losses_of c.self.inside c.self.view_is c.vacate.ensures.orders refl

@@ -1,8 +1,7 @@
-use Rattle.gl_table.proofs.Words.{◌∙◌, ap, IsLawful, Settled, SettlesKeeping, state_of, subst, TableView, told, view_of}
+use Rattle.gl_table.proofs.Words.{◌∙◌, ap, IsLawful, refl, Settled, SettlesKeeping, state_of, subst, TableView, told, view_of}
 use Rattle.gl_table.proofs.calls.Ends.{kept_settled, sound_settled, state_settled, told_settled}
 use Rattle.gl_model.proofs.telling.Lists.{settled_same, told_settled_same}
-use Rattle.gl_table.proofs.Words.{refl}
-use Rattle.gl_table.proofs.calls.Orders.{losses_seen}
+use Rattle.gl_table.proofs.calls.Orders.{losses_of}
 use Rattle.gl_table.proofs.table.Table.settle_telling.Goals as goal
 
 pub invariant_of-self : goal.invariant_of-self
@@ -37,6 +36,4 @@ returns-clause-idle c = λ none. (
 )
 
 pub returns-clause-orders : goal.returns-clause-orders
-returns-clause-orders c =
-    losses_seen c.self.inside.locks.ledger.lists.items c.settle.new.self.ledger.lists.items c.settle.ensures.orders
-    c.args.self.now _ (ap (λ (v : TableView). v.lists) c.self.view_is) refl
+returns-clause-orders c = losses_of c.self.inside c.self.view_is c.settle.ensures.orders refl

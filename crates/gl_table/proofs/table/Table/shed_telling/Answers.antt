@@ -1,7 +1,6 @@
-use Rattle.gl_table.proofs.Words.{◌-◌, ◌∙◌, ◌≡◌, Active, ap, covered_children, held_children, is_at_least, S, shed, Some, state_of, status_of, subst, sym}
+use Rattle.gl_table.proofs.Words.{◌-◌, ◌∙◌, ◌≡◌, Active, ap, covered_children, held_children, is_at_least, refl, S, shed, Some, state_of, status_of, subst, sym}
 use Rattle.gl_table.proofs.Words.{TableView, told, true, view_of}
 use Rattle.gl_table.proofs.calls.Records.{no_more_kept, number_kept, number_released, sound_shed, state_shed, told_shed}
-use Rattle.gl_table.proofs.Words.{refl}
 use Rattle.gl_table.proofs.calls.Orders.{lost_seen}
 use Rattle.gl_table.proofs.table.Table.shed_telling.Goals as goal
 

@@ -1,4 +1,4 @@
-use Rattle.gl_table.proofs.Words.{◌+◌, ◌∙◌, ◌≡◌, ◌<◌, ◌≤◌, ap, arith, begun_again, begun_since, false, is_wait, length, state_of, status_of, subst, sym}
+use Rattle.gl_table.proofs.Words.{◌+◌, ◌<◌, ◌∙◌, ◌≡◌, ◌≤◌, ap, arith, begun_again, begun_since, false, is_wait, length, state_of, status_of, subst, sym}
 use Rattle.gl_table.proofs.Words.{TableView, view_of}
 use Rattle.gl_table.proofs.calls.Law.{begun-law, begun-safe, begun-state}
 use Rattle.gl_table.proofs.table.Table.start.Goals.{After-take}

@@ -1,11 +1,9 @@
-use Rattle.gl_table.proofs.Words.{◌∙◌, ◌≡◌, Err, false, first_refusal, granted, IfOk, lock_tests, Mode, None, none_some, OnOk, Option, refl, Refusal}
+use Rattle.gl_table.proofs.Words.{◌∙◌, ◌≡◌, Err, false, first_refusal, granted, IfOk, lock_tests, MayLock, Mode, None, none_some, OnOk, Option, refl, Refusal}
 use Rattle.gl_table.proofs.Words.{Refuses, rules, Some, state_in, state_of, subst, sym, TableView, true, try_tests, view_of, wanted}
 use Rattle.gl_modes.specs.declared.refusal.Refusal.TheVariants as no
 use Rattle.gl_table.proofs.calls.Locking.{can_ask, decided, may_ask, may_lock_by, mode_tried, same_enters, stands_tried, state_tried, tests-seen, try_refused}
 use Rattle.gl_table.proofs.calls.Stands.{MayStand, with_locks}
-use Rattle.gl_model.proofs.law.Lock.{MayLock}
-use Rattle.gl_table.proofs.Words.{ap}
-use Rattle.gl_table.proofs.calls.Orders.{if_accepted, orders_seen}
+use Rattle.gl_table.proofs.calls.Orders.{if_accepted, orders_of}
 use Rattle.gl_table.proofs.table.Table.try_lock.Goals.{After-grant, In_err-held, In_ok-held}
 use Rattle.gl_table.proofs.table.Table.try_lock.Goals as goal
 
@@ -87,5 +85,4 @@ returns-clause-refuses c =
 
 pub returns-clause-orders : goal.returns-clause-orders
 returns-clause-orders c =
-    if_accepted c.grant.result (orders_seen c.self.inside.locks.ledger.lists.items c.grant.new.self.lists.items c.grant.ensures.orders
-    c.args.self.now _ (ap (λ (v : TableView). v.lists) c.self.view_is) refl)
+    if_accepted c.grant.result (orders_of c.self.inside c.self.view_is c.grant.ensures.orders refl)

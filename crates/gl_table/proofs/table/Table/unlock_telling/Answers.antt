@@ -1,7 +1,7 @@
-use Rattle.gl_table.proofs.Words.{◌∙◌, ap, front_at, NL, State, state_of, subst, TableView, Told, told, unlocked, view_of, WakesTold, with_grant, state_at}
+use Rattle.gl_table.proofs.Words.{◌∙◌, ap, front_at, NL, refl, State, state_at, state_of, subst, TableView, Told, told, unlocked, view_of, WakesTold}
+use Rattle.gl_table.proofs.Words.{with_grant}
 use Rattle.gl_table.proofs.calls.Calls.{may_unlock, sound_unlocked, state_unlocked, told_unlocked}
-use Rattle.gl_table.proofs.Words.{refl}
-use Rattle.gl_table.proofs.calls.Orders.{losses_seen}
+use Rattle.gl_table.proofs.calls.Orders.{losses_of}
 use Rattle.gl_table.proofs.table.Table.unlock_telling.Goals as goal
 
 pub release-requires-clause-childless : goal.release-requires-clause-childless
@@ -33,6 +33,4 @@ returns-clause-told c =
     ∙ ap (λ (v : TableView). told (state_of v) (state_of (view_of (record c.self.inside { locks = c.release.new.self })))) c.self.view_is
 
 pub returns-clause-orders : goal.returns-clause-orders
-returns-clause-orders c =
-    losses_seen c.self.inside.locks.ledger.lists.items c.release.new.self.ledger.lists.items c.release.ensures.orders
-    c.args.self.now _ (ap (λ (v : TableView). v.lists) c.self.view_is) refl
+returns-clause-orders c = losses_of c.self.inside c.self.view_is c.release.ensures.orders refl

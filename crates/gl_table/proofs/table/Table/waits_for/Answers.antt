@@ -1,7 +1,5 @@
-use Rattle.gl_slots.specs.Slots.{has_slot}
-use Rattle.gl_table.proofs.Words.{◌&&◌, ◌==◌, ◌∙◌, ◌≡◌, ap, blocks, Bool, false, if◌then◌else◌, lives, None, not, Option, Some, state_of, Status}
-use Rattle.gl_table.proofs.Words.{status_of, subst}
-use Rattle.gl_table.proofs.Words.{sym, TableView, true, view_of, Waiting, waits_for}
+use Rattle.gl_table.proofs.Words.{◌&&◌, ◌==◌, ◌∙◌, ◌≡◌, ap, blocks, Bool, false, has_slot, if◌then◌else◌, lives, None, not, Option, Some, state_of, Status}
+use Rattle.gl_table.proofs.Words.{status_of, subst, sym, TableView, true, view_of, Waiting, waits_for}
 use Rattle.gl_table.proofs.table.Table.waits_for.Goals as goal
 
 there : (b : Bool) (o : Option Status) (x : Status) → (if b then o else None) ≡ Some x → o ≡ Some x

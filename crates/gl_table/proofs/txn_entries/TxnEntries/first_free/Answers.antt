@@ -1,4 +1,4 @@
-use Rattle.gl_table.proofs.Words.{◌∙◌, ◌≡◌, ap, HasNoSlot, IfNone, IfSome, is_free, IsLowest, AreTxnEntries, None, Option, position, TxnEntryList, Some, sym, ℕ}
+use Rattle.gl_table.proofs.Words.{◌∙◌, ◌≡◌, ap, AreTxnEntries, HasNoSlot, IfNone, IfSome, is_free, IsLowest, None, Option, position, Some, sym, TxnEntryList, ℕ}
 use Rattle.gl_table.specs.declared.txn_entries.TxnEntries.TheInside.{Inside}
 use Rattle.gl_table.proofs.inside.TxnEntries.{lowest-first, none-free}
 use Rattle.gl_table.proofs.txn_entries.TxnEntries.first_free.Goals as goal

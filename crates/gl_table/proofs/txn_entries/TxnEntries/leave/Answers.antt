@@ -1,6 +1,5 @@
-use Rattle.gl_table.proofs.Words.{◌&&◌, ◌<◌, ◌==◌, ◌||◌, ◌∙◌, ◌≡◌, ap, arith, Bool, common_steps, false, gets, if◌then◌else◌, length, nat_tests, None}
-use Rattle.gl_table.proofs.Words.{not, refl, sym}
-use Rattle.gl_table.proofs.Words.{true}
+use Rattle.gl_table.proofs.Words.{◌&&◌, ◌<◌, ◌==◌, ◌||◌, ◌∙◌, ◌≡◌, ap, arith, Bool, common_steps, false, gets, if◌then◌else◌, length, nat_tests, None, not}
+use Rattle.gl_table.proofs.Words.{refl, sym, true}
 use Rattle.gl_table.proofs.inside.TxnEntries.{free-set, lives-set, waits-set}
 use Rattle.gl_table.proofs.txn_entries.TxnEntries.leave.Goals as goal
 

@@ -1,6 +1,5 @@
-use Rattle.gl_table.proofs.Words.{◌<◌, ◌==◌, ◌∙◌, ◌≡◌, ap, ap₂, arith, common_steps, elements, gets, if◌then◌else◌, is_wait, length, nat_tests, restatus}
-use Rattle.gl_table.proofs.Words.{TxnEntryList, Some, sym, true, txns_of}
-use Rattle.gl_table.specs.inside.TxnEntries.{lives_at}
+use Rattle.gl_table.proofs.Words.{◌<◌, ◌==◌, ◌∙◌, ◌≡◌, ap, ap₂, arith, common_steps, elements, gets, if◌then◌else◌, is_wait, length, lives_at, nat_tests}
+use Rattle.gl_table.proofs.Words.{restatus, Some, sym, true, TxnEntryList, txns_of}
 use Rattle.gl_table.proofs.inside.TxnEntries.{free-kept, lives-kept, txns-set, waits-set}
 use Rattle.gl_table.proofs.txn_entries.TxnEntries.set_status.Goals as goal
 

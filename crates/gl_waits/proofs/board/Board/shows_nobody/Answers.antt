@@ -1,6 +1,4 @@
-use Rattle.std.proofs.Common.{◌≡◌, ℕ, Bool, true, false, ◌∙◌, arith}
-use Rattle.gl_slots.specs.Slots.{has_slot}
-use Rattle.gl_waits.specs.Boards.{board_edge}
+use Rattle.gl_waits.proofs.Words.{◌∙◌, ◌≡◌, arith, board_edge, Bool, false, has_slot, true, ℕ}
 use Rattle.gl_waits.proofs.BoardLemmas.{bit_edge-read}
 use Rattle.gl_waits.proofs.board.Board.shows_nobody.Goals as goal
 

@@ -1,5 +1,4 @@
-use Rattle.std.proofs.Common.{◌≡◌, ℕ, ◌<◌, false}
-use Rattle.gl_waits.specs.Boards.{board_edge}
+use Rattle.gl_waits.proofs.Words.{◌<◌, ◌≡◌, board_edge, false, ℕ}
 use Rattle.gl_waits.proofs.board.Board.shows_nobody.Given as goal
 
 abbrev pub invariant-loop-row : goal.invariant-loop-row

@@ -1,12 +1,8 @@
-use Rattle.std.proofs.Common.{rules, arith, sym, ◌≡◌, ◌≤◌, ◌++◌, ◌∷◌, [], ◌∙◌, ap, subst, length, length-append, List}
-use Rattle.std.specs.Arc.{arc_value}
-use Rattle.gl_waits.specs.declared.board.Board.{Board}
-use Rattle.gl_window.specs.Boards.{Fine, last_epoch, Rising, AllFine}
-use Rattle.gl_model.specs.declared.answers.Detect.{Detect}
+use Rattle.gl_window.proofs.Words.{◌++◌, [], ◌∙◌, ◌∷◌, ◌≡◌, ◌≤◌, AllFine, ap, arc_value, arith, Board, Detect, Fine, last_epoch, length, length-append, List}
+use Rattle.gl_window.proofs.Words.{Rising, rules, Strip, subst, sym}
 use Rattle.gl_window.specs.Rules.{head_of}
-use Rattle.gl_window.specs.Strip.{Strip}
 use Rattle.gl_window.proofs.Adding.{adds_moves}
-use Rattle.gl_window.proofs.Lists.{rising_more, fine_more}
+use Rattle.gl_window.proofs.Lists.{fine_more, rising_more}
 use Rattle.gl_window.proofs.history.Line.add.Goals as goal
 
 pub compare_exchange-found-requires : goal.compare_exchange-found-requires

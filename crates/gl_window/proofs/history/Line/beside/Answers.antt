@@ -1,7 +1,4 @@
-use Rattle.std.proofs.Common.{ap, subst, List}
-use mathlib.Core.List.{IsPrefix}
-use Rattle.gl_waits.specs.declared.board.Board.{Board}
-use Rattle.gl_window.specs.Strip.{Strip}
+use Rattle.gl_window.proofs.Words.{ap, Board, IsPrefix, List, Strip, subst}
 use Rattle.gl_window.proofs.history.Line.beside.Goals as goal
 
 pub returns : goal.returns

@@ -1,6 +1,4 @@
-use Rattle.std.proofs.Common.{ap, sym, ◌∙◌}
-use Rattle.std.specs.Arc.{arc_value}
-use Rattle.gl_waits.specs.declared.board.Board.{Board}
+use Rattle.gl_window.proofs.Words.{◌∙◌, ap, arc_value, Board, sym}
 use Rattle.gl_window.proofs.Lists.{last_ends}
 use Rattle.gl_window.proofs.history.Line.board.Goals as goal
 

@@ -1,5 +1,4 @@
-use Rattle.std.proofs.Common.{arith, sym, ◌≡◌, ◌∙◌, ap, length}
-use Rattle.gl_window.specs.Strip.{Strip}
+use Rattle.gl_window.proofs.Words.{◌∙◌, ◌≡◌, ap, arith, length, Strip, sym}
 use Rattle.gl_window.proofs.Lists.{same_length}
 use Rattle.gl_window.proofs.history.Line.is_same.Goals as goal
 

@@ -1,7 +1,4 @@
-use Rattle.std.proofs.Common.{◌≡◌, ◌≤◌, arith, length, ap, subst, sym, List}
-use mathlib.Core.List.{IsPrefix}
-use Rattle.gl_waits.specs.declared.board.Board.{Board}
-use Rattle.gl_window.specs.Strip.{Strip}
+use Rattle.gl_window.proofs.Words.{◌≡◌, ◌≤◌, ap, arith, Board, IsPrefix, length, List, Strip, subst, sym}
 use Rattle.gl_window.proofs.Fronts.{prefix_shorter}
 use Rattle.gl_window.proofs.history.Line.learn.Goals as goal
 

@@ -1,4 +1,4 @@
-use Rattle.std.proofs.Common.{rules, refl, Some, None}
+use Rattle.gl_window.proofs.Words.{None, refl, rules, Some}
 use Rattle.gl_window.proofs.SeatSteps.{enters}
 use Rattle.gl_window.proofs.seats.Seats.find.Goals as goal
 

@@ -1,4 +1,4 @@
-use Rattle.std.proofs.Common.{rules, arith}
+use Rattle.gl_window.proofs.Words.{arith, rules}
 use Rattle.gl_window.proofs.SeatSteps.{leaves}
 use Rattle.gl_window.proofs.seats.Seats.leave.Goals as goal
 

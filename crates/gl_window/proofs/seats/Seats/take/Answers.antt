@@ -1,8 +1,5 @@
-use Rattle.std.proofs.Common.{rules, arith, ap, refl, ◌∙◌, ◌<◌}
-use Rattle.std.specs.Int.{bit_at}
-use Rattle.std.proofs.lemmas.Nat.{one_shl}
+use Rattle.gl_window.proofs.Words.{◌<◌, ◌∙◌, ap, arith, bit_at, one_shl, refl, rules, Sitter}
 use Rattle.gl_window.specs.Seats.{newcomer}
-use Rattle.gl_window.specs.declared.seats.Sitter.{Sitter}
 use Rattle.gl_window.proofs.SeatSteps.{clear_bit, enters, one_more, set_bit, takes}
 use Rattle.gl_window.proofs.seats.Seats.take.Goals as goal
 

@@ -1,5 +1,4 @@
-use Rattle.std.specs.Prelude.{◌≡◌, ◌<◌, ℕ, None}
-use Rattle.std.specs.Int.{bit_at}
+use Rattle.gl_window.proofs.Words.{◌<◌, ◌≡◌, bit_at, None, ℕ}
 use Rattle.gl_window.proofs.seats.Seats.take.Given as goal
 
 -- it has no seat yet, and has found each so far taken

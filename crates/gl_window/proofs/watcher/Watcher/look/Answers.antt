@@ -1,6 +1,4 @@
-use Rattle.std.proofs.Common.{rules, ◌≡◌, ◌≤◌, subst, sym, ℕ}
-use mathlib.Core.List.{IsPrefix}
-use Rattle.gl_window.specs.Boards.{AllFine, Ends, Rising, last_epoch}
+use Rattle.gl_window.proofs.Words.{◌≡◌, ◌≤◌, AllFine, Ends, IsPrefix, last_epoch, Rising, rules, subst, sym, ℕ}
 use Rattle.gl_window.proofs.Lists.{fine_last, prefix_up}
 use Rattle.gl_window.proofs.watcher.Watcher.look.Goals as goal
 
