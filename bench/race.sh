@@ -34,7 +34,7 @@
 # - The commit is that of 1,000 records in X and three nodes in IX. Acquiring them is not measured. A rollback to a
 #   savepoint is the release of the records alone. Theirs has none.
 # - The lines of bs_table are calls of include/burlapslate_shared.h: a short transaction in one thread, alone, in a
-#   session that keeps its intentions, with its locks in one call (theirs has a lock_vec), and beside a thread that reads
+#   session that keeps its intentions, with its locks in one call (theirs has a lock_vec) or all in one list, and beside a thread that reads
 #   snapshots all the time, whose instructions are not counted; S on the root that 126 sessions hold in IX, with two
 #   nodes below, and rest: the lock alone, which ends them; a wait and its grant between two
 #   threads, in which a commit and the next request are one bs_table_run; 1, 4 and 16 threads; and 4 and 16 with all of
@@ -64,7 +64,7 @@ count() {
     commit | back | table-resting) few=2 many=6 ;;
   esac
   case $1.$2 in
-    commit.* | back.* | table.ours | table-session.ours | table-watched.ours | table-resting.ours) measured=(--toggle-collect='measured*') ;;
+    commit.* | back.* | table.ours | table-session.ours | table-session-list.ours | table-watched.ours | table-resting.ours) measured=(--toggle-collect='measured*') ;;
   esac
   each "$few" "$many" "${measured[@]}" "$work/race" play "$1" "$2"
 }

@@ -17,7 +17,7 @@
 # engine works between the calls. So the table is always in use, and what threads gain is the least that is possible.
 #
 # - Own: begin, IX on a database, an area and a file, X on a record of the thread's own, commit. In a session the
-#   intentions are kept; theirs are one lock_vec with the record.
+#   intentions are kept, and all is one list (bs_session_run); theirs are one lock_vec with the record.
 # - Hot: the same with one record for all threads, which wait for each other.
 # - By nodes: four rows of 10,000, drawn at random, each read (S) or written (X) at random. A row is a node below a file
 #   and below the one interval of its index; each is locked by bs_table_lock_path. Under its lock the row is read, and

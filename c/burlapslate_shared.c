@@ -1928,6 +1928,57 @@ size_t bs_table_run(bs_table *table, bs_command *commands, size_t count) {
   return done;
 }
 
+/* The transaction of a session that has one, or its next one, if that can begin at once. */
+static bs_reply table_session_goes_on(bs_table *table, bs_session *session) {
+  bs_reply reply = bs_call_only(BS_DONE);
+  if (table_session_wakes(table, session)) return table_session_takes_up(session);
+  if (!table_lives(table, session->txn)) return table_session_has(session, table_begin_now(table));
+  reply.txn = session->txn;
+  return reply;
+}
+
+/* Makes the commit of a session in a list, and writes its reply. */
+static bs_status table_run_commit(bs_table *table, bs_session *session, bs_command *next) {
+  bs_notices *told = table_list_of(table, next->told);
+  told->count = 0;
+  next->reply = table_commit_and_rest(table, session, told);
+  table_wake(table, next->reply.status, told, false);
+  return next->reply.status;
+}
+
+/* Makes the commands of a list for a session, up to the first that is not done; how many are. */
+static size_t table_run_in_session(bs_table *table, bs_session *session, bs_command *commands, size_t count) {
+  const bs_txn none = bs_begun();
+  size_t done = 0;
+  for (; done < count; done++) {
+    bs_command *next = &commands[done];
+    bool is_own = next->txn.slot == none.slot && next->txn.age == none.age;
+    bs_status status = is_own && next->kind == BS_DO_COMMIT ? table_run_commit(table, session, next)
+                                                            : table_run_next(table, next, session->txn);
+    if (status != BS_DONE) break;
+  }
+  return done;
+}
+
+size_t bs_session_run(bs_session *session, bs_command *commands, size_t count) {
+  bs_table *table = session == NULL ? NULL : session->table;
+  bs_reply begun;
+  size_t done = 0;
+  if (commands == NULL || count == 0) return 0;
+  if (!table_enter(table)) return table_none_made(table, commands, count);
+  begun = table_session_goes_on(table, session);
+  if (begun.status == BS_DONE) {
+    done = table_run_in_session(table, session, commands, count);
+  } else {
+    table_list_of(table, commands[0].told)->count = 0;
+    commands[0].reply = begun;
+  }
+  table_hand_on(table);
+  table_release(table);
+  if (done < count) table_not_made(commands + done + 1, count - done - 1);
+  return done;
+}
+
 /* Makes the next try of a list, and writes its reply. What is no try is refused. */
 static TABLE_APART bs_status table_try_one(bs_table *table, bs_command *next) {
   bool is_try = next->kind == BS_DO_TRY || next->kind == BS_DO_TRY_PATH || next->kind == BS_DO_TRY_ROW;

@@ -78,6 +78,8 @@ static const struct line lines[] = {
     table_write, THEIRS(theirs_write), 2, { KEPT | THREADED, FRESH | THREADED } },
   { "table-session", "bs_table: the same in a session", 0, 1, 1, BEST,
     table_session, THEIRS(theirs_write), 2, { KEPT | THREADED | AT_ONCE, FRESH | THREADED | AT_ONCE } },
+  { "table-session-list", "bs_table: the same in a session, in one list", 0, 1, 1, BEST,
+    table_session_list, THEIRS(theirs_write), 2, { KEPT | THREADED | AT_ONCE, FRESH | THREADED | AT_ONCE } },
   { "table-watched", "bs_table: a short one beside who looks", 0, 1, 1, BEST,
     table_watched, THEIRS(theirs_write), 2, { KEPT | THREADED, FRESH | THREADED } },
   { "table-resting", "bs_table: S on a root that 126 hold and rest", 0, 1, 200, BEST, table_resting, NULL, 0, { 0 } },

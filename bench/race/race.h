@@ -62,7 +62,7 @@ play ours_crew, theirs_crew, theirs_crew_1, theirs_crew_16;
 /* The same through a shared table: a short transaction that writes, alone and beside a watcher that looks all the
  * time; a lock that ends those who rest; a wait and its grant; crews. For the first of these, a count has only what the
  * thread that writes does, or that locks. */
-play table_write, table_session, table_watched, table_resting, table_wait, table_crew_1, table_crew_4, table_crew_16;
+play table_write, table_session, table_session_list, table_watched, table_resting, table_wait, table_crew_1, table_crew_4, table_crew_16;
 
 /* And with all of it in one call. */
 play table_once_4, table_once_16;

@@ -81,16 +81,34 @@ static MEASURED uint64_t measured_in_session(bs_session *session, long rounds) {
   return now() - start;
 }
 
+/* A list of a session, which is its whole transaction. */
+static MEASURED uint64_t measured_in_lists(bs_session *session, long rounds) {
+  uint64_t start = now();
+  bs_command list[2];
+  list[0] = bs_do_at(BS_DO_LOCK_PATH, bs_begun(), own[0], BS_X);
+  list[1] = bs_do(BS_DO_COMMIT, bs_begun());
+  while (rounds-- > 0) WANT(bs_session_run(session, list, 2) == 2);
+  return now() - start;
+}
+
 /* The same transaction in a session, whose intentions are kept. */
-uint64_t table_session(long rounds) {
+static uint64_t in_session(uint64_t (*measured)(bs_session *session, long rounds), long rounds) {
   bs_session session;
   uint64_t taken;
   open_table();
   session = bs_session_of(table, INNER_NODES);
-  taken = measured_in_session(&session, rounds);
+  taken = measured(&session, rounds);
   DONE(bs_session_end(&session));
   close_table();
   return taken;
+}
+
+uint64_t table_session(long rounds) {
+  return in_session(measured_in_session, rounds);
+}
+
+uint64_t table_session_list(long rounds) {
+  return in_session(measured_in_lists, rounds);
 }
 
 enum { RESTING = 126 };

@@ -99,11 +99,11 @@ static bool short_by_calls(struct worker *worker, const struct touch *touches) {
 }
 
 static bool short_in_session(struct worker *worker, const struct touch *touches) {
-  bs_session *session = &sessions[worker->number];
-  bs_txn txn = DONE(bs_session_begin(session, NULL)).txn;
+  bs_command list[2];
   (void)touches;
-  DONE(bs_table_lock_path(table, txn, records[worker->number], BS_X, NULL));
-  DONE(bs_session_commit(session, NULL));
+  list[0] = bs_do_at(BS_DO_LOCK_PATH, bs_begun(), records[worker->number], BS_X);
+  list[1] = bs_do(BS_DO_COMMIT, bs_begun());
+  WANT(bs_session_run(&sessions[worker->number], list, 2) == 2);
   worker->commands += SHORT;
   return true;
 }

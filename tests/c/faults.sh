@@ -340,6 +340,13 @@ a-session-ends-in-a-transaction	/^bs_reply bs_session_end(/,/^}/s/^  if (table_l
 what-a-session-kept-stays	s/^  if (table_session_wakes(table, session)) table_make_commit(.*//
 work-begins-again-as-new	/^bs_reply bs_session_begin_again(/,/^}/s/table_begin_or_sleep(session->table, since, until)/table_begin_or_sleep(session->table, TABLE_NEW_WORK, until)/
 a-session-s-commit-wakes-nobody	/^bs_reply bs_session_commit(/,/^}/s/^  table_hand_on(table);//
+a-session-s-list-hands-on-nothing	/^size_t bs_session_run(/,/^}/s/^  table_hand_on(table);//
+a-session-s-list-keeps-nothing	/ table_run_in_session(/,/^}/s/is_own \&\& next->kind == BS_DO_COMMIT/false/
+a-session-s-list-keeps-for-others	/ table_run_in_session(/,/^}/s/is_own \&\& next->kind == BS_DO_COMMIT/next->kind == BS_DO_COMMIT/
+a-session-s-list-takes-nothing-up	/ table_session_goes_on(/,/^}/s/^  if (table_session_wakes(table, session)) .*//
+a-session-s-list-begins-another	/ table_session_goes_on(/,/^}/s/  if (!table_lives(table, session->txn)) return/  return/
+a-session-s-list-wakes-nobody	/ table_run_commit(/,/^}/s/^  table_wake(.*//
+a-refused-list-of-a-session-tells	/^size_t bs_session_run(/,/^}/s/^    table_list_of(table, commands\[0\].told)->count = 0;//
 FAULTS
 }
 

@@ -12,6 +12,7 @@
 #include <stdio.h>
 #include <time.h>
 
+#include "burlapslate_running.h"
 #include "burlapslate_session.h"
 
 #include "burlapslate_shared.c"
@@ -386,6 +387,30 @@ static void a_begin_gets_a_slot(void) {
   close_table();
 }
 
+/* A traced table ends one at a time, since each end is a line, and so all who are in the way. */
+static void a_traced_table_ends_all(void) {
+  FILE *file = tmpfile();
+  bs_session other;
+  bs_txn txn;
+  make_of(4);
+  WANT(file != NULL);
+  DONE(bs_table_trace(table, fileno(file)));
+  session = rest_at_root(), other = rest_at_root();
+  txn = begin();
+  DONE(bs_table_lock(table, txn, root, BS_S, NULL));
+  was_ended(&session);
+  was_ended(&other);
+  DONE(bs_table_commit(table, txn, NULL));
+  session = rest_at_root(), other = rest_at_root();
+  txn = begin();
+  DONE(bs_table_try(table, txn, root, BS_X));
+  was_ended(&session);
+  was_ended(&other);
+  DONE(bs_table_trace_end(table));
+  fclose(file);
+  close_table();
+}
+
 /* One that was aborted by its name, whose slot another has, makes no room: the next one that rests does. */
 static void who_was_aborted_makes_no_room(void) {
   bs_session first, second;
@@ -413,6 +438,118 @@ static void a_slot_is_handed_on(void) {
   WANT(DONE(bs_session_commit(&session, NULL)).count == 0);
   WANT(BACK(&s, BS_DONE).txn.slot == 0);
   close_table();
+}
+
+/* ------------------------------------------------------------------------------------------------
+ * Lists of a session.
+ */
+
+static bs_command list[4];
+
+/* The list of a transaction that writes the low record. */
+static void write_low(void) {
+  list[0] = bs_do_at(BS_DO_LOCK_PATH, bs_begun(), low, BS_X);
+  list[1] = bs_do(BS_DO_COMMIT, bs_begun());
+}
+
+/* A whole transaction is one list, and the next one keeps its intentions. */
+static void a_transaction_is_a_list(void) {
+  bs_txn first;
+  set_up(BS_AT_BLOCK);
+  session = bs_session_of(table, 16);
+  write_low();
+  WANT(bs_session_run(&session, list, 2) == 2 && list[1].reply.count == ABOVE);
+  WANT(session.txn.age == 0 && resting(&table->manager) == 1);
+  first = session.rests;
+  WANT(bs_session_run(&session, list, 1) == 1);
+  WANT(same_txn(session.txn, first) && resting(&table->manager) == 0);
+  holds(first, file, BS_IX);
+  holds(first, low, BS_X);
+  WANT(bs_session_run(&session, list + 1, 1) == 1 && list[1].reply.count == ABOVE);
+  ANSWERS(BS_NO_SUCH_TXN, bs_table_commit(table, first, NULL));
+  close_table();
+}
+
+/* What follows the commit in its list has no transaction, and another's commit keeps nothing. */
+static void a_commit_in_a_list(void) {
+  bs_txn other;
+  set_up(BS_AT_BLOCK);
+  session = rest_after_write();
+  other = begin_writer();
+  list[0] = bs_do(BS_DO_COMMIT, other);
+  list[1] = bs_do(BS_DO_COMMIT, bs_begun());
+  list[2] = bs_do_at(BS_DO_LOCK, bs_begun(), root, BS_IS);
+  WANT(bs_session_run(&session, list, 3) == 2);
+  WANT(list[0].reply.count == 0 && list[1].reply.count == ABOVE);
+  WANT(list[2].reply.status == BS_NO_SUCH_TXN);
+  is_kept(&session);
+  close_table();
+}
+
+/* A lock that waits stops the list; the transaction goes on after its wait. */
+static void a_list_of_a_session_waits(void) {
+  struct heard h;
+  bs_txn other;
+  set_up(BS_AT_BLOCK);
+  session = rest_after_write();
+  other = begin_writer();
+  DONE(bs_table_lock(table, other, low, BS_X, NULL));
+  write_low();
+  WANT(bs_session_run(&session, list, 2) == 0);
+  WANT(list[0].reply.status == BS_WAITING && list[1].reply.status == BS_NOT_MADE);
+  ANSWERS(BS_TXN_WAITING, (bs_session_run(&session, list + 1, 1), list[1].reply));
+  begin_asking(&h, session.txn, NULL);
+  WAITS(bs_table_ask_await(table, session.txn, low, BS_X, NULL, &h));
+  asking = NULL;
+  DONE(bs_table_commit(table, other, NULL));
+  HEARD_BY_NOW(&h, BS_DONE);
+  other = begin_writer();
+  WAITS(ask(&h, other, low, BS_X));
+  list[1].told = &told;
+  WANT(bs_session_run(&session, list + 1, 1) == 1);
+  WANT(told.count == 1 && same_txn(told.at[0].txn, other));
+  HEARD_BY_NOW(&h, BS_DONE);
+  is_kept(&session);
+  close_table();
+}
+
+/* No slot is free, or others wait for one; a list's commit frees the slot for them. */
+static void a_list_finds_no_slot(void) {
+  struct sleeper s;
+  bs_txn other;
+  make_of(1);
+  session = bs_session_of(table, 1);
+  other = begin();
+  list[0] = bs_do_at(BS_DO_LOCK, bs_begun(), root, BS_IX);
+  list[0].told = &told;
+  list[1] = bs_do(BS_DO_COMMIT, bs_begun());
+  told.count = 1;
+  WANT(bs_session_run(&session, list, 2) == 0 && told.count == 0);
+  WANT(list[0].reply.status == BS_TOO_MANY_TXNS && list[1].reply.status == BS_NOT_MADE);
+  DONE(bs_table_commit(table, other, NULL));
+  WANT(bs_session_run(&session, list, 1) == 1);
+  s = sleeper_of(BY_BEGIN, session.txn, root, BS_NL);
+  start(&s.thread, fall_asleep, &s);
+  await_sleepers(1);
+  WANT(bs_session_run(&session, list + 1, 1) == 1 && list[1].reply.count == 0);
+  WANT(BACK(&s, BS_DONE).txn.slot == 0);
+  close_table();
+}
+
+static void lists_of_no_session(void) {
+  set_up(BS_AT_BLOCK);
+  session = rest_after_write();
+  write_low();
+  WANT(bs_session_run(NULL, list, 2) == 0);
+  WANT(list[0].reply.status == BS_NULL_POINTER && list[1].reply.status == BS_NOT_MADE);
+  WANT(bs_session_run(&session, NULL, 2) == 0 && bs_session_run(&session, list, 0) == 0);
+  WANT(resting(&table->manager) == 1);
+  WANT(bs_table_hold(table) != NULL);
+  WANT(bs_session_run(&session, list, 2) == 0 && list[0].reply.status == BS_IN_USE);
+  DONE(bs_table_let_go(table));
+  DONE(bs_table_end(table));
+  WANT(bs_session_run(&session, list, 2) == 0 && list[0].reply.status == BS_NO_MANAGER);
+  DONE(bs_table_free(&table));
 }
 
 /* ------------------------------------------------------------------------------------------------
@@ -799,8 +936,14 @@ int main(int count, char **words) {
   TELL(a_path_goes_on_past_it);
   TELL(one_that_works_is_not_ended);
   TELL(a_begin_gets_a_slot);
+  TELL(a_traced_table_ends_all);
   TELL(who_was_aborted_makes_no_room);
   TELL(a_slot_is_handed_on);
+  TELL(a_transaction_is_a_list);
+  TELL(a_commit_in_a_list);
+  TELL(a_list_of_a_session_waits);
+  TELL(a_list_finds_no_slot);
+  TELL(lists_of_no_session);
   TELL(calls_in_the_wrong_order);
   TELL(what_is_no_session);
   TELL(a_commit_is_refused);

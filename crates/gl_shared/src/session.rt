@@ -155,8 +155,7 @@ impl<'a, N: Naming> Session<'a, N> {
         self.notices.clear();
         let mut guard = self.shared.latch.lock(rt);
         guard.law();
-        let (answer, ended) =
-            guard.serve_lock(&mut self.share, txn, node, mode, &mut self.notices);
+        let (answer, ended) = guard.serve_lock(&mut self.share, txn, node, mode, &mut self.notices);
         self.served_at = guard.accepted_beside(&mut self.share);
         if let Answer::Refused(refusal) = answer {
             MutexGuard::unlock(guard);

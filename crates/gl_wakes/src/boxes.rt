@@ -109,11 +109,7 @@ impl Boxes {
 }
 
 /// Puts each notice into its slot's box. Answers the slots whose wait the command may have ended.
-fn put_each(
-    boxes: &mut [Slot; SLOTS],
-    command: &Command<'_>,
-    told: &[(TxnId, Notice)],
-) -> Slots
+fn put_each(boxes: &mut [Slot; SLOTS], command: &Command<'_>, told: &[(TxnId, Notice)]) -> Slots
     requires { RisingTo 0 told.now most_slots }
     ensures told { Delivers boxes.old told.now boxes.new }
     ensures none { told.now ≡ [] → boxes.new ≡ boxes.old }

@@ -61,8 +61,8 @@ pub extern "C" fn bs_call_clear_node(
     one: u32,
     told: &mut Notices,
 ) -> Reply
-    ensures { Where (mode_at mode) (λ wanted. Carries (guarded_in manager.old) (end_call (whom.Holding (node_id node) wanted) (number_of_ends one)) result told.new
-        (guarded_in manager.new)) (Declines (guarded_in manager.old) bad_number result (guarded_in manager.new) × Tells told.new []) }
+    ensures { Where (mode_at mode) (λ wanted. Carries (guarded_in manager.old) (end_call (whom.Holding (node_id node) wanted) (number_of_ends one))
+        result told.new (guarded_in manager.new)) (Declines (guarded_in manager.old) bad_number result (guarded_in manager.new) × Tells told.new []) }
 {
     let Some(mode) = mode_at(mode) else {
         told.clear();

@@ -1,6 +1,7 @@
 use Rattle.std.proofs.Common.{arith, ◌≡◌, ◌∙◌, true, ap, length, refl, subst, sym, List}
 use Rattle.std.specs.List.{list_all}
 use Rattle.gl_steps.specs.declared.command.Answer.{Answer}
+use Rattle.gl_catalog.specs.Manager.{state_of}
 use Rattle.gl_shared.specs.Batches.{Serves, Stops, goes_on}
 use Rattle.gl_shared.proofs.Batches.{accepted_none, all_more, one_longer, serves_next, serves_none, share_more, stops_here, stops_whole}
 use Rattle.gl_steps.proofs.StepsKeepLaw.{steps_keep_law}
@@ -53,7 +54,8 @@ loop-command-preserved g c =
           e.serves.book inv.book;
       list = e.serves.list.0 ∙ inv.list;
       lawful = λ law. steps_keep_law _ _ _ _ _ (inv.lawful law) e.serves.step;
-      ended = ended_more _ _ _ _ _ _ c.union-ended.ensures inv.lawful inv.ended e.ended;
+      ended = ended_more (state_of c.args.guarded.now.manager) (state_of c.loop-command.guarded.manager)
+          (state_of c.serve_telling-answer.new.self.manager) _ _ _ c.union-ended.ensures inv.lawful inv.ended e.ended;
     }
 
 pub returns-then-last-clause-run : goal.returns-then-last-clause-run
@@ -90,7 +92,8 @@ returns-then-last-clause-book g c =
 pub returns-then-last-clause-ended : goal.returns-then-last-clause-ended
 returns-then-last-clause-ended g c =
     let inv = c.loop-command.invariant in
-    ended_more _ _ _ _ _ _ c.union-ended.ensures inv.lawful inv.ended c.serve_telling-answer.ensures.ended
+    ended_more (state_of c.args.guarded.now.manager) (state_of c.loop-command.guarded.manager)
+    (state_of c.serve_telling-answer.new.self.manager) _ _ _ c.union-ended.ensures inv.lawful inv.ended c.serve_telling-answer.ensures.ended
 
 pub returns-then-last-clause-list : goal.returns-then-last-clause-list
 returns-then-last-clause-list g c = c.serve_telling-answer.ensures.serves.list.0 ∙ c.loop-command.invariant.list

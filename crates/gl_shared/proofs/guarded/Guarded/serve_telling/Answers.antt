@@ -98,8 +98,8 @@ returns-then-not-is_accepted-clause-ended g c =
     let no : accepts c.args.command c.apply_telling-answer.result ≡ false = search rules in
     let still = (step_counts _ _ _ _ _ c.apply_telling-answer.ensures.step).not_accepted no in
     let before = state_of c.self.inside.manager in
-    subst (λ (v : GuardedView). HasEnded (state_of v.manager) (state_of c.apply_telling-answer.new.self) c.empty-then-not-is_accepted.result) c.self.view_is
-    (subst (λ (s : State). HasEnded before s c.empty-then-not-is_accepted.result) (sym still.0) (ended_none before c.empty-then-not-is_accepted.result))
+    subst (λ (v : GuardedView). HasEnded (state_of v.manager) (state_of c.apply_telling-answer.new.self) c.empty.result) c.self.view_is
+    (subst (λ (s : State). HasEnded before s c.empty.result) (sym still.0) (ended_none before c.empty.result))
 
 pub returns-then-not-is_accepted-clause-woken : goal.returns-then-not-is_accepted-clause-woken
 returns-then-not-is_accepted-clause-woken g c =

@@ -19,7 +19,8 @@ same c =
 pub invariant_of-self : goal.invariant_of-self
 invariant_of-self c =
     sound_beside c.self.inside c.end-came.new.waiting
-    (ends_run c.args.number c.self.inside.waiting c.end-came.result.0 c.end-came.new.told.items c.end-came.result.1 c.end-came.new.waiting c.end-came.ensures.ends)
+    (ends_run c.args.number c.self.inside.waiting c.end-came.result.0 c.end-came.new.told.items c.end-came.result.1 c.end-came.new.waiting
+    c.end-came.ensures.ends)
     c.self.invariant (same c)
     c.end-came.new.self c.end-came.ensures.keeps
 
@@ -28,7 +29,8 @@ returns-then-accepted-before c =
     subst (λ (g : GuardedView). Performs g (end_call c.args.whom c.args.number) c.end-came.result.0 c.end-came.new.told.items
     (record (with_waiting (view_of c.self.inside) c.end-came.new.waiting) { resting = c.end-came.new.self.resting })) c.self.view_is
     (leaves_idle c.self.inside c.end-came.new.waiting
-    (ends_run c.args.number c.self.inside.waiting c.end-came.result.0 c.end-came.new.told.items c.end-came.result.1 c.end-came.new.waiting c.end-came.ensures.ends)
+    (ends_run c.args.number c.self.inside.waiting c.end-came.result.0 c.end-came.new.told.items c.end-came.result.1 c.end-came.new.waiting
+    c.end-came.ensures.ends)
     c.self.invariant (same c) _ _ c.end-came.new.self.resting
     (chosen_idle c.args.whom c.self.inside.waiting c.end-came.result.0 c.end-came.new.waiting c.self.inside.resting.resting c.end-came.new.self.resting
     c.end-came.ensures.chooses (same c)) c.end-came.ensures.chooses (λ known. false) c.end-came.result.1 c.end-came.ensures.ends)
@@ -38,7 +40,8 @@ returns-then-accepted-before c =
 pub invariant_of-self-2 : goal.invariant_of-self-2
 invariant_of-self-2 c =
     sound_counted c.self.inside c.end-came.new.waiting
-    (ends_run c.args.number c.self.inside.waiting c.end-came.result.0 c.end-came.new.told.items c.end-came.result.1 c.end-came.new.waiting c.end-came.ensures.ends)
+    (ends_run c.args.number c.self.inside.waiting c.end-came.result.0 c.end-came.new.told.items c.end-came.result.1 c.end-came.new.waiting
+    c.end-came.ensures.ends)
     c.self.invariant
     c.end-came.new.self c.end-came.ensures.keeps c.end-came.result.1.went_on (λ known. false) c.keep_nobody.new.showing c.keep_nobody.ensures.shown
     (forgets c.end-came.result.1.went_on (parties_in c.self.inside.showing) (parties_in c.keep_nobody.new.showing) c.keep_nobody.ensures.parties)
@@ -46,9 +49,11 @@ invariant_of-self-2 c =
 
 pub returns : goal.returns
 returns c =
-    subst (λ (g : GuardedView). Performs g (end_call c.args.whom c.args.number) c.end-came.result.0 c.end-came.new.told.items c.show_if_due.new.self) c.self.view_is
+    subst (λ (g : GuardedView). Performs g (end_call c.args.whom c.args.number) c.end-came.result.0 c.end-came.new.told.items c.show_if_due.new.self)
+    c.self.view_is
     (leaves_counted c.self.inside c.end-came.new.waiting
-    (ends_run c.args.number c.self.inside.waiting c.end-came.result.0 c.end-came.new.told.items c.end-came.result.1 c.end-came.new.waiting c.end-came.ensures.ends)
+    (ends_run c.args.number c.self.inside.waiting c.end-came.result.0 c.end-came.new.told.items c.end-came.result.1 c.end-came.new.waiting
+    c.end-came.ensures.ends)
     c.self.invariant
     c.end-came.new.self c.end-came.ensures.keeps c.end-came.result.1.went_on (λ known. false) c.keep_nobody.new.showing c.keep_nobody.ensures.shown
     (forgets c.end-came.result.1.went_on (parties_in c.self.inside.showing) (parties_in c.keep_nobody.new.showing) c.keep_nobody.ensures.parties) _
