@@ -3,7 +3,7 @@
 //! way by `bs_call_clear_way`, until none is, before it releases its latch. The number `one` is 0 to end all of
 //! them, up to one whose end tells somebody.
 
-ghost use Rattle.std.specs.Prelude.{[]};
+ghost use Rattle.std.specs.Prelude.{◌≡◌, []};
 ghost use Rattle.gl_waiting.specs.declared.resting.Number.TheVariants as number;
 ghost use Rattle.gl_waiting.specs.declared.resting.Whom.TheVariants as whom;
 ghost use Rattle.gl_c.specs.answers.Notices.{Tells};
