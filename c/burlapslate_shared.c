@@ -10,9 +10,9 @@
  * command, which continues by table_go_on those whose wait is over; table_hand_on, after what may have ended a
  * transaction; table_sleep, when a lock waits; table_sleep_in_begin_queue, when a begin does; bs_table_end; and
  * table_watch_over, the thread that watches. So are the ends of asks, told by a callback: table_tell, after each
- * critical section that has some, and which asked begin has a word; and sessions: who rests, and that it is ended if a
- * request waits for it, as the library says, or if a begin finds no slot. All else here makes calls of the library
- * between these.
+ * critical section that has some, and which asked begin has a word; and sessions: those who rest are ended after a
+ * request that waits for them, and one of them before a begin that finds no slot. The library says who they are. All
+ * else here makes calls of the library between these.
  * burlapslate_running.c times the waits: table_register, table_note_ended, table_gone_on and table_time_out tell it of
  * them.
  * burlapslate_trace.c makes the commands of a traced table: table_make_* ask it.
@@ -405,7 +405,8 @@ static TABLE_APART bool table_ended_resting(bs_table *table, bs_reply reply, con
   return true;
 }
 
-/* Ends those who rest and for whom somebody waits; whether there were any. The library says who. */
+/* Ends those who rest and for whom somebody waits; whether there were any. The library says who. A call of it ends all,
+ * or all up to one whose end tells somebody. */
 static TABLE_APART bool table_clear_all(bs_table *table, bs_notices *told) {
   bs_notices more;
   bool any = false;
