@@ -4,21 +4,22 @@
  *
  * WHAT IS PROVED, AND WHAT IS NOT. The library is proved: what each command does and whom it tells, that a look gives a
  * whole board and never an older one, and who waits for what: which wait is over, how a request goes on by that (the
- * rest of a path, a row again, a lock for an instant that is given back), and how it ends. So are begins that wait for
- * a slot: their order, and that each call hands on those that can begin by it. Written in C here, and tested: the mutex
- * and the condition variables. They are in table_enter and table_release, around each call; table_wake, after each
- * command, which continues by table_go_on those whose wait is over; table_hand_on, after what may have ended a
- * transaction; table_sleep, when a lock waits; table_sleep_in_begin_queue, when a begin does; bs_table_end; and
- * table_watch_over, the thread that watches. So are the ends of asks, told by a callback: table_tell, after each
- * critical section that has some, and which asked begin has a word; and sessions: those who rest are ended after a
- * request that waits for them, and one of them before a begin that finds no slot. The library says who they are. All
- * else here makes calls of the library between these.
+ * rest of a path, a row again, what a row lacks above it, a lock for an instant that is given back), and how it ends. So
+ * are begins that wait for a slot: their order, and that each call hands on those that can begin by it. Written in C
+ * here, and tested: the mutex and the condition variables. They are in table_enter and table_release, around each call;
+ * table_wake, after each command, which continues by table_go_on those whose wait is over; table_hand_on, after what may
+ * have ended a transaction; table_sleep, when a lock waits; table_sleep_in_begin_queue, when a begin does; bs_table_end;
+ * and table_watch_over, the thread that watches. So are the ends of asks, told by a callback: table_tell, after each
+ * critical section that has some, and which asked begin has a word; sessions: those who rest are ended after a request
+ * that waits for them, and one of them before a begin that finds no slot, and the library says who they are; and tries
+ * with what is above a row or a record. All else here makes calls of the library between these.
  * burlapslate_running.c times the waits: table_register, table_note_ended, table_gone_on and table_time_out tell it of
  * them.
  * burlapslate_trace.c makes the commands of a traced table: table_make_* ask it.
  */
 #include "burlapslate_dump.h"
 #include "burlapslate_inside.h"
+#include "burlapslate_rows.h"
 #include "burlapslate_session.h"
 
 #include <errno.h>
@@ -68,7 +69,7 @@ typedef struct table_row {
 } table_row;
 
 /* What a call requests that may wait. */
-typedef enum table_kind { TABLE_NODE, TABLE_PATH, TABLE_ROW } table_kind;
+typedef enum table_kind { TABLE_NODE, TABLE_PATH, TABLE_ROW, TABLE_ROW_PATH } table_kind;
 
 typedef struct table_request {
   table_kind kind;
@@ -79,10 +80,12 @@ typedef struct table_request {
   table_row row;   /* of a row */
 } table_request;
 
-/* A thread that sleeps, in the frame of its call, or an ask: it awaits the end of a request. */
+/* A call, in its frame, or an ask: it awaits the end of a request. */
 typedef struct table_waiter {
-  struct table_asked *ask;      /* null: a thread sleeps */
+  struct table_asked *ask;      /* null: a call */
   const struct timespec *until; /* the time of its call, read within that alone */
+  bool is_list;                 /* it is of a list, which leaves it waiting */
+  bool sleeps;                  /* its thread sleeps */
   bool has_ended;
   bs_reply end;
 } table_waiter;
@@ -205,8 +208,6 @@ TABLE_MAKES(lock_row, (bs_table *table, bs_txn txn, bs_node file, uint64_t numbe
             bs_mode mode, bs_notices *told), txn, file, number, keys, count, mode, told)
 TABLE_MAKES(call_try_row, (bs_table *table, bs_txn txn, bs_node file, uint64_t number, const uint64_t *keys,
             size_t count, bs_mode mode, bs_notices *told), txn, file, number, keys, count, mode, told)
-TABLE_MAKES(call_commit_and_rest, (bs_table *table, bs_txn txn, size_t keep, uint64_t since, bs_notices *told),
-            txn, keep, since, told)
 TABLE_MAKES(call_clear_way, (bs_table *table, bs_notices *told), TABLE_ALL, told)
 TABLE_MAKES(call_clear_node, (bs_table *table, bs_node node, bs_mode mode, bs_notices *told), node, mode, TABLE_ALL, told)
 TABLE_MAKES(call_make_room, (bs_table *table, bs_notices *told), told)
@@ -351,8 +352,8 @@ static inline void table_has_to_tell(bs_table *table, table_asked *ask) {
   table->is_due = true;
 }
 
-/* The request of this waiter has ended: wakes its thread as the hold ends; an ask is answered by its call, or else its
- * end must be told. */
+/* The request of this waiter has ended: wakes its thread as the hold ends, if that sleeps; an ask is answered by its
+ * call, or else its end must be told. */
 static void table_end(bs_table *table, table_waiter *waiter, uint32_t slot, bs_reply end) {
   table_asked *ask = waiter->ask;
   table->waiters[slot] = NULL;
@@ -360,10 +361,10 @@ static void table_end(bs_table *table, table_waiter *waiter, uint32_t slot, bs_r
   waiter->end.txn = bs_call_only(BS_DONE).txn;
   waiter->end.count = 0;
   waiter->has_ended = true;
-  if (ask == NULL) {
+  if (waiter->sleeps) {
     table->to_wake.words[slot / 64] |= (uint64_t)1 << slot % 64;
     table->is_due = true;
-  } else if (!ask->is_inside) {
+  } else if (ask != NULL && !ask->is_inside) {
     table_has_to_tell(table, ask);
   }
 }
@@ -497,6 +498,9 @@ static bs_reply table_await(bs_table *table, const table_request *request, table
     case TABLE_ROW:
       return bs_call_await_row(m, txn, row->file, row->number, bs_call_numbers(row->keys), row->count, mode, wait.node,
                                until);
+    case TABLE_ROW_PATH:
+      return bs_call_await_row_path(m, txn, row->file, row->number, bs_call_numbers(row->keys), row->count, mode,
+                                    wait.node, until);
     default: return bs_call_await_node(m, txn, request->node, mode, request->is_instant, until);
   }
 }
@@ -507,37 +511,50 @@ static void table_note_wait(bs_table *table, bs_txn txn) {
   bs_call_wait_began(&table->running, txn);
 }
 
-/* Leaves a request of a list waiting, which nobody awaits yet. One for an instant is released when it is granted, whoever
- * awaits it. */
-static void table_leave_waiting(bs_table *table, const table_request *request, table_wait wait) {
-  table_instant *own = &table->instants[request->txn.slot];
-  if (!request->is_instant || !table_is_same_node(wait.node, request->node)) return;
-  own->txn = request->txn;
-  own->node = request->node;
-  bs_call_await_node(&table->manager, request->txn, request->node, request->mode, true, TABLE_NO_TIME);
+/* A waiter begins to wait. Answers the time that the library needs to know: an ask's. A thread that sleeps looks at the
+ * clock itself. */
+static uint64_t table_begin_wait(const bs_table *table, bs_txn txn, table_waiter *waiter) {
+  uint64_t time;
+  waiter->sleeps = false;
+  waiter->has_ended = false;
+  if (waiter->ask == NULL) return TABLE_NO_TIME;
+  time = table_earlier(table, txn, waiter->until);
+  waiter->ask->has_time = time != TABLE_NO_TIME;
+  return time;
 }
 
 /* This waiter awaits the end of a wait from now on, unless that is over or has a waiter: answers BS_WAITING if it awaits
- * it. A thread that sleeps looks at the clock itself; the library knows the time of an ask. */
+ * it. */
 static bs_reply table_enlist(bs_table *table, const table_request *request, table_wait wait, table_waiter *waiter) {
-  uint64_t time = TABLE_NO_TIME;
-  bs_reply reply;
-  if (waiter->ask != NULL) {
-    time = table_earlier(table, request->txn, waiter->until);
-    waiter->ask->has_time = time != TABLE_NO_TIME;
-  }
-  reply = table_await(table, request, wait, time);
+  bs_reply reply = table_await(table, request, wait, table_begin_wait(table, request->txn, waiter));
   if (reply.status == BS_WAITING) table->waiters[request->txn.slot] = waiter;
   return reply;
 }
 
 /* Registers the wait of a request that was just left waiting, before anybody goes on: what is set off then may end this
- * wait too. */
+ * wait too. If it has told nobody, and nobody rests, nobody goes on: so that of a list needs no waiter. */
 static TABLE_APART void table_register(bs_table *table, const table_request *request, table_wait wait,
-                                       table_waiter *waiter) {
+                                       table_waiter *waiter, const bs_notices *told) {
   table_note_wait(table, request->txn);
-  if (waiter == NULL) table_leave_waiting(table, request, wait);
-  else table_enlist(table, request, wait, waiter);
+  if (waiter->is_list && told->count == 0 && !table->has_rested) return;
+  table_enlist(table, request, wait, waiter);
+}
+
+/* Leaves the wait of a list's request, which nobody awaits any more; answers for which node, in which mode. One for an
+ * instant is released when it is granted, whoever awaits it. */
+static TABLE_APART bs_reply table_leave_waiting(bs_table *table, bs_txn txn, bs_node node, bool is_instant) {
+  table_instant *own = &table->instants[txn.slot];
+  bs_reply wait = bs_call_doing(&table->manager, txn);
+  if (table->waiters[txn.slot] != NULL) {
+    table->waiters[txn.slot] = NULL;
+    bs_call_withdraw_waiter(&table->manager, txn);
+  }
+  if (is_instant && table_is_same_node(wait.node, node)) {
+    own->txn = txn;
+    own->node = node;
+    bs_call_await_node(&table->manager, txn, node, wait.mode, true, TABLE_NO_TIME);
+  }
+  return wait;
 }
 
 /* Sleeps on a condition variable, with the latch held before and after, at most until a time if that is not null.
@@ -604,6 +621,7 @@ static TABLE_APART bs_reply table_sleep(bs_table *table, bs_txn txn, table_waite
   struct timespec until = table_timespec_of(time);
   int late = 0;
   table->sleepers++;
+  own->sleeps = true;
   if (!own->has_ended) table_tell_between(table);
   while (!own->has_ended && late != ETIMEDOUT) {
     late = table_doze(table, &table->ended[txn.slot], time == TABLE_NO_TIME ? NULL : &until);
@@ -1028,21 +1046,21 @@ static inline table_request table_request_of(table_kind kind, bs_txn txn, bs_nod
   return request;
 }
 
-/* The waiter of a thread that sleeps, up to this time. */
+/* The waiter of a call, up to this time. */
 static inline void table_sleeper(table_waiter *waiter, const struct timespec *until) {
   waiter->ask = NULL;
   waiter->until = until;
-  waiter->has_ended = false;
+  waiter->is_list = false;
 }
 
-/* Makes the call bs_lock with the latch held, for this waiter, or for a list if that is null. */
+/* Makes the call bs_lock with the latch held, for this waiter. */
 static TABLE_IN_LINE bs_reply table_lock_by(bs_table *table, bs_txn txn, bs_node node, bs_mode mode, bool is_instant,
                                             table_waiter *waiter, bs_notices *told) {
   bs_reply reply = table_make_lock(table, txn, node, mode, told);
   if (reply.status == BS_WAITING) {
     table_request request = table_request_of(TABLE_NODE, txn, node, mode, is_instant);
     table_wait wait = { node, mode };
-    table_register(table, &request, wait, waiter);
+    table_register(table, &request, wait, waiter, told);
   }
   table_wake(table, reply.status, told, false);
   if (reply.status == BS_WAITING && table->has_rested) table_clear_way(table, told);
@@ -1063,7 +1081,7 @@ static TABLE_IN_LINE bs_reply table_lock_now(bs_table *table, bs_txn txn, bs_nod
   return table_lock_by(table, txn, node, asked, false, waiter, told);
 }
 
-/* Makes the call bs_lock_path with the latch held. If that waits for a list, the reply says in which mode. */
+/* Makes the call bs_lock_path with the latch held. */
 static TABLE_IN_LINE bs_reply table_path_by(bs_table *table, bs_txn txn, bs_node node, bs_mode mode, bool is_instant,
                                             table_waiter *waiter, bs_notices *told) {
   bs_reply reply = table_make_lock_path(table, txn, node, mode, told);
@@ -1072,8 +1090,7 @@ static TABLE_IN_LINE bs_reply table_path_by(bs_table *table, bs_txn txn, bs_node
     table_wait wait;
     wait.node = reply.node;
     wait.mode = bs_call_doing(&table->manager, txn).mode;
-    if (waiter == NULL) reply.mode = wait.mode;
-    table_register(table, &request, wait, waiter);
+    table_register(table, &request, wait, waiter, told);
   }
   table_wake(table, reply.status, told, false);
   if (reply.status == BS_WAITING && table->has_rested) table_clear_way(table, told);
@@ -1289,17 +1306,41 @@ bs_reply bs_table_index_by(bs_table *table, bs_txn txn, const bs_node *parents, 
  * Rows by the engine's own numbers.
  */
 
-/* Requests a row with the latch held, for this waiter, or for a list if that is null. */
-static bs_reply table_row_by(bs_table *table, const table_request *request, table_waiter *waiter) {
+/* Requests a row with the latch held, for this waiter. */
+static bs_reply table_row_now(bs_table *table, const table_request *request, table_waiter *waiter, bs_notices *told) {
   const table_row *row = &request->row;
   bs_reply reply = table_make_lock_row(table, request->txn, row->file, row->number, row->keys, row->count,
-                                       request->mode, &table->told);
+                                       request->mode, told);
   if (reply.status == BS_WAITING) {
     table_wait wait = { reply.node, request->mode };
-    table_register(table, request, wait, waiter);
+    table_register(table, request, wait, waiter, told);
   }
-  table_wake(table, reply.status, &table->told, false);
+  table_wake(table, reply.status, told, false);
   return reply;
+}
+
+/* Goes on with a row that lacks this node above it: the library locks that, and then the row again, until the row is
+ * locked or something waits. The request is answered as one that waits, whose wait may be over. */
+static TABLE_APART bs_reply table_climb(bs_table *table, const table_request *request, bs_reply lacks,
+                                        table_waiter *waiter, bs_notices *told) {
+  const table_row *row = &request->row;
+  uint64_t time = table_begin_wait(table, request->txn, waiter);
+  bs_reply reply = bs_call_climb_to_row(&table->manager, request->txn, row->file, row->number,
+                                        bs_call_numbers(row->keys), row->count, request->mode, lacks.node, time);
+  if (reply.status != BS_DONE) return lacks;
+  table->waiters[request->txn.slot] = waiter;
+  table_go_on(table, told);
+  reply = bs_call_only(BS_WAITING);
+  reply.node = lacks.node;
+  return reply;
+}
+
+/* The same, with what must be held above it if the request says so. */
+static inline bs_reply table_row_by(bs_table *table, const table_request *request, table_waiter *waiter,
+                                    bs_notices *told) {
+  bs_reply reply = table_row_now(table, request, waiter, told);
+  if (reply.status != BS_NEED_PARENTS || request->kind != TABLE_ROW_PATH) return reply;
+  return table_climb(table, request, reply, waiter, told);
 }
 
 static table_row table_row_of(bs_node file, uint64_t number, const uint64_t *keys, size_t count) {
@@ -1312,33 +1353,34 @@ static table_row table_row_of(bs_node file, uint64_t number, const uint64_t *key
 }
 
 /* A request for a row. It names no node. */
-static table_request table_row_request(bs_txn txn, table_row row, bs_mode mode) {
-  table_request request = table_request_of(TABLE_ROW, txn, row.file, mode, false);
+static table_request table_row_request(table_kind kind, bs_txn txn, table_row row, bs_mode mode) {
+  table_request request = table_request_of(kind, txn, row.file, mode, false);
   request.row = row;
   return request;
 }
 
-/* After a wait of a list for a row that was granted so: requests it again, since what became of the wait says nothing of
- * its keys. */
-static bs_reply table_row_again(bs_table *table, bs_txn txn, table_row row, bs_mode mode, bs_node node,
-                                bs_reply granted) {
-  table_request request = table_row_request(txn, row, mode);
-  granted.node = node;
-  if (table_row_by(table, &request, NULL).status != BS_DONE) granted.status = BS_OTHER_KEYS;
-  return granted;
-}
-
-bs_reply bs_table_lock_row(bs_table *table, bs_txn txn, bs_node file, uint64_t number, const uint64_t *keys,
-                           size_t count, bs_mode mode, const struct timespec *until) {
-  table_request request = table_row_request(txn, table_row_of(file, number, keys, count), mode);
+/* Requests a row, and sleeps if it waits. */
+static bs_reply table_row_or_sleep(bs_table *table, const table_request *request, const struct timespec *until) {
   table_waiter own;
   bs_reply reply;
   if (!table_enter_to_sleep(table, until)) return table_no_sleep(table);
   table_sleeper(&own, until);
-  reply = table_row_by(table, &request, &own);
-  if (reply.status == BS_WAITING) reply = table_sleep(table, txn, &own);
+  reply = table_row_by(table, request, &own, &table->told);
+  if (reply.status == BS_WAITING) reply = table_sleep(table, request->txn, &own);
   table_release(table);
   return reply;
+}
+
+bs_reply bs_table_lock_row(bs_table *table, bs_txn txn, bs_node file, uint64_t number, const uint64_t *keys,
+                           size_t count, bs_mode mode, const struct timespec *until) {
+  table_request request = table_row_request(TABLE_ROW, txn, table_row_of(file, number, keys, count), mode);
+  return table_row_or_sleep(table, &request, until);
+}
+
+bs_reply bs_table_lock_row_path(bs_table *table, bs_txn txn, bs_node file, uint64_t number, const uint64_t *keys,
+                                size_t count, bs_mode mode, const struct timespec *until) {
+  table_request request = table_row_request(TABLE_ROW_PATH, txn, table_row_of(file, number, keys, count), mode);
+  return table_row_or_sleep(table, &request, until);
 }
 
 /* Tries a row with the latch held. */
@@ -1353,6 +1395,64 @@ bs_reply bs_table_try_row(bs_table *table, bs_txn txn, bs_node file, uint64_t nu
                           size_t count, bs_mode mode) {
   table_row row = table_row_of(file, number, keys, count);
   TABLE_ASK(table, table_row_tried(table, txn, &row, mode));
+}
+
+/* Releases what a transaction has acquired since a mark. */
+static TABLE_APART void table_give_back(bs_table *table, bs_txn txn, uint64_t mark) {
+  bs_reply reply;
+  if (bs_mark(&table->manager, txn).count == mark) return;
+  reply = table_make_release_since(table, txn, mark, &table->told);
+  table_wake(table, reply.status, &table->told, false);
+}
+
+/* Whether a call that was answered so lacks a node above, and a try has acquired that. If the try was refused, that is
+ * the answer. */
+static bool table_got_above(bs_table *table, bs_txn txn, bs_mode intention, bs_reply *reply) {
+  bs_reply above;
+  if (reply->status != BS_NEED_PARENTS) return false;
+  above = table_path_tried(table, txn, reply->node, intention, BS_KEEP_WAY);
+  if (above.status != BS_DONE) *reply = above;
+  return above.status == BS_DONE;
+}
+
+/* Tries a row with what must be held above it, with the latch held: each node that it lacks is tried as it is named. */
+static TABLE_APART bs_reply table_row_path_tried(bs_table *table, bs_txn txn, const table_row *row, bs_mode mode,
+                                                 uint32_t keep) {
+  uint64_t mark = bs_mark(&table->manager, txn).count;
+  bs_reply reply;
+  if (keep > BS_KEEP_WAY) return bs_call_only(BS_BAD_NUMBER);
+  reply = table_row_tried(table, txn, row, mode);
+  while (table_got_above(table, txn, mode == BS_S ? BS_IS : BS_IX, &reply)) {
+    reply = table_row_tried(table, txn, row, mode);
+  }
+  if (keep == BS_KEEP_NOTHING && reply.status != BS_DONE && reply.status != BS_OTHER_KEYS) {
+    table_give_back(table, txn, mark);
+  }
+  return reply;
+}
+
+bs_reply bs_table_try_row_path(bs_table *table, bs_txn txn, bs_node file, uint64_t number, const uint64_t *keys,
+                               size_t count, bs_mode mode, uint32_t keep) {
+  table_row row = table_row_of(file, number, keys, count);
+  TABLE_ASK(table, table_row_path_tried(table, txn, &row, mode, keep));
+}
+
+/* Inserts a record with what must be held above it, in the same way. */
+static TABLE_APART bs_reply table_inserted_by_path(bs_table *table, bs_txn txn, bs_node file, const uint64_t *keys,
+                                                   size_t count, uint32_t keep) {
+  uint64_t mark = bs_mark(&table->manager, txn).count;
+  bs_reply reply;
+  table->told.count = 0;
+  if (keep > BS_KEEP_WAY) return bs_call_only(BS_BAD_NUMBER);
+  reply = table_make_insert(table, txn, file, keys, count);
+  while (table_got_above(table, txn, BS_IX, &reply)) reply = table_make_insert(table, txn, file, keys, count);
+  if (keep == BS_KEEP_NOTHING && reply.status != BS_DONE) table_give_back(table, txn, mark);
+  return reply;
+}
+
+bs_reply bs_table_insert_path(bs_table *table, bs_txn txn, bs_node file, const uint64_t *keys, size_t count,
+                              uint32_t keep) {
+  TABLE_ASK(table, table_inserted_by_path(table, txn, file, keys, count, keep));
 }
 
 bs_reply bs_table_unlock_row(bs_table *table, bs_txn txn, bs_node file, uint64_t number, bs_notices *told) {
@@ -1534,13 +1634,24 @@ bs_reply bs_table_ask_path(bs_table *table, bs_txn txn, bs_node node, bs_mode mo
   return table_leave_asked(table, own, reply);
 }
 
+static bs_reply table_ask_for_row(bs_table *table, const table_request *request, const struct timespec *until,
+                                  void *word) {
+  bs_reply reply;
+  table_asked *own = table_enter_to_ask(table, request->txn, until, word, &reply);
+  if (own == NULL) return reply;
+  return table_leave_asked(table, own, table_row_by(table, request, &own->waiter, &table->told));
+}
+
 bs_reply bs_table_ask_row(bs_table *table, bs_txn txn, bs_node file, uint64_t number, const uint64_t *keys,
                           size_t count, bs_mode mode, const struct timespec *until, void *word) {
-  table_request request = table_row_request(txn, table_row_of(file, number, keys, count), mode);
-  bs_reply reply;
-  table_asked *own = table_enter_to_ask(table, txn, until, word, &reply);
-  if (own == NULL) return reply;
-  return table_leave_asked(table, own, table_row_by(table, &request, &own->waiter));
+  table_request request = table_row_request(TABLE_ROW, txn, table_row_of(file, number, keys, count), mode);
+  return table_ask_for_row(table, &request, until, word);
+}
+
+bs_reply bs_table_ask_row_path(bs_table *table, bs_txn txn, bs_node file, uint64_t number, const uint64_t *keys,
+                               size_t count, bs_mode mode, const struct timespec *until, void *word) {
+  table_request request = table_row_request(TABLE_ROW_PATH, txn, table_row_of(file, number, keys, count), mode);
+  return table_ask_for_row(table, &request, until, word);
 }
 
 /* Makes the ask of a begin, which waits behind all that wait for a slot already. */
@@ -1689,55 +1800,59 @@ bs_reply bs_session_begin_again(bs_session *session, uint64_t since, const struc
   return reply;
 }
 
-/* How many of the first locks of a session's transaction are intentions, up to as many as it keeps. Those that it kept
- * at the last commit have their places still. */
-static uint32_t table_first_intentions(const bs_table *table, const bs_session *session) {
-  uint32_t count = session->kept < session->most ? session->kept : session->most;
-  for (; count < session->most; count++) {
-    bs_reply lock = bs_lock_at(&table->manager, session->txn, count);
-    if (lock.status != BS_DONE || (lock.mode != BS_IS && lock.mode != BS_IX)) break;
-  }
-  return count;
-}
-
-/* The same by commands that are lines of a trace each. */
-static TABLE_APART bs_reply table_rest_in_lines(bs_table *table, bs_txn txn, uint32_t keep, bs_notices *told) {
+/* Commits a transaction by commands that are lines of a trace each, so that the next one keeps its first intentions. */
+static TABLE_APART bs_reply table_rest_in_lines(bs_table *table, bs_txn txn, size_t known, size_t most,
+                                                bs_notices *told) {
+  size_t keep = (size_t)bs_call_first_intentions(&table->manager, txn, known, most).count;
   bs_notices more;
-  bs_reply reply = table_make_release_since(table, txn, keep, told);
+  bs_reply reply;
+  if (keep == 0) return bs_call_only(BS_NO_PLACE);
+  reply = table_make_release_since(table, txn, keep, told);
   if (reply.status != BS_DONE) return reply;
   if (told->count > 0) table_note_ended(table, told);
-  reply = table_make_call_commit_and_rest(table, txn, keep, TABLE_NEW_WORK, &more);
+  reply = bs_traced_call_commit_and_rest(table->trace, txn, keep, TABLE_NEW_WORK, &more);
   table_tell_too(told, &more);
   return reply;
 }
 
-/* Commits a session's transaction, and lets the next one rest. While others wait for a slot nobody rests. */
+/* Commits a transaction, and lets the next one rest, which keeps its first intentions: BS_NO_PLACE if there are none. */
+static inline bs_reply table_let_rest(bs_table *table, bs_txn txn, size_t known, size_t most, bs_notices *told) {
+  if (__builtin_expect(table->is_traced, 0)) return table_rest_in_lines(table, txn, known, most, told);
+  return bs_call_commit_and_rest(&table->manager, txn, known, most, TABLE_NEW_WORK, told);
+}
+
+/* Commits a session's transaction, and lets the next one rest. While others wait for a slot nobody rests. The locks that
+ * were kept at the last commit are the first still. */
 static bs_reply table_commit_and_rest(bs_table *table, bs_session *session, bs_notices *told) {
-  uint32_t keep = table->queued > 0 ? 0 : table_first_intentions(table, session);
   bs_reply reply;
-  if (keep == 0) return table_make_commit(table, session->txn, told);
-  reply = __builtin_expect(table->is_traced, 0)
-              ? table_rest_in_lines(table, session->txn, keep, told)
-              : bs_call_commit_and_rest(&table->manager, session->txn, keep, TABLE_NEW_WORK, told);
-  if (reply.status != BS_DONE || reply.txn.age == 0) return reply;
-  session->rests = reply.txn;
-  session->kept = keep;
-  table->has_rested = true;
-  reply = bs_call_only(BS_DONE);
-  session->txn = reply.txn;
-  reply.count = keep;
+  reply.status = BS_NO_PLACE;
+  if (table->queued == 0) reply = table_let_rest(table, session->txn, session->kept, session->most, told);
+  if (reply.status == BS_NO_PLACE) {
+    reply = table_make_commit(table, session->txn, told);
+  } else if (reply.status == BS_DONE && reply.txn.age != 0) {
+    session->rests = reply.txn;
+    session->kept = (uint32_t)reply.count;
+    table->has_rested = true;
+    reply.txn = bs_call_only(BS_DONE).txn;
+    session->txn = reply.txn;
+  }
+  return reply;
+}
+
+/* The same, and those whose wait it has ended go on. */
+static bs_reply table_session_commit(bs_table *table, bs_session *session, bs_notices *told) {
+  bs_reply reply;
+  told->count = 0;
+  reply = table_commit_and_rest(table, session, told);
+  table_wake(table, reply.status, told, false);
   return reply;
 }
 
 bs_reply bs_session_commit(bs_session *session, bs_notices *told) {
-  bs_notices *list;
   bs_table *table = session == NULL ? NULL : session->table;
   bs_reply reply;
   if (!table_enter(table)) return table_tell_none(table, told);
-  list = table_list_of(table, told);
-  list->count = 0;
-  reply = table_commit_and_rest(table, session, list);
-  table_wake(table, reply.status, list, false);
+  reply = table_session_commit(table, session, table_list_of(table, told));
   table_hand_on(table);
   table_release(table);
   return reply;
@@ -1757,33 +1872,81 @@ bs_reply bs_session_end(bs_session *session) {
  * Several commands in one critical section.
  */
 
-/* The rest of a path in a list, whose caller has the notices of all its locks. */
-static TABLE_APART bs_reply table_path_made_on(bs_table *table, const bs_command *c, bs_txn txn, bs_notices *told) {
-  return table_path_through(table, txn, c->node, c->mode, NULL, told);
+/* Takes the notice of a transaction off a list: its answer says the same. */
+static void table_tell_all_but(bs_notices *told, bs_txn txn) {
+  size_t i, kept = 0;
+  for (i = 0; i < told->count; i++) {
+    if (told->at[i].txn.slot != txn.slot) told->at[kept++] = told->at[i];
+  }
+  told->count = kept;
 }
 
-/* A path in a list. If others became victims for a lock above, it continues, as a path that may sleep does. */
-static bs_reply table_path_made(bs_table *table, const bs_command *c, bs_txn txn, bs_notices *told) {
-  bs_reply reply = table_path_now(table, txn, c->node, c->mode, NULL, told);
-  return reply.status == BS_ON_THE_WAY ? table_path_made_on(table, c, txn, told) : reply;
+/* After a request of a list was left waiting, and after those whose wait it has ended have gone on. If its own wait has
+ * ended by that, that end is its answer; else nobody awaits it any more, and the answer says for what it waits. */
+static TABLE_APART bs_reply table_made_waiting(bs_table *table, const bs_command *c, bs_txn txn, table_waiter *own,
+                                               bs_notices *told) {
+  bs_reply reply, wait;
+  if (own->has_ended) {
+    table_tell_all_but(told, txn);
+    return own->end;
+  }
+  wait = table_leave_waiting(table, txn, c->node, table_is_instant(table, txn, c->node, c->mode));
+  reply = bs_call_only(BS_WAITING);
+  reply.node = wait.node;
+  reply.mode = c->kind == BS_DO_LOCK || c->kind == BS_DO_LOCK_ROW ? table_mode_of(c->mode) : wait.mode;
+  return reply;
 }
 
-/* A lock in a list. Those whose wait it has ended go on after it, except after a lock for an instant. */
-static inline bs_reply table_lock_made(bs_table *table, const bs_command *c, bs_txn txn, bs_notices *told) {
-  if ((c->mode & BS_INSTANT) != 0) return table_lock_instantly(table, txn, c->node, c->mode, NULL, told);
-  return table_make_lock(table, txn, c->node, c->mode, told);
+/* The waiter of a list's request. */
+static inline void table_lister(table_waiter *waiter) {
+  waiter->ask = NULL;
+  waiter->is_list = true;
+  waiter->has_ended = false;
+}
+
+/* A lock in a list. */
+static TABLE_IN_LINE bs_reply table_lock_made(bs_table *table, const bs_command *c, bs_txn txn, bs_notices *told) {
+  table_waiter own;
+  bs_reply reply;
+  table_lister(&own);
+  reply = table_lock_now(table, txn, c->node, c->mode, &own, told);
+  if (reply.status == BS_WAITING) reply = table_made_waiting(table, c, txn, &own, told);
+  return reply;
+}
+
+/* A path in a list. */
+static TABLE_APART bs_reply table_path_made(bs_table *table, const bs_command *c, bs_txn txn, bs_notices *told) {
+  table_waiter own;
+  bs_reply reply;
+  table_lister(&own);
+  reply = table_path_through(table, txn, c->node, c->mode, &own, told);
+  if (reply.status == BS_WAITING) reply = table_made_waiting(table, c, txn, &own, told);
+  return reply;
+}
+
+/* A row in a list. */
+static TABLE_APART bs_reply table_row_made(bs_table *table, const bs_command *c, bs_txn txn, bs_notices *told) {
+  table_kind kind = c->kind == BS_DO_LOCK_ROW ? TABLE_ROW : TABLE_ROW_PATH;
+  table_row row = table_row_of(c->file, c->number, c->keys, c->key_count);
+  table_request request = table_row_request(kind, txn, row, c->mode);
+  table_waiter own;
+  bs_reply reply;
+  table_lister(&own);
+  reply = table_row_by(table, &request, &own, told);
+  if (reply.status == BS_WAITING) reply = table_made_waiting(table, c, txn, &own, told);
+  return reply;
 }
 
 /* A tried row in a list. */
-static bs_reply table_row_made(bs_table *table, const bs_command *c, bs_txn txn) {
+static bs_reply table_tried_row_made(bs_table *table, const bs_command *c, bs_txn txn) {
   table_row row = table_row_of(c->file, c->number, c->keys, c->key_count);
-  return table_row_tried(table, txn, &row, c->mode);
+  if (c->kind == BS_DO_TRY_ROW) return table_row_tried(table, txn, &row, c->mode);
+  return table_row_path_tried(table, txn, &row, c->mode, c->keep);
 }
 
-/* Makes a command that begins, or that requests or releases locks, except the most frequent. */
+/* Makes a command that begins, or that tries or releases locks, except the most frequent. */
 static TABLE_APART bs_reply table_other_made(bs_table *table, const bs_command *c, bs_txn txn, bs_notices *told) {
   switch (c->kind) {
-    case BS_DO_LOCK_PATH: return table_path_made(table, c, txn, told);
     case BS_DO_TRY: return table_try_now(table, txn, c->node, c->mode);
     case BS_DO_RELEASE_SINCE: return table_make_release_since(table, txn, c->number, told);
     case BS_DO_UNLOCK: return table_make_unlock(table, txn, c->node, told);
@@ -1792,21 +1955,21 @@ static TABLE_APART bs_reply table_other_made(bs_table *table, const bs_command *
     case BS_DO_ABORT: return table_make_abort(table, txn, told);
     case BS_DO_SETTLE: return table_make_settle(table, txn, told);
     case BS_DO_RENEW: return table_make_renew(table, txn, c->number);
-    case BS_DO_LOCK_ROW:
-      return table_make_lock_row(table, txn, c->file, c->number, c->keys, c->key_count, c->mode, told);
     case BS_DO_UNLOCK_ROW: return table_make_unlock_row(table, txn, c->file, c->number, told);
     case BS_DO_TRY_PATH: return table_path_tried(table, txn, c->node, c->mode, c->keep);
-    case BS_DO_TRY_ROW: return table_row_made(table, c, txn);
+    case BS_DO_TRY_ROW: return table_tried_row_made(table, c, txn);
+    case BS_DO_TRY_ROW_PATH: return table_tried_row_made(table, c, txn);
+    case BS_DO_MARK: return bs_mark(&table->manager, txn);
+    case BS_DO_INSERT_PATH: return table_inserted_by_path(table, txn, c->file, c->keys, c->key_count, c->keep);
     case BS_DO_BEGIN_AGAIN: return table_begin_again_now(table, c->number);
     default: return bs_call_only(BS_BAD_NUMBER);
   }
 }
 
-/* Makes a command. */
+/* Makes a command that is no request that may wait. */
 static inline bs_reply table_made(bs_table *table, const bs_command *c, bs_txn txn, bs_notices *told) {
   switch (c->kind) {
     case BS_DO_BEGIN: return table_begin_now(table);
-    case BS_DO_LOCK: return table_lock_made(table, c, txn, told);
     case BS_DO_COMMIT: return table_make_commit(table, txn, told);
     case BS_DO_INSERT: return table_make_insert(table, txn, c->file, c->keys, c->key_count);
     case BS_DO_DELETE: return table_make_delete(table, txn, c->node, told);
@@ -1833,70 +1996,69 @@ static void table_not_made(bs_command *commands, size_t count) {
   for (i = 0; i < count; i++) commands[i].reply = bs_call_only(BS_NOT_MADE);
 }
 
-/* For a command that waits, before anybody is woken: the reply has the node and the mode to await. The library says the
- * node of a path and of a row. What is requested by a path, or for an instant, is registered by then. */
-static inline void table_say_for_what(bs_table *table, bs_command *c, bs_txn txn) {
-  if (c->kind == BS_DO_LOCK_PATH) return;
-  if ((c->mode & BS_INSTANT) == 0) table_note_wait(table, txn);
-  c->reply.mode = table_mode_of(c->mode);
-  if (c->kind == BS_DO_LOCK) c->reply.node = c->node;
-}
-
-/* Takes the notice of a transaction off a list: its answer says the same. */
-static void table_tell_all_but(bs_notices *told, bs_txn txn) {
-  size_t i, kept = 0;
-  for (i = 0; i < told->count; i++) {
-    if (told->at[i].txn.slot != txn.slot) told->at[kept++] = told->at[i];
-  }
-  told->count = kept;
-}
-
-/* What a command of a list comes to after its own wait has ended so. A path continues, and a row is requested again. A
- * victim of a path or of a row has the node for which it waited. */
-static bs_reply table_made_on(bs_table *table, const bs_command *c, bs_txn txn, bs_notices *told, bs_reply became) {
-  bool is_on_the_way;
-  if (c->kind == BS_DO_LOCK_ROW && became.status == BS_DONE) {
-    table_row row = table_row_of(c->file, c->number, c->keys, c->key_count);
-    return table_row_again(table, txn, row, c->mode, c->reply.node, became);
-  }
-  if (became.status == BS_VICTIM && c->kind != BS_DO_LOCK) became.node = c->reply.node;
-  if (c->kind != BS_DO_LOCK_PATH) return became;
-  is_on_the_way = became.status == BS_MOVED ||
-                  (became.status == BS_DONE && !table_is_same_node(c->reply.node, c->node));
-  return is_on_the_way ? table_path_made_on(table, c, txn, told) : became;
-}
-
-/* For a command of a list that was left waiting, and after which others went on: if its own wait has ended by that, it
- * comes to what it can come to now. */
-static TABLE_APART void table_settle_made(bs_table *table, bs_command *c, bs_txn txn, bs_notices *told) {
-  bs_reply became;
-  do {
-    became = table_became(table, txn, c->reply.node, c->reply.mode);
-    if (became.status == BS_WAITING) return;
-    c->reply = table_made_on(table, c, txn, told, became);
-    table_tell_all_but(told, txn);
-  } while (c->reply.status == BS_WAITING);
-}
-
-/* After a command of a list that was left waiting, and after those whose wait it has ended have gone on. */
-static TABLE_APART void table_made_waiting(bs_table *table, bs_command *c, bs_txn txn, bs_notices *told) {
-  if (table->has_rested) table_clear_way(table, told);
-  if (told->count > 0) table_settle_made(table, c, txn, told);
-}
-
-/* Makes the next command of a list, and writes its reply. It is inlined in both loops: a call for each command of a
- * list costs a twentieth of it. */
-static inline __attribute__((always_inline)) bs_status table_run_next(bs_table *table, bs_command *next, bs_txn begun) {
-  bs_txn none = bs_begun();
-  bs_txn txn = next->txn.slot == none.slot && next->txn.age == none.age ? begun : next->txn;
-  bs_notices *told = table_list_of(table, next->told);
-  bool by_name;
+/* Makes a command whose nodes are named, and answers its reply. Those whose wait it has ended go on after it. */
+static TABLE_IN_LINE bs_reply table_make_one(bs_table *table, const bs_command *c, bs_txn txn) {
+  bs_notices *told = table_list_of(table, c->told);
+  bs_reply reply;
   told->count = 0;
-  by_name = next->kind == BS_DO_CANCEL || next->kind == BS_DO_ABORT;
-  next->reply = table_made(table, next, txn, told);
-  if (next->reply.status == BS_WAITING) table_say_for_what(table, next, txn);
-  table_wake(table, next->reply.status, told, by_name);
-  if (next->reply.status == BS_WAITING) table_made_waiting(table, next, txn, told);
+  if (c->kind == BS_DO_LOCK) return table_lock_made(table, c, txn, told);
+  if (c->kind == BS_DO_LOCK_PATH) return table_path_made(table, c, txn, told);
+  if (c->kind == BS_DO_LOCK_ROW || c->kind == BS_DO_LOCK_ROW_PATH) return table_row_made(table, c, txn, told);
+  reply = table_made(table, c, txn, told);
+  table_wake(table, reply.status, told, c->kind == BS_DO_CANCEL || c->kind == BS_DO_ABORT);
+  return reply;
+}
+
+/* Whether a command names a node by bs_made; and names the node then, if an earlier command has one. */
+static inline bool table_is_made(bs_node node) {
+  return node.birth == UINT64_MAX;
+}
+
+static void table_name_made(const bs_command *commands, size_t place, bs_node *node) {
+  if (table_is_made(*node) && node->key < place) *node = commands[node->key].reply.node;
+}
+
+/* Whether a command was refused since a name is no node's, or no file's of rows. */
+static inline bool table_names_none(bs_status status) {
+  return status == BS_NO_SUCH_NODE || status == BS_NOT_ROWS;
+}
+
+static bool table_names_made(const bs_command *c) {
+  size_t i;
+  bool any = table_is_made(c->node) || table_is_made(c->file) || table_is_made(c->index);
+  if (c->parents == NULL || c->parent_count > BS_MOST_PARENTS) return any;
+  for (i = 0; i < c->parent_count; i++) any |= table_is_made(c->parents[i]);
+  return any;
+}
+
+/* Makes a command again that was refused, since it names nodes so, and such a name is no node's. */
+static TABLE_APART bs_reply table_make_named(bs_table *table, const bs_command *commands, size_t place, bs_txn txn) {
+  bs_command named = commands[place];
+  bs_node parents[BS_MOST_PARENTS];
+  size_t i;
+  if (!table_names_made(&named)) return named.reply;
+  table_name_made(commands, place, &named.node);
+  table_name_made(commands, place, &named.file);
+  table_name_made(commands, place, &named.index);
+  if (named.parents != NULL && named.parent_count <= BS_MOST_PARENTS) {
+    for (i = 0; i < named.parent_count; i++) {
+      parents[i] = named.parents[i];
+      table_name_made(commands, place, &parents[i]);
+    }
+    named.parents = parents;
+  }
+  return table_make_one(table, &named, txn);
+}
+
+/* Makes the command at this place of a list, and writes its reply. It is inlined in each loop: a call for each command
+ * of a list costs a twentieth of it. */
+static TABLE_IN_LINE bs_status table_run_next(bs_table *table, bs_command *commands, size_t place, bs_txn begun) {
+  bs_txn none = bs_begun();
+  bs_command *next = &commands[place];
+  bs_txn txn = next->txn.slot == none.slot && next->txn.age == none.age ? begun : next->txn;
+  next->reply = table_make_one(table, next, txn);
+  if (__builtin_expect(next->reply.status == BS_DONE, 1)) return BS_DONE;
+  if (table_names_none(next->reply.status)) next->reply = table_make_named(table, commands, place, txn);
   return next->reply.status;
 }
 
@@ -1905,6 +2067,14 @@ static TABLE_APART size_t table_none_made(bs_table *table, bs_command *commands,
   commands[0].reply = table_tell_none(table, commands[0].told);
   table_not_made(commands + 1, count - 1);
   return 0;
+}
+
+/* Leaves after a list of which so many commands are done. */
+static size_t table_leave_list(bs_table *table, bs_command *commands, size_t done, size_t count) {
+  table_hand_on(table);
+  table_release(table);
+  if (done < count) table_not_made(commands + done + 1, count - done - 1);
+  return done;
 }
 
 /* Whether a command of this kind begins a transaction. */
@@ -1918,15 +2088,11 @@ size_t bs_table_run(bs_table *table, bs_command *commands, size_t count) {
   if (commands == NULL || count == 0) return 0;
   if (!table_enter(table)) return table_none_made(table, commands, count);
   while (done < count) {
-    bs_command *next = &commands[done];
-    if (table_run_next(table, next, begun) != BS_DONE) break;
-    if (table_begins(next->kind)) begun = next->reply.txn;
+    if (table_run_next(table, commands, done, begun) != BS_DONE) break;
+    if (table_begins(commands[done].kind)) begun = commands[done].reply.txn;
     done++;
   }
-  table_hand_on(table);
-  table_release(table);
-  if (done < count) table_not_made(commands + done + 1, count - done - 1);
-  return done;
+  return table_leave_list(table, commands, done, count);
 }
 
 /* The transaction of a session that has one, or its next one, if that can begin at once. */
@@ -1938,15 +2104,6 @@ static bs_reply table_session_goes_on(bs_table *table, bs_session *session) {
   return reply;
 }
 
-/* Makes the commit of a session in a list, and writes its reply. */
-static bs_status table_run_commit(bs_table *table, bs_session *session, bs_command *next) {
-  bs_notices *told = table_list_of(table, next->told);
-  told->count = 0;
-  next->reply = table_commit_and_rest(table, session, told);
-  table_wake(table, next->reply.status, told, false);
-  return next->reply.status;
-}
-
 /* Makes the commands of a list for a session, up to the first that is not done; how many are. */
 static size_t table_run_in_session(bs_table *table, bs_session *session, bs_command *commands, size_t count) {
   const bs_txn none = bs_begun();
@@ -1954,9 +2111,12 @@ static size_t table_run_in_session(bs_table *table, bs_session *session, bs_comm
   for (; done < count; done++) {
     bs_command *next = &commands[done];
     bool is_own = next->txn.slot == none.slot && next->txn.age == none.age;
-    bs_status status = is_own && next->kind == BS_DO_COMMIT ? table_run_commit(table, session, next)
-                                                            : table_run_next(table, next, session->txn);
-    if (status != BS_DONE) break;
+    if (is_own && next->kind == BS_DO_COMMIT) {
+      next->reply = table_session_commit(table, session, table_list_of(table, next->told));
+    } else {
+      table_run_next(table, commands, done, session->txn);
+    }
+    if (next->reply.status != BS_DONE) break;
   }
   return done;
 }
@@ -1974,16 +2134,17 @@ size_t bs_session_run(bs_session *session, bs_command *commands, size_t count) {
     table_list_of(table, commands[0].told)->count = 0;
     commands[0].reply = begun;
   }
-  table_hand_on(table);
-  table_release(table);
-  if (done < count) table_not_made(commands + done + 1, count - done - 1);
-  return done;
+  return table_leave_list(table, commands, done, count);
 }
 
 /* Makes the next try of a list, and writes its reply. What is no try is refused. */
 static TABLE_APART bs_status table_try_one(bs_table *table, bs_command *next) {
-  bool is_try = next->kind == BS_DO_TRY || next->kind == BS_DO_TRY_PATH || next->kind == BS_DO_TRY_ROW;
-  if (is_try) return table_run_next(table, next, bs_begun());
+  bool is_try = next->kind == BS_DO_TRY || next->kind == BS_DO_TRY_PATH || next->kind == BS_DO_TRY_ROW ||
+                next->kind == BS_DO_TRY_ROW_PATH;
+  if (is_try) {
+    next->reply = table_make_one(table, next, next->txn);
+    return next->reply.status;
+  }
   if (next->told != NULL) next->told->count = 0;
   next->reply = bs_call_only(BS_BAD_NUMBER);
   return BS_BAD_NUMBER;
@@ -2134,9 +2295,11 @@ bool bs_call_start(pthread_t *thread, void *(*run)(void *), void *place) {
   return is_started;
 }
 
+/* While the thread looks, its watcher is not in its place, so a second one is refused by the table. */
 bs_reply bs_table_watch_thread(bs_table *table, uint64_t pace) {
   bs_reply reply;
   if (!table_enter(table)) return table_no_table(table);
+  if (table->is_watched) return table_leave(table, bs_call_only(BS_IN_USE));
   reply = bs_watch(&table->manager, &table->eye);
   if (reply.status != BS_DONE) return table_leave(table, reply);
   table->pace = pace;

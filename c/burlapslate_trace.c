@@ -709,7 +709,28 @@ bs_reply bs_traced_rekey_row(bs_trace *trace, bs_txn txn, bs_node file, uint64_t
  */
 
 /* What bs_call_next_waiter says of a waiter that goes on by commands. */
-enum { TRACE_GIVES_BACK = 1, TRACE_LOCKS_ON = 2, TRACE_LOCKS_AGAIN = 3 };
+enum { TRACE_GIVES_BACK = 1, TRACE_LOCKS_ON = 2, TRACE_LOCKS_AGAIN = 3, TRACE_LOCKS_ROW = 4 };
+
+/* Whether a row has this node. */
+static bool trace_has_row(const trace_rows *rows, bs_node node) {
+  size_t i = rows->count;
+  while (i > 0 && rows->at[i - 1].birth != node.birth) i--;
+  return i > 0;
+}
+
+/* Says the lock of a row by which a waiter has gone on. The manager is asked for what the request said. */
+static void trace_say_row_next(bs_trace *trace, bs_reply next, bs_reply reply, const bs_notices *told) {
+  uint64_t keys[BS_MOST_PARENTS];
+  size_t count = 0;
+  bs_reply before = bs_call_only(trace_has_row(&trace->rows, reply.node) ? BS_DONE : BS_NO_SUCH_NODE);
+  bs_reply key = bs_key(trace->manager, reply.node, 0);
+  bs_node file = bs_parent(trace->manager, reply.node, 0).node;
+  for (; key.status == BS_DONE && count < BS_MOST_PARENTS; key = bs_key(trace->manager, reply.node, count)) {
+    keys[count++] = key.count;
+  }
+  before.node = reply.node;
+  trace_say_row(trace, next.txn, file, keys, count, next.mode, before, reply, told);
+}
 
 bs_reply bs_traced_call_go_on(bs_trace *trace, bs_notices *told) {
   bs_reply next = bs_call_next_waiter(trace->manager), done = bs_call_only(BS_DONE), reply;
@@ -725,6 +746,8 @@ bs_reply bs_traced_call_go_on(bs_trace *trace, bs_notices *told) {
     trace_add_name(trace, &line, next.node);
     done.mode = reply.mode;
     trace_say(trace, &line, done, told);
+  } else if (next.count == TRACE_LOCKS_ROW) {
+    trace_say_row_next(trace, next, reply, told);
   }
   return trace_end_call(trace, reply);
 }
@@ -742,7 +765,7 @@ bs_reply bs_traced_call_time_out(bs_trace *trace, bs_txn txn, bs_notices *told) 
 
 /* A commit that keeps locks is a renewal, or a commit, if all that it releases was released before. */
 bs_reply bs_traced_call_commit_and_rest(bs_trace *trace, bs_txn txn, size_t keep, uint64_t since, bs_notices *told) {
-  bs_reply reply = bs_call_commit_and_rest(trace->manager, txn, keep, since, told);
+  bs_reply reply = bs_call_commit_and_rest(trace->manager, txn, keep, keep, since, told);
   trace_line line = trace_line_of(TRACE_RENEW, txn, BS_NL);
   if (reply.status != BS_DONE || reply.txn.age == 0) return trace_end_of(trace, TRACE_COMMIT, txn, reply, told);
   line.head.count = reply.txn.age;

@@ -21,7 +21,9 @@ bs_reply bs_call_begin(bs_manager *manager);
 bs_reply bs_call_begin_again(bs_manager *manager, uint64_t since);
 bs_reply bs_call_renew(bs_manager *manager, bs_txn txn, uint64_t since);
 bs_reply bs_call_commit_keeping(bs_manager *manager, bs_txn txn, size_t keep, uint64_t since, bs_notices *told);
-bs_reply bs_call_commit_and_rest(bs_manager *manager, bs_txn txn, size_t keep, uint64_t since, bs_notices *told);
+bs_reply bs_call_commit_and_rest(bs_manager *manager, bs_txn txn, size_t known, size_t most, uint64_t since,
+                                 bs_notices *told);
+bs_reply bs_call_first_intentions(const bs_manager *manager, bs_txn txn, size_t known, size_t most);
 bs_reply bs_call_clear_way(bs_manager *manager, uint32_t one, bs_notices *told);
 bs_reply bs_call_clear_node(bs_manager *manager, bs_node node, bs_mode mode, uint32_t one, bs_notices *told);
 bs_reply bs_call_make_room(bs_manager *manager, bs_notices *told);
@@ -37,6 +39,10 @@ bs_reply bs_call_await_path(bs_manager *manager, bs_txn txn, bs_node node, bs_mo
                             bs_mode wanted, uint64_t until);
 bs_reply bs_call_await_row(bs_manager *manager, bs_txn txn, bs_node file, uint64_t number, const uint64_t *keys,
                            size_t count, bs_mode mode, bs_node at, uint64_t until);
+bs_reply bs_call_await_row_path(bs_manager *manager, bs_txn txn, bs_node file, uint64_t number, const uint64_t *keys,
+                                size_t count, bs_mode mode, bs_node at, uint64_t until);
+bs_reply bs_call_climb_to_row(bs_manager *manager, bs_txn txn, bs_node file, uint64_t number, const uint64_t *keys,
+                              size_t count, bs_mode mode, bs_node parent, uint64_t until);
 bs_reply bs_call_withdraw_waiter(bs_manager *manager, bs_txn txn);
 bs_reply bs_call_next_waiter(const bs_manager *manager);
 bs_reply bs_call_go_on(bs_manager *manager, bs_notices *told);

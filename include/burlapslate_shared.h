@@ -313,7 +313,7 @@ enum bs_command_kinds {
   BS_DO_ABORT, BS_DO_SETTLE, BS_DO_INSERT, BS_DO_DELETE, BS_DO_ADOPT, BS_DO_FORGET, BS_DO_REKEY, BS_DO_MOVE, BS_DO_DROP,
   BS_DO_ADD_INNER, BS_DO_ADD_FILE, BS_DO_ADD_ROW_FILE, BS_DO_ADD_INDEX, BS_DO_INDEX_BY, BS_DO_LOCK_ROW,
   BS_DO_UNLOCK_ROW, BS_DO_REKEY_ROW, BS_DO_TRY_PATH, BS_DO_TRY_ROW, BS_DO_BEGIN_AGAIN, BS_DO_RELEASE_SINCE,
-  BS_DO_RENEW
+  BS_DO_RENEW, BS_DO_LOCK_ROW_PATH, BS_DO_TRY_ROW_PATH, BS_DO_MARK, BS_DO_INSERT_PATH
 };
 
 /* A command of a list. Write it with the names of its fields, all others zero, or make it by a function below. All zero
@@ -334,7 +334,7 @@ typedef struct bs_command {
   const uint64_t *bounds;
   size_t bound_count;
   bs_notices *told; /* may be null */
-  uint32_t keep;    /* of BS_DO_TRY_PATH, of enum bs_keeps */
+  uint32_t keep;    /* of BS_DO_TRY_PATH, BS_DO_TRY_ROW_PATH, BS_DO_INSERT_PATH: of enum bs_keeps */
   bs_reply reply;   /* written by bs_table_run and bs_table_try_first */
 } bs_command;
 
@@ -381,8 +381,8 @@ static inline bs_txn bs_begun(void) {
  * a command of the list frees. */
 size_t bs_table_run(bs_table *table, bs_command *commands, size_t count);
 
-/* Makes tries in order, in one critical section, each BS_DO_TRY, BS_DO_TRY_PATH or BS_DO_TRY_ROW, up to the first that
- * is not passed over. Answers its place, from 0 on, or `count` if there is none. It never sleeps, joins no queue and
+/* Makes tries in order, in one critical section, each BS_DO_TRY, BS_DO_TRY_PATH, BS_DO_TRY_ROW or BS_DO_TRY_ROW_PATH,
+ * up to the first that is not passed over. Answers its place, from 0 on, or `count` if there is none. It never sleeps, joins no queue and
  * makes no victim. A try is passed over, with its own reply, if it is answered
  *   - BS_WOULD_BLOCK: another transaction holds the node, or one above it;
  *   - BS_NEED_PARENTS: the record or row has moved to where the transaction holds nothing above it;

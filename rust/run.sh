@@ -1,7 +1,7 @@
 #!/usr/bin/env bash
 # run.sh [WORD..]: runs the tests of the crate `burlapslate` and the examples in its documentation, with
-# no network. The words go to `cargo test`. Ends with cargo's status; where there is no cargo it says so,
-# and ends with status 77: not tried. BURLAPSLATE_LIBS names other archives than those of tools/c_library.sh.
+# no network. The words go to `cargo test`. Ends with cargo's status; without cargo it says so, and
+# ends with status 77: not tried. BURLAPSLATE_LIBS names other archives than those of tools/c_library.sh.
 # What is built goes to a temporary folder, or to CARGO_TARGET_DIR.
 set -uo pipefail
 top=$(cd "$(dirname "$0")/.." && pwd) || exit 2

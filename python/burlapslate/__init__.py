@@ -123,8 +123,9 @@ _mark = _call("bs_table_mark", _T, _Txn)
 _release_since = _call("bs_table_release_since", _T, _Txn, c.c_uint64, c.c_void_p)
 _insert = _call("bs_table_insert", _T, _Txn, Node, _NUMBERS, c.c_size_t)
 _rekey = _call("bs_table_rekey", _T, _Txn, Node, Node, c.c_uint64, c.c_void_p)
-_lock_row = _call("bs_table_lock_row", _T, _Txn, Node, c.c_uint64, _NUMBERS, c.c_size_t, c.c_uint32, _UNTIL)
-_try_row = _call("bs_table_try_row", _T, _Txn, Node, c.c_uint64, _NUMBERS, c.c_size_t, c.c_uint32)
+_ROW = _T, _Txn, Node, c.c_uint64, _NUMBERS, c.c_size_t, c.c_uint32
+_lock_row, _lock_row_path = (_call(f"bs_table_{name}", *_ROW, _UNTIL) for name in ("lock_row", "lock_row_path"))
+_try_row, _try_row_path = _call("bs_table_try_row", *_ROW), _call("bs_table_try_row_path", *_ROW, c.c_uint32)
 _unlock_row = _call("bs_table_unlock_row", _T, _Txn, Node, c.c_uint64, c.c_void_p)
 _watch_thread = _call("bs_table_watch_thread", _T, c.c_uint64)
 _trace, _trace_end = _call("bs_table_trace", _T, c.c_int), _call("bs_table_trace_end", _T)
@@ -351,10 +352,23 @@ class Transaction:
         row = file, number, *_numbers(keys), mode
         return self._sleeps(_try_row, row, _lock_row, (*row, _until(timeout))).status == DONE
 
+    def lock_row_path(self, file, number, keys=(), mode=X, timeout=None):
+        """As `lock_row`, with intentions on what must be held above the row; it sleeps for each lock that must wait. If
+        the row's keys change meanwhile, it continues with the new ones. If it raises, the locks above the row stay."""
+        row = file, number, *_numbers(keys), mode
+        return self._sleeps(_try_row_path, (*row, 1), _lock_row_path, (*row, _until(timeout))).status == DONE
+
     def try_row(self, file, number, keys=(), mode=X):
         """As `lock_row`, but raises WouldBlock if the lock would have to wait."""
-        reply = _try_row(self.table._at, self._txn, file, number, *_numbers(keys), mode)
-        return _done(reply, OTHER_KEYS).status == DONE
+        return self._tries_row(_try_row, file, number, *_numbers(keys), mode)
+
+    def try_row_path(self, file, number, keys=(), mode=X, keep=False):
+        """As `lock_row_path`, but raises WouldBlock if a lock would have to wait; it keeps those above only with
+        `keep`."""
+        return self._tries_row(_try_row_path, file, number, *_numbers(keys), mode, int(keep))
+
+    def _tries_row(self, attempt, *words):
+        return _done(attempt(self.table._at, self._txn, *words), OTHER_KEYS).status == DONE
 
     def unlock_row(self, file, number):
         """Releases a row."""

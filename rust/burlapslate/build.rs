@@ -3,10 +3,10 @@
 //! - the archives that `BURLAPSLATE_LIBS` names, with the separator of PATH between them;
 //! - the folder that `BURLAPSLATE_DIR` names from `/` on: the PREFIX of `tools/install.sh`, or its `lib`;
 //! - the installation that `pkg-config` knows, of this crate's version;
-//! - the repository, where the crate stands in it: `tools/c_library.sh` builds the library where it is
-//!   missing or old.
+//! - the repository, if the crate is in it: `tools/c_library.sh` builds the library if it is missing or
+//!   old.
 //!
-//! How many slots it has says `BURLAPSLATE_SLOTS`, or else the header that stands with it.
+//! `BURLAPSLATE_SLOTS` says how many slots it has, or else the header of the library.
 
 use std::env;
 use std::ffi::OsString;
@@ -18,7 +18,7 @@ const ARCHIVES: &str = "BURLAPSLATE_LIBS";
 const FOLDER: &str = "BURLAPSLATE_DIR";
 const SLOTS: &str = "BURLAPSLATE_SLOTS";
 
-/// Where the header of an archive stands, below some folder above it.
+/// The header of an archive, below some folder above it.
 const HEADER: &str = "include/burlapslate.h";
 
 /// What `tools/install.sh` calls the archive.
@@ -42,7 +42,7 @@ fn main() {
     println!("cargo:rustc-env={SLOTS}={}", slots(&archives));
 }
 
-/// How many slots the library has: by the word of the environment, or else by its header; 128 where nothing says it.
+/// How many slots the library has: by the word of the environment, or else by its header; 128 if nothing says it.
 fn slots(archives: &[PathBuf]) -> String {
     let named = word(SLOTS).map(|slots| slots.into_string().expect("a number is not UTF-8"));
     let header = || archives.iter().find_map(|archive| header_of(archive));
@@ -70,7 +70,7 @@ fn said_by(header: &Path) -> String {
         .to_string()
 }
 
-/// A word of the environment, where it is set and not empty.
+/// A word of the environment, if it is set and not empty.
 fn word(name: &str) -> Option<OsString> {
     println!("cargo:rerun-if-env-changed={name}");
     env::var_os(name).filter(|value| !value.is_empty())
@@ -94,7 +94,7 @@ fn archive_of_folder() -> Option<Vec<PathBuf>> {
     Some(vec![archive.unwrap_or_else(missing)])
 }
 
-/// What `pkg-config` says, where there is one and it knows this version.
+/// What `pkg-config` says, if there is one and it knows this version.
 fn archive_of_installation() -> Option<Vec<PathBuf>> {
     for name in [
         "PKG_CONFIG_PATH",

@@ -65,7 +65,7 @@ static size_t log_count, log_room;
 /* The last call that was served for this thread. */
 static __thread size_t my_last;
 
-/* By slot, the last call for a request that may sleep; and the last lock of a row that was left waiting. */
+/* By slot, the last call for a request that may sleep; and the last lock of a row. */
 static size_t last_of[BS_SLOTS];
 static struct call row_of[BS_SLOTS];
 
@@ -193,7 +193,7 @@ static void note_request(size_t at) {
   const struct served *s = &log_of_calls[at];
   if (s->reply.status == BS_NO_SUCH_TXN) return;
   last_of[s->call.txn.slot] = at;
-  if (s->call.kind == LOCK_ROW && s->reply.status == BS_WAITING) row_of[s->call.txn.slot] = s->call;
+  if (s->call.kind == LOCK_ROW) row_of[s->call.txn.slot] = s->call;
 }
 
 static bs_reply serve_request(bs_manager *m, struct call call, bs_notices *told) {
@@ -211,12 +211,12 @@ static void write_down_for(bs_manager *m, const struct call *call, bs_reply repl
 }
 
 /* What bs_call_next_waiter says of a waiter that a command continues; 0 says that its request has ended. */
-enum { GIVES_BACK = 1, LOCKS_ON = 2, LOCKS_AGAIN = 3 };
+enum { GIVES_BACK = 1, LOCKS_ON = 2, LOCKS_AGAIN = 3, LOCKS_ROW = 4 };
 
 /* The command by which a waiter is continued. */
 static struct call call_of_next(bs_reply next) {
   struct call call = call_of(next.count == GIVES_BACK ? UNLOCK : LOCK_PATH, next.txn, next.node);
-  if (next.count == LOCKS_AGAIN) return row_of[next.txn.slot];
+  if (next.count == LOCKS_AGAIN || next.count == LOCKS_ROW) return row_of[next.txn.slot];
   call.mode = next.count == LOCKS_ON ? next.mode : BS_NL;
   return call;
 }
@@ -227,7 +227,12 @@ static bs_reply served_go_on(bs_manager *m, bs_notices *told) {
   if (next.status != BS_DONE || next.count == 0) return came;
   call = call_of_next(next);
   if (call.kind == UNLOCK) memset(&plain, 0, sizeof plain);
-  if (call.kind == LOCK_PATH && (came.status == BS_WAITING || came.status == BS_ON_THE_WAY)) plain.mode = BS_NL;
+  if (came.status == BS_WAITING || came.status == BS_ON_THE_WAY) plain.mode = BS_NL;
+  if (came.status == BS_ON_THE_WAY && next.count == LOCKS_ROW) plain.status = BS_NEED_PARENTS;
+  if (came.status == BS_ON_THE_WAY && call.kind == LOCK_PATH && same_node(came.node, next.node)) {
+    memset(&plain, 0, sizeof plain);
+    plain.mode = came.mode;
+  }
   plain.txn = nobody;
   plain.count = 0;
   write_down_for(m, &call, plain, told);
@@ -413,6 +418,7 @@ static bs_reply served_index(bs_manager *m, enum kind kind, bs_txn txn, const bs
 #define bs_add_index(m, parents, count, file, bounds, most) \
   served_index(m, ADD_INDEX, nobody, parents, count, file, bounds, most)
 
+#include "burlapslate_rows.h"
 #include "burlapslate_shared.c"
 #include "threads.h"
 
@@ -628,16 +634,17 @@ static bs_reply as_begun(bs_reply reply) {
   return reply;
 }
 
-/* The same of a request; if it slept, by the last call for it. If that left it waiting, its end is noted; if its time was
- * over, that is a cancel. Another may have ended its transaction meanwhile, and the slot has begun a next one. */
+/* The same of a request; if it slept, or the library went on with it, by the last call for it. If that left it waiting,
+ * its end is noted; if its time was over, that is a cancel. Another may have ended its transaction meanwhile, and the slot
+ * has begun a next one. */
 static bs_reply as_slept(struct session *s, bs_reply reply) {
   struct served *last;
   if (folder != NULL) return reply;
   pthread_mutex_lock(&table->latch);
   last = &log_of_calls[my_last];
-  if (last->reply.status == BS_WAITING) {
+  s->slept += last->reply.status == BS_WAITING;
+  if (last->reply.status == BS_WAITING || last->reply.status == BS_NEED_PARENTS) {
     last = &log_of_calls[last_of[s->txn.slot]];
-    s->slept++;
   }
   if (!same_txn(last->call.txn, s->txn)) WANT(s->is_game);
   else if (last->call.kind == CANCEL) WANT(reply.status == BS_TIMED_OUT);
@@ -659,12 +666,14 @@ static bs_reply ask_path(struct session *s, bs_node node, bs_mode mode) {
 }
 
 /* Locks what is needed above a row with this key, and then the row; if its node has another key, also what is missing
- * above that. */
+ * above that. It makes one call for all, or one for each. */
 static bs_reply ask_row_by(struct session *s, size_t i, uint64_t row, uint64_t key, bs_mode mode) {
   struct timespec until = moment_in(200 + (long)pick(s, 2000));
   const struct timespec *limit = pick(s, 4) == 0 ? &until : NULL;
   size_t place = key / 100 < INTERVALS ? key / 100 : INTERVALS - 1;
-  bs_reply reply = ask_path(s, row_interval(i, place), BS_IX);
+  bs_reply reply;
+  if (pick(s, 2) == 0) return as_slept(s, bs_table_lock_row_path(table, s->txn, row_files[i], row, &key, 1, mode, limit));
+  reply = ask_path(s, row_interval(i, place), BS_IX);
   if (reply.status == BS_DONE) reply = ask_path(s, row_files[i], BS_IX);
   while (reply.status == BS_DONE) {
     reply = as_slept(s, bs_table_lock_row(table, s->txn, row_files[i], row, &key, 1, mode, limit));
@@ -839,12 +848,16 @@ static bs_reply skip_rows(struct session *s) {
   size_t i = pick(s, FILES), place;
   uint64_t keys[3], key = pick(s, 100);
   bs_command list[3];
-  bs_reply reply = ask_path(s, row_interval(i, 0), BS_IX);
-  if (reply.status == BS_DONE) reply = ask_path(s, row_files[i], BS_IX);
+  bool is_path = pick(s, 2) == 0;
+  bs_reply reply;
+  memset(&reply, 0, sizeof reply);
+  if (!is_path) reply = ask_path(s, row_interval(i, 0), BS_IX);
+  if (!is_path && reply.status == BS_DONE) reply = ask_path(s, row_files[i], BS_IX);
   if (reply.status != BS_DONE) return reply;
   for (place = 0; place < 3; place++) {
     keys[place] = key;
-    list[place] = bs_do(BS_DO_TRY_ROW, s->txn);
+    list[place] = bs_do(is_path ? BS_DO_TRY_ROW_PATH : BS_DO_TRY_ROW, s->txn);
+    list[place].keep = BS_KEEP_WAY;
     list[place].file = row_files[i];
     list[place].number = pick(s, ROWS);
     list[place].keys = &keys[place];

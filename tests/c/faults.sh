@@ -26,7 +26,7 @@ trap 'rm -rf "$work"' EXIT
 # for each condition. The library may need more words (FAULT_LINKS).
 faults() {
   local call
-  for call in table_lock_by table_path_by table_row_by; do
+  for call in table_lock_by table_path_by table_row_now; do
     printf '%s-forgets-to-wake\t/%s(/,/^}/s/  table_wake(table, reply.status, [^,]*told, false);//\n' "$call" "$call"
     printf '%s-is-not-watched\t/%s(/,/^}/s/wake(table, reply.status,/wake(table, reply.status == BS_WAITING ? BS_DONE : reply.status,/\n' \
       "$call" "$call"
@@ -41,22 +41,18 @@ skip-takes-a-later-one	s/table_is_passed(table_try_one(table, &commands\[place\]
 skip-passes-refusals	s/table_is_passed(table_try_one(table, &commands\[place\]))) place++;/table_try_one(table, \&commands[place]) != BS_DONE) place++;/
 skip-ends-at-what-moved	s/ || status == BS_NEED_PARENTS || / || /
 skip-ends-at-what-is-gone	s/ || status == BS_NO_SUCH_NODE;/;/
-skip-makes-any-command	s/  if (is_try) return table_run_next/  if (true) return table_run_next/
+skip-makes-any-command	s/^  if (is_try) {/  if (true) {/
 skip-keeps-replies	s/  if (place < count) table_not_made(.*//
 other-keys-wake-nobody	s/^ *status == BS_OTHER_KEYS;/false;/
-run-forgets-to-wake	s/  table_wake(table, next->reply.status, told, by_name);//
-run-forgets-names	s/  by_name = next->kind .*/  by_name = false;/
+run-forgets-to-wake	/ table_make_one(/,/^}/s/^  table_wake(.*//
+run-forgets-names	s/, c->kind == BS_DO_CANCEL || c->kind == BS_DO_ABORT);/, false);/
 savepoint-is-of-nobody	s/    case BS_DO_RELEASE_SINCE: return table_make_release_since(table, txn, c->number, told);/    case BS_DO_RELEASE_SINCE: return table_make_release_since(table, txn, c->key, told);/
 instant-at-once-forgets-the-victims	/ table_give_back_at_once(bs_table/,/^}/{s/table_make_unlock(table, txn, node, &more)/table_make_unlock(table, txn, node, told)/;/table_tell_too/d}
 instant-gives-back-what-was-held	/ table_is_instant(const/,/^}/s/ \&\& bs_held(&table->manager, txn, node).mode == BS_NL;/;/
 instant-came-and-is-not-known	/table_became(/,/^}/s/^  if (reply.status != BS_NOT_WAITING) return reply;/  return reply;/
-list-victim-has-no-node	s/^  if (became.status == BS_VICTIM .*//
 list-tells-its-own	s/^    table_tell_all_but(told, txn);//
-list-goes-not-on-with-its-path	/ table_made_on(/,/^}/s/^  if (c->kind != BS_DO_LOCK_PATH) return became;/  return became;/
-list-asks-not-again-for-its-row	/ table_made_on(/,/^}/s/^  if (c->kind == BS_DO_LOCK_ROW /  if (false /
 instant-tells-nobody	s/^      table_tell_too(told, &more);//
-instant-is-awaited-by-its-word	s/  c->reply.mode = table_mode_of(c->mode);/  c->reply.mode = c->mode;/
-run-says-not-for-what	s/  if (next->reply.status == BS_WAITING) table_say_for_what.*//
+run-says-not-for-what	/ table_made_waiting(/,/^}/s/^  reply.node = wait.node;//
 run-takes-a-slot-for-begun	s/  bs_txn txn = next->txn.slot == none.slot .*/  bs_txn txn = next->txn.age == none.age ? begun : next->txn;/
 list-path-tells-the-last	s/ table_tell_too(told, &table->told);/ *told = table->told;/
 list-path-tells-the-first	s/    if (told != &table->told) table_tell_too(.*//
@@ -92,7 +88,7 @@ listed-work-is-new	s/table_begin_again_now(table, c->number);/table_begin_now(ta
 work-in-turn-is-new	s/make_call_begin_in_turn(table, since,/make_call_begin_in_turn(table, TABLE_NEW_WORK,/
 work-again-is-new	s/  TABLE_ASK(table, table_begin_again_now(table, since));/  TABLE_ASK(table, table_begin_now(table));/
 call-keeps-the-slot	s/  table_hand_on(table);  *\\$/ \\/
-run-keeps-the-slot	/^size_t bs_table_run(/,/^}/s/^  table_hand_on(table);$//
+run-keeps-the-slot	/ table_leave_list(/,/^}/s/^  table_hand_on(table);$//
 section-keeps-the-slot	/^bs_reply bs_table_let_go(/,/^}/s/^  table_hand_on(table);$//
 one-slot-is-handed-on	s/  for (; begun.count != 0; begun = .*/  if (begun.count != 0) {/
 time-before-queued-begin	s/  if (own->begun.status == BS_WAITING) {/  if (late == ETIMEDOUT) {/
@@ -131,7 +127,7 @@ a-holder-sleeps	s/  return table_telling == NULL \&\& table_held == NULL;/  retu
 a-call-is-cancelled	/^static void table_tell(/,/^}/s/  pthread_setcancelstate(PTHREAD_CANCEL_DISABLE, &state);/  state = PTHREAD_CANCEL_ENABLE;/
 watch-tells-nobody-before-it-rests	/^static void table_settle_all(/,/^}/s/^    table_release(table);$/    pthread_mutex_unlock(\&table->latch);/
 dump-is-cancelled	/^static bs_reply dump_of(/,/^}/s/  pthread_setcancelstate(PTHREAD_CANCEL_DISABLE, &state);/  state = PTHREAD_CANCEL_ENABLE;/
-a-list-tells-nobody	/^size_t bs_table_run(/,/^}/s/  table_release(table);/  pthread_mutex_unlock(\&table->latch);/
+a-list-tells-nobody	/ table_leave_list(/,/^}/s/  table_release(table);/  pthread_mutex_unlock(\&table->latch);/
 a-call-tells-nobody	s/  table_release(table);                                         \\/  pthread_mutex_unlock(\&(table)->latch); \\/
 on-end-is-given-twice	s/  if (table->asks != NULL) return table_leave(table, bs_call_only(BS_IN_USE));//
 spare-asks-are-kept	s/  while (table->asks != NULL \&\& table->asks->spare != NULL) {/  while (false) {/
@@ -143,7 +139,6 @@ watch-waits-with-its-faults	s/^  for (i = 0; i < sizeof faults .*sigdelset.*//
 watch-blocks-one-signal	s/^  sigfillset(&blocked);/  sigemptyset(\&blocked), sigaddset(\&blocked, SIGUSR1);/
 watch-that-failed-keeps-its-seat	/^bs_reply bs_table_watch_thread(/,/^}/s/^    bs_watch_end(&table->eye);//
 watch-that-failed-is-done	/^bs_reply bs_table_watch_thread(/,/^}/s/^    reply.status = BS_NO_MEMORY;//
-run-is-not-watched	/ table_run_next(/,/^}/s/wake(table, next->reply.status,/wake(table, next->reply.status == BS_WAITING ? BS_DONE : next->reply.status,/
 instant-is-not-watched	/ table_lock_by(/,/^}/s/wake(table, reply.status,/wake(table, is_instant \&\& reply.status == BS_WAITING ? BS_DONE : reply.status,/
 path-for-an-instant-is-not-watched	/ table_path_by(/,/^}/s/wake(table, reply.status,/wake(table, is_instant \&\& reply.status == BS_WAITING ? BS_DONE : reply.status,/
 next-end-forgets-the-last	/^static void table_tell(/,/^}/s/^    table_telling->last = over->last;//
@@ -152,7 +147,7 @@ next-end-hides-those-before	/^static void table_tell(/,/^}/s/    else table_tell
 ends-within-are-told-first	/^static void table_tell(/,/^}/s/^    if (table_telling->first == NULL) table_telling->first = over->first;/    if (table_telling->first != NULL) { over->last->next = table_telling->first; table_telling->first = over->first; return; }\n&/
 instant-is-of-its-slot	s/  if (own->came == BS_NL || own->txn.age != txn.age || /  if (own->came == BS_NL || /
 instant-is-of-any-node	s/ || own->txn.age != txn.age || !table_is_same_node(own->node, node)) return reply;/ || own->txn.age != txn.age) return reply;/
-listed-row-is-for-an-instant	s/make_lock_row(table, txn, c->file, c->number, c->keys, c->key_count, c->mode, told)/make_lock_row(table, txn, c->file, c->number, c->keys, c->key_count, table_mode_of(c->mode), told)/
+listed-row-is-for-an-instant	s/ request = table_row_request(kind, txn, row, c->mode);/ request = table_row_request(kind, txn, row, table_mode_of(c->mode));/
 end-of-a-table-is-cancelled	/^bs_reply bs_table_end(/,/^}/s/  pthread_setcancelstate(PTHREAD_CANCEL_DISABLE, &state);/  pthread_setcancelstate(PTHREAD_CANCEL_ENABLE, \&state);/
 end-of-a-table-keeps-cancels-off	/^bs_reply bs_table_end(/,/^}/s/^  pthread_setcancelstate(state, &state);//
 dump-prints-names-as-they-are	s/(unsigned char)text\[i\] < ' ' ? '?' : text\[i\]/text[i]/
@@ -162,7 +157,6 @@ dump-keeps-cancels-off	/^static bs_reply dump_of(/,/^}/s/^  pthread_setcancelsta
 a-holder-ends-a-table	s/  if (table != NULL \&\& !table_may_sleep()) return bs_call_only(BS_IN_USE);/  if (table != NULL \&\& table_telling != NULL) return bs_call_only(BS_IN_USE);/
 what-is-held-outside-is-forgotten	s/^  table_held_outside = NULL;//
 watch-settles-all-in-one-section	/^static void table_settle_all(/,/^}/{s/^    table_release(table);$//;s/^    table_take(table);$//;s/^}/  table_tell_between(table);\n}/}
-list-settles-once	/ table_settle_made(/,/^}/s/  } while (c->reply.status == BS_WAITING);/  } while (false);/
 bucket-has-no-upper-bound	/^static size_t running_bucket(/,/^}/s/__builtin_clzll(microseconds - 1)/__builtin_clzll(microseconds)/
 bucket-cuts-nanoseconds	/^static size_t running_bucket(/,/^}/s/ + (nanoseconds % 1000 != 0)//
 moved-wait-is-gone	s/^    case BS_TOLD_MOVED: return BS_END_MOVED;//
@@ -248,7 +242,7 @@ trace-is-begun-twice	/^bs_reply bs_table_trace(/,/^}/s/^  if (table->is_traced) 
 trace-writes-long-lines	s/line->head.is_too_long || trace->length - start > TRACE_LONGEST/line->head.is_too_long/
 trace-keeps-its-memory	/^static void trace_free(/,/^}/s/^  free(trace->ring);//
 instant-stays-held-at-once	s/  if (is_instant \&\& reply.status == BS_DONE) table_give_back_at_once(.*//
-wait-is-not-registered	/ table_register(bs_table/,/^}/s/^  else table_enlist(table, request, wait, waiter);//
+wait-is-not-registered	/ table_register(bs_table/,/^}/s/^  table_enlist(table, request, wait, waiter);//
 lock-wakes-before-it-registers	/ table_lock_by(/,/^}/{/^    table_register(/d;s/^  table_wake(table, .*/&\n  if (reply.status == BS_WAITING) { table_request request = table_request_of(TABLE_NODE, txn, node, mode, is_instant); table_wait wait = { node, mode }; table_register(table, \&request, wait, waiter); }/}
 path-wakes-before-it-registers	/ table_path_by(/,/^}/{/^    table_register(/d;s/^  table_wake(table, .*/&\n  if (reply.status == BS_WAITING) { table_request request = table_request_of(TABLE_PATH, txn, node, mode, is_instant); table_wait wait = { reply.node, reply.mode }; table_register(table, \&request, wait, waiter); }/}
 path-asks-for-its-mode-too-late	/ table_path_by(/,/^}/s/wait.mode = bs_call_doing(&table->manager, txn).mode;/wait.mode = BS_IS;/
@@ -265,16 +259,16 @@ notices-are-told-twice	/^static void table_tell_too(/,/^}/s/txn.slot >= next->tx
 nobody-is-to-wake	/^    table->to_wake.words/{n;s/.*//}
 an-end-wakes-in-the-first-word	s/table->to_wake.words\[slot \/ 64\] |= /table->to_wake.words[0] |= /
 last-end-alone-wakes	s/table->to_wake.words\[slot \/ 64\] |= /table->to_wake.words[slot \/ 64] = /
-an-end-is-told-within-the-ask	s/^  } else if (!ask->is_inside) {/  } else {/
+an-end-is-told-within-the-ask	s/^  } else if (ask != NULL \&\& !ask->is_inside) {/  } else if (ask != NULL) {/
 an-end-is-not-to-be-told	/ table_has_to_tell(bs_table/,/^}/s/^  table->is_due = true;//
-listed-instant-stays-held	/^static void table_leave_waiting(/,/^}/s/^  bs_call_await_node(.*//
-listed-instant-is-of-nobody	/^static void table_leave_waiting(/,/^}/s/^  own->txn = request->txn;//
+listed-instant-stays-held	/ table_leave_waiting(/,/^}/s/^    bs_call_await_node(.*//
+listed-instant-is-of-nobody	/ table_leave_waiting(/,/^}/s/^    own->txn = txn;//
 path-is-awaited-as-a-node	/^static bs_reply table_await(/,/^}/s/  switch (request->kind) {/  switch (TABLE_NODE) {/
 asked-row-keeps-no-keys	/^static bs_reply table_await(/,/^}/s/bs_call_numbers(row->keys), row->count/bs_call_numbers(NULL), 0/
 awaited-instant-stays-held	/^static bs_reply table_await(/,/^}/s/bs_call_await_node(m, txn, request->node, mode, request->is_instant, until)/bs_call_await_node(m, txn, request->node, mode, false, until)/
 awaited-path-for-an-instant-stays-held	/^static bs_reply table_await(/,/^}/s/mode, request->is_instant, wait.node, wait.mode/mode, false, wait.node, wait.mode/
 ask-has-no-time	s/waiter->ask->has_time = time != TABLE_NO_TIME;/waiter->ask->has_time = false;/
-ask-is-awaited-for-ever	s/  reply = table_await(table, request, wait, time);/  reply = table_await(table, request, wait, TABLE_NO_TIME);/
+ask-is-awaited-for-ever	/ table_begin_wait(/,/^}/s/^  return time;/  return TABLE_NO_TIME;/
 deadline-is-forgotten	/^static uint64_t table_earlier(/,/^}/s/^  return .*/  return time;/
 deadline-is-of-the-slot	/^static uint64_t table_earlier(/,/^}/s/own->age == txn.age \&\& /own->age != 0 \&\& /
 deadline-hides-the-call	/^static uint64_t table_earlier(/,/^}/s/ \&\& own->time < time//
@@ -301,10 +295,36 @@ an-ask-is-answered-waiting	s/  if (waits \&\& own->waiter.has_ended) reply = own
 asked-path-answers-where-it-was	s/^  else if (waits \&\& reply.node.birth != 0) .*//
 ask-tells-after-it-has-left	s/^  if (waits \&\& !own->waiter.has_ended \&\& table->is_due) table_ask_and_tell(table);//
 ask-stays-in-its-call	/^static bs_reply table_leave_asked(/,/^}/s/^  own->is_inside = false;//
-list-does-not-settle	s/^  if (told->count > 0) table_settle_made(.*//
-list-path-stops-on-the-way	s/  return reply.status == BS_ON_THE_WAY ? table_path_made_on(.*/  return reply;/
-list-path-says-not-how-it-waits	/ table_path_by(/,/^}/s/^    if (waiter == NULL) reply.mode = wait.mode;//
-listed-wait-is-not-noted	s/^  if ((c->mode \& BS_INSTANT) == 0) table_note_wait(table, txn);//
+list-does-not-settle	/ table_made_waiting(/,/^}/s/^  if (own->has_ended) {/  if (false) {/
+list-s-wait-keeps-its-waiter	/ table_leave_waiting(/,/^}/s/^    bs_call_withdraw_waiter(.*//
+row-path-does-not-climb	s/  if (reply.status != BS_NEED_PARENTS || request->kind != TABLE_ROW_PATH) return reply;/  return reply;/
+row-climbs-too	s/  if (reply.status != BS_NEED_PARENTS || request->kind != TABLE_ROW_PATH) return reply;/  if (reply.status != BS_NEED_PARENTS) return reply;/
+row-path-goes-not-on	/ table_climb(/,/^}/s/^  table_go_on(table, told);//
+row-path-has-no-waiter	/ table_climb(/,/^}/s/^  table->waiters.*//
+row-path-s-ask-has-no-time	/ table_climb(/,/^}/s/, lacks.node, time);/, lacks.node, TABLE_NO_TIME);/
+row-path-waits-as-a-row	s/      return bs_call_await_row_path(/      return bs_call_await_row(/
+tried-row-path-stops-at-the-first	/ table_row_path_tried(/,/^}/s/  while (table_got_above(/  if (table_got_above(/
+tried-row-path-keeps-all	s/  if (keep == BS_KEEP_NOTHING \&\& reply.status != BS_DONE \&\& reply.status != BS_OTHER_KEYS) {/  if (false) {/
+tried-row-path-keeps-nothing	s/  if (keep == BS_KEEP_NOTHING \&\& reply.status != BS_DONE \&\& reply.status/  if (reply.status != BS_DONE \&\& reply.status/
+tried-row-path-gives-all-back	/ table_row_path_tried(/,/^}/s/    table_give_back(table, txn, mark);/    table_give_back(table, txn, 0);/
+tried-row-path-takes-any-keep	/ table_row_path_tried(/,/^}/s/^  if (keep > BS_KEEP_WAY) return bs_call_only(BS_BAD_NUMBER);//
+tried-path-is-above-refused	/ table_got_above(/,/^}/s/^  return above.status == BS_DONE;/  return true;/
+insert-path-stops-at-the-first	/ table_inserted_by_path(/,/^}/s/  while (table_got_above(/  if (table_got_above(/
+insert-path-keeps-all	s/^  if (keep == BS_KEEP_NOTHING \&\& reply.status != BS_DONE) table_give_back(.*//
+insert-path-keeps-nothing	s/^  if (keep == BS_KEEP_NOTHING \&\& reply.status != BS_DONE) table_give_back(.*/  if (reply.status != BS_DONE) table_give_back(table, txn, mark);/
+insert-path-takes-any-keep	/ table_inserted_by_path(/,/^}/s/^  if (keep > BS_KEEP_WAY) return bs_call_only(BS_BAD_NUMBER);//
+listed-insert-keeps-nothing	s/c->keys, c->key_count, c->keep);$/c->keys, c->key_count, BS_KEEP_NOTHING);/
+made-is-a-later-one	s/  if (table_is_made(\*node) \&\& node->key < place) /  if (table_is_made(*node)) /
+made-node-has-no-name	/ table_make_named(/,/^}/s/^  table_name_made(commands, place, &named.node);//
+made-file-has-no-name	/ table_make_named(/,/^}/s/^  table_name_made(commands, place, &named.file);//
+made-parents-have-no-names	/ table_make_named(/,/^}/s/^      table_name_made(.*//
+made-parents-are-not-looked-at	/ table_names_made(/,/^}/s/^  for (i = 0; .*//
+list-marks-nothing	s/    case BS_DO_MARK: return bs_mark(&table->manager, txn);/    case BS_DO_MARK: return bs_call_only(BS_DONE);/
+second-thread-watches	s/^  if (table->is_watched) return table_leave(table, bs_call_only(BS_IN_USE));//
+traced-row-path-gets-no-node	/ trace_say_row_next(/,/^}/s/  bs_reply before = .*/  bs_reply before = bs_call_only(BS_DONE);/
+traced-row-path-is-unsaid	s/^    trace_say_row_next(trace, next, reply, told);//
+list-path-stops-on-the-way	/ table_path_made(/,/^}/s/  reply = table_path_through(/  reply = table_path_now(/
+list-path-says-not-how-it-waits	/ table_made_waiting(/,/^}/s/ : wait.mode;/ : BS_NL;/
 trace-goes-on-unsaid	/^bs_reply bs_traced_call_go_on(/,/^}/s/^    trace_say_steps(.*//
 trace-goes-on-by-one-lock	/^bs_reply bs_traced_call_go_on(/,/^}/s/next.txn, (size_t)made, /next.txn, 1, /
 trace-gives-back-unsaid	/^bs_reply bs_traced_call_go_on(/,/^}/s/^    trace_say(trace, &line, done, told);//
@@ -312,7 +332,6 @@ trace-gives-back-by-a-lock	/^bs_reply bs_traced_call_go_on(/,/^}/s/next.count ==
 trace-hides-a-time-that-is-over	/^bs_reply bs_traced_call_time_out(/,/^}/s/^  if (reply.status == BS_TIMED_OUT) trace_say(.*//
 a-lock-waits-for-who-rests	/ table_lock_by(/,/^}/s/^  if (reply.status == BS_WAITING \&\& table->has_rested) .*//
 a-path-waits-for-who-rests	/ table_path_by(/,/^}/s/^  if (reply.status == BS_WAITING \&\& table->has_rested) .*//
-a-list-waits-for-who-rests	/ table_made_waiting(/,/^}/s/^  if (table->has_rested) .*//
 a-path-goes-on-to-who-rests	s/^    if (table->has_rested \&\& came.status == BS_WAITING) .*//
 who-waited-for-who-rests-goes-not-on	s/^    if (table->has_rested \&\& came.status == BS_WAITING) is_over |= /    if (table->has_rested \&\& came.status == BS_WAITING) /
 nobody-goes-on-past-who-rested	s/^  if (table_clear_all(table, told)) table_go_on(table, told);/  table_clear_all(table, told);/
@@ -323,29 +342,27 @@ who-rests-tells-nobody	/ table_ended_resting(/,/^}/s/^  table_tell_too(told, mor
 a-begin-finds-no-slot	s/^  return __builtin_expect(reply.status == BS_TOO_MANY_TXNS, 0) \&\& table->has_rested .*/  return false;/
 a-begin-waits-while-one-rests	/ table_begin_or_wait(bs_table/,/^}/s/^  if (table->has_rested) {/  if (false) {/
 a-list-begins-without-a-slot	s/^    case BS_DO_BEGIN: return table_begin_now(table);/    case BS_DO_BEGIN: return table_make_begin(table);/
-one-rests-while-others-sleep	s/^  uint32_t keep = table->queued > 0 ? 0 : /  uint32_t keep = /
-a-session-keeps-more	/ table_first_intentions(/,/^}/s/count < session->most; count++/; count++/
-a-session-keeps-what-it-kept-alone	/ table_first_intentions(/,/^}/s/^  for (; count < session->most; count++) {/  for (; session->kept == 0 \&\& count < session->most; count++) {/
-a-session-keeps-an-x	s/^    if (lock.status != BS_DONE || (lock.mode != BS_IS .*/    if (lock.status != BS_DONE) break;/
-what-is-not-kept-was-kept	/ table_commit_and_rest(/,/^}/s/ || reply.txn.age == 0) return reply;/) return reply;/
+one-rests-while-others-sleep	s/^  if (table->queued == 0) reply = table_let_rest(/  reply = table_let_rest(/
+a-session-keeps-more	s/session->kept, session->most, told);/session->kept, 2 * session->most, told);/
+a-session-keeps-what-it-kept-alone	s/session->kept, session->most, told);/session->kept, session->kept == 0 ? session->most : session->kept, told);/
+what-is-not-kept-was-kept	s/^  } else if (reply.status == BS_DONE \&\& reply.txn.age != 0) {/  } else if (reply.status == BS_DONE) {/
 one-in-the-way-alone-is-ended	/ table_clear_all(/,/^}/s/^  while (\(.*\)) any = true;/  if (\1) any = true;/
 a-try-ends-one-alone	/ table_clears_node(/,/^}/s/^  while (\(.*\)) any = true;/  if (\1) any = true;/
 who-rests-ends-no-wait	/ table_ended_resting(/,/^}/s/^  table_note_ended(table, more);//
-what-rests-is-not-in-the-trace	s/^  reply = __builtin_expect(table->is_traced, 0)$/  reply = false/
+what-rests-is-not-in-the-trace	s/^  if (__builtin_expect(table->is_traced, 0)) return table_rest_in_lines(.*//
 a-commit-in-lines-ends-no-wait	/ table_rest_in_lines(/,/^}/s/^  if (told->count > 0) table_note_ended(table, told);//
 who-rested-is-no-more	/ table_session_begin(/,/^}/s/^  if (table_session_wakes(table, session)) .*//
-who-rests-has-a-name	/ table_commit_and_rest(/,/^}/s/^  session->txn = reply.txn;/  session->txn = session->rests;/
+who-rests-has-a-name	/ table_commit_and_rest(/,/^}/s/^    session->txn = reply.txn;/    session->txn = session->rests;/
 a-session-begins-twice	/ table_session_begin(/,/^}/s/^  if (table_lives(table, session->txn)) .*//
 a-session-ends-in-a-transaction	/^bs_reply bs_session_end(/,/^}/s/^  if (table_lives(table, session->txn)) .*//
 what-a-session-kept-stays	s/^  if (table_session_wakes(table, session)) table_make_commit(.*//
 work-begins-again-as-new	/^bs_reply bs_session_begin_again(/,/^}/s/table_begin_or_sleep(session->table, since, until)/table_begin_or_sleep(session->table, TABLE_NEW_WORK, until)/
 a-session-s-commit-wakes-nobody	/^bs_reply bs_session_commit(/,/^}/s/^  table_hand_on(table);//
-a-session-s-list-hands-on-nothing	/^size_t bs_session_run(/,/^}/s/^  table_hand_on(table);//
 a-session-s-list-keeps-nothing	/ table_run_in_session(/,/^}/s/is_own \&\& next->kind == BS_DO_COMMIT/false/
 a-session-s-list-keeps-for-others	/ table_run_in_session(/,/^}/s/is_own \&\& next->kind == BS_DO_COMMIT/next->kind == BS_DO_COMMIT/
 a-session-s-list-takes-nothing-up	/ table_session_goes_on(/,/^}/s/^  if (table_session_wakes(table, session)) .*//
 a-session-s-list-begins-another	/ table_session_goes_on(/,/^}/s/  if (!table_lives(table, session->txn)) return/  return/
-a-session-s-list-wakes-nobody	/ table_run_commit(/,/^}/s/^  table_wake(.*//
+a-session-s-list-wakes-nobody	/ table_session_commit(/,/^}/s/^  table_wake(.*//
 a-refused-list-of-a-session-tells	/^size_t bs_session_run(/,/^}/s/^    table_list_of(table, commands\[0\].told)->count = 0;//
 FAULTS
 }
@@ -368,7 +385,7 @@ found() {
   mkdir -p "$there" && cp "$top"/c/*.[ch] "$there/" && sed -i "$2" "$there"/*.c || return 1
   ! diff -q "$top/c" "$there" -x out >/dev/null || { echo "faults.sh: $1 changes nothing"; return 1; }
   says "$there" shared 5 && says "$there" asks 5 100 && says "$there" begins 5 && says "$there" waits 5 && says "$there" sessions 5 &&
-    says "$there" own_ends 20 && says "$there" running 5 && says "$there" traces 5 && says "$there" crowd 4 4
+    says "$there" own_ends 20 && says "$there" row_paths 5 && says "$there" running 5 && says "$there" traces 5 && says "$there" crowd 4 4
   [ $? -eq 1 ] || { echo "faults.sh: $1 was not found"; return 1; }
   echo "$1: found: $(grep -E ': (hangs|not so|[a-z_]*: not so)' "$there/said" | tail -n 1 | sed 's/^[^ ]*\.[ch]:[0-9]*: //')"
 }

@@ -833,16 +833,14 @@ static void a_list_ends_where_its_caller_is_a_victim(void) {
   }
 }
 
-/* A victim in a list is told the node where it was chosen, as by the call of that name: for a path the node for which it
- * waited, for a row its node. */
+/* A victim in a list is told the node for which it waited. */
 static void a_victim_in_a_list_is_told_where(void) {
   bs_command list[3];
   size_t i;
   for (i = 0; i < TARGETS; i++) {
-    bs_node at = { 0, 0 };
+    bs_node at;
     set_up_keeper_of_all();
-    if (targets[i].by == BY_ROW) at = ASK(table, bs_row_node, rows, ROW).node;
-    else if (targets[i].by == BY_PATH) at = n;
+    at = targets[i].by == BY_ROW ? ASK(table, bs_row_node, rows, ROW).node : n;
     WANT(run_three(&targets[i], list) == 1);
     WANT(same_node(ANSWERS(BS_VICTIM, list[1].reply).node, at));
     close_table();

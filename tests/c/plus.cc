@@ -1,6 +1,7 @@
 // The headers as C++: calls of each, and sessions that sleep.
 #include "burlapslate.h"
 #include "burlapslate_dump.h"
+#include "burlapslate_rows.h"
 #include "burlapslate_running.h"
 #include "burlapslate_session.h"
 
@@ -94,6 +95,21 @@ static bool runs() {
   return bs_table_end(table).status == BS_DONE && bs_table_free(&table).status == BS_DONE;
 }
 
+static bool climbs(bs_txn txn) {
+  bs_command list[2];
+  bs_node file = bs_table_add_row_file(table, &root, 1).node, first = bs_made(0);
+  list[0] = bs_do(BS_DO_ADD_INNER, txn);
+  list[0].parents = &root;
+  list[1] = bs_do(BS_DO_ADD_INNER, txn);
+  list[1].parents = &first;
+  list[0].parent_count = list[1].parent_count = 1;
+  if (bs_table_run(table, list, 2) != 2) return false;
+  if (bs_table_insert_path(table, txn, file, NULL, 0, BS_KEEP_WAY).status != BS_ROWS_BY_NUMBER) return false;
+  if (bs_table_ask_row_path(table, txn, file, 1, NULL, 0, BS_S, NULL, NULL).status != BS_NULL_POINTER) return false;
+  if (bs_table_try_row_path(table, txn, file, 1, NULL, 0, BS_S, BS_KEEP_NOTHING).status != BS_DONE) return false;
+  return bs_table_lock_row_path(table, txn, file, 1, NULL, 0, BS_X, NULL).status == BS_DONE;
+}
+
 static bool keeps() {
   if (bs_table_make(&table, NULL).status != BS_DONE) return false;
   root = bs_table_add_inner(table, NULL, 0).node;
@@ -105,6 +121,7 @@ static bool keeps() {
   if (bs_table_lock(table, first, root, BS_IX, NULL).status != BS_DONE) return false;
   if (bs_session_commit(&session, NULL).count != 1) return false;
   if (bs_session_begin_again(&session, first.age, NULL).status != BS_DONE) return false;
+  if (!climbs(session.txn)) return false;
   if (bs_session_commit(&session, NULL).status != BS_DONE || bs_session_end(&session).status != BS_DONE) return false;
   return bs_table_end(table).status == BS_DONE && bs_table_free(&table).status == BS_DONE;
 }

@@ -54,20 +54,22 @@ for tool in "$@"; do
         quiet "tsan, the asks" "$work/asks-tsan" 60 60 || status=1
         quiet "tsan, asked begins" "$work/begins-tsan" 60 60 || status=1
         compile waits-tsan waits -fsanitize=thread && compile own_ends-tsan own_ends -fsanitize=thread &&
-          compile running-tsan running -fsanitize=thread && compile traces-tsan traces -fsanitize=thread || exit 1
+          compile row_paths-tsan row_paths -fsanitize=thread && compile running-tsan running -fsanitize=thread && compile traces-tsan traces -fsanitize=thread || exit 1
         quiet "tsan, the waits" "$work/waits-tsan" 60 || status=1
         quiet "tsan, own ends" "$work/own_ends-tsan" 60 || status=1
+        quiet "tsan, rows and their paths" "$work/row_paths-tsan" 60 || status=1
         quiet "tsan, times" "$work/running-tsan" 60 || status=1
         quiet "tsan, traces" "$work/traces-tsan" 60 || status=1
       elif command -v valgrind >/dev/null; then
         compile shared shared && compile asks asks && compile begins begins && compile waits waits &&
-          compile own_ends own_ends && compile running running || exit 1
+          compile own_ends own_ends && compile row_paths row_paths && compile running running || exit 1
         watched[1]=--tool=helgrind
         quiet "helgrind, the stories" "${watched[@]}" "$work/shared" 300 256 || status=1
         quiet "helgrind, the asks" "${watched[@]}" "$work/asks" 300 20 || status=1
         quiet "helgrind, asked begins" "${watched[@]}" "$work/begins" 300 20 || status=1
         quiet "helgrind, the waits" "${watched[@]}" "$work/waits" 300 || status=1
         quiet "helgrind, own ends" "${watched[@]}" "$work/own_ends" 300 || status=1
+        quiet "helgrind, rows and their paths" "${watched[@]}" "$work/row_paths" 300 || status=1
         quiet "helgrind, times" "${watched[@]}" "$work/running" 300 || status=1
       else
         echo "races.sh: not tried: neither ThreadSanitizer nor valgrind is found"
@@ -77,7 +79,8 @@ for tool in "$@"; do
     tsan)
       if ! compile shared-tsan shared -fsanitize=thread || ! compile asks-tsan asks -fsanitize=thread ||
         ! compile begins-tsan begins -fsanitize=thread || ! compile waits-tsan waits -fsanitize=thread ||
-        ! compile own_ends-tsan own_ends -fsanitize=thread || ! compile running-tsan running -fsanitize=thread ||
+        ! compile own_ends-tsan own_ends -fsanitize=thread || ! compile row_paths-tsan row_paths -fsanitize=thread ||
+        ! compile running-tsan running -fsanitize=thread ||
         ! compile traces-tsan traces -fsanitize=thread ||
         ! compile crowd-tsan crowd -fsanitize=thread; then
         echo "tsan: this compiler has none, so nothing was tried"
@@ -88,6 +91,7 @@ for tool in "$@"; do
       quiet "tsan, asked begins" "$work/begins-tsan" 300 || status=1
       quiet "tsan, the waits" "$work/waits-tsan" 300 || status=1
       quiet "tsan, own ends" "$work/own_ends-tsan" 300 || status=1
+      quiet "tsan, rows and their paths" "$work/row_paths-tsan" 300 || status=1
       quiet "tsan, times" "$work/running-tsan" 300 || status=1
       quiet "tsan, traces" "$work/traces-tsan" 300 || status=1
       quiet "tsan, the crowd" "$work/crowd-tsan" 4 300 || status=1
@@ -98,12 +102,13 @@ for tool in "$@"; do
         continue
       fi
       compile shared shared && compile asks asks && compile begins begins && compile waits waits &&
-        compile own_ends own_ends && compile running running && compile crowd crowd || exit 1
+        compile own_ends own_ends && compile row_paths row_paths && compile running running && compile crowd crowd || exit 1
       quiet "$tool, the stories" "${watched[@]}" "$work/shared" 900 256 || status=1
       quiet "$tool, the asks" "${watched[@]}" "$work/asks" 900 20 || status=1
       quiet "$tool, asked begins" "${watched[@]}" "$work/begins" 900 20 || status=1
       quiet "$tool, the waits" "${watched[@]}" "$work/waits" 900 || status=1
       quiet "$tool, own ends" "${watched[@]}" "$work/own_ends" 900 || status=1
+      quiet "$tool, rows and their paths" "${watched[@]}" "$work/row_paths" 900 || status=1
       quiet "$tool, times" "${watched[@]}" "$work/running" 900 || status=1
       quiet "$tool, the crowd" "${watched[@]}" "$work/crowd" 1 900 || status=1
       ;;

@@ -30,7 +30,7 @@ mapfile -t libraries < <("$top/tools/c_library.sh" --slots "$slots" 2>"$work/log
 compile() {
   local with=("${libraries[@]}")
   case $1 in
-    shared | crowd | asks | begins | waits | sessions | own_ends) with=(-I"$top/c" "$top"/c/burlapslate_{running,trace}.c "${libraries[@]:1}") ;;
+    shared | crowd | asks | begins | waits | sessions | own_ends | row_paths) with=(-I"$top/c" "$top"/c/burlapslate_{running,trace}.c "${libraries[@]:1}") ;;
     running) with=(-I"$top/c" "$top/c/burlapslate_trace.c" "${libraries[@]:1}") ;;
     traces) with=(-I"$top/c" "$top/c/burlapslate_running.c" "${libraries[@]:1}") ;;
     schemas | twins | scenarios) with=("$top/tests/c/naive.c" "${libraries[@]}") ;;
@@ -100,6 +100,8 @@ compile sessions -Wl,--wrap=malloc,--wrap=realloc,--wrap=free || exit 1
 timeout 60 "$work/sessions" || exit 1
 compile own_ends -Wl,--wrap=malloc,--wrap=realloc,--wrap=free || exit 1
 timeout 60 "$work/own_ends" || exit 1
+compile row_paths -Wl,--wrap=malloc,--wrap=realloc,--wrap=free || exit 1
+timeout 60 "$work/row_paths" || exit 1
 compile running -Wl,--wrap=malloc,--wrap=realloc,--wrap=free || exit 1
 timeout 60 "$work/running" || exit 1
 compile traces -Wl,--wrap=malloc,--wrap=realloc,--wrap=free || exit 1

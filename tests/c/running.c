@@ -1066,6 +1066,26 @@ static void watched_deadlocks_are_told(void) {
   shut_table();
 }
 
+/* A victim that waits, and whose wait a list has left that nobody awaits. */
+static void a_victim_that_nobody_awaits_is_told(void) {
+  struct heard h;
+  bs_command command;
+  bs_txn old, young;
+  set_up_telling(BS_AT_BLOCK, UINT64_MAX);
+  old = begin_writer(), young = begin_writer();
+  DONE(bs_table_lock(table, old, low, BS_X, NULL));
+  DONE(bs_table_lock(table, young, high, BS_X, NULL));
+  command = bs_do_at(BS_DO_LOCK, young, low, BS_X);
+  leave_waiting(&command);
+  WAITS(ask(&h, old, high, BS_X));
+  WANT(same_txn(event_at(0)->deadlock.victim, young));
+  await_rest();
+  WANT(told_by_now() == 1);
+  DONE(bs_table_abort(table, young, NULL));
+  HEARD(&h, BS_DONE);
+  shut_table();
+}
+
 /* A list that condemns tells it once, by a lock, by a path and by a row. */
 static void listed_deadlocks_are_told_once(void) {
   size_t i;
@@ -1820,6 +1840,7 @@ int main(int count, char **words) {
   TELL(times_and_functions_change);
   TELL(deadlocks_are_told);
   TELL(watched_deadlocks_are_told);
+  TELL(a_victim_that_nobody_awaits_is_told);
   TELL(listed_deadlocks_are_told_once);
   TELL(two_victims_of_one_lock);
   TELL(a_victim_beside_its_requester);

@@ -443,12 +443,11 @@ static bs_reply make_command(const bs_command *c, bs_notices *told) {
   return reply;
 }
 
-/* The outcome for a command of a list that waited for a node, and whose wait has ended so. A victim of a path or of a
- * row has that node. */
+/* The outcome for a command of a list that waited for a node, and whose wait has ended so. A victim has that node. */
 static bs_reply continue_command(const bs_command *c, bs_node at, bs_notices *told, bs_reply ended) {
   bool is_on_the_way = ended.status == BS_MOVED || (ended.status == BS_DONE && !same_node(at, c->node));
   if (c->kind == BS_DO_LOCK_ROW && ended.status == BS_DONE) return lock_row_again(c, at, ended);
-  if (c->kind != BS_DO_LOCK && ended.status == BS_VICTIM) ended.node = at;
+  if (ended.status == BS_VICTIM) ended.node = at;
   return c->kind == BS_DO_LOCK_PATH && is_on_the_way ? lock_path(c, told) : ended;
 }
 

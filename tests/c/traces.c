@@ -313,6 +313,35 @@ static void rows_come_and_go(void) {
   end_trace();
 }
 
+/* A row that is locked with what is above it, at once and after waits above it and for it: it is adopted as its waiter
+ * goes on. */
+static void rows_with_what_is_above_them(void) {
+  static const uint64_t key = LOW_KEY;
+  struct heard h;
+  bs_txn holder, other;
+  begin_trace(BS_AT_BLOCK);
+  holder = begin(), other = begin();
+  DONE(lock_row_path(other, LOW_KEY, BS_S, NULL));
+  DONE(bs_table_commit(table, other, NULL));
+  other = begin();
+  DONE(bs_table_lock_path(table, holder, rows_below, BS_X, NULL));
+  WAITS(ask_row_path(&h, other, LOW_KEY, BS_X, NULL));
+  DONE(bs_table_commit(table, holder, NULL));
+  HEARD(&h, BS_DONE);
+  holder = begin();
+  WAITS(ask_row_path(&h, holder, LOW_KEY, BS_X, NULL));
+  DONE(bs_table_lock_path(table, other, rows_above, BS_IX, NULL));
+  DONE(bs_table_rekey_row(table, other, rows, ROW, by_row_key, HIGH_KEY, NULL));
+  DONE(bs_table_commit(table, other, NULL));
+  HEARD(&h, BS_OTHER_KEYS);
+  other = begin();
+  ANSWERS(BS_WOULD_BLOCK, bs_table_try_row_path(table, other, rows, ROW, &key, 1, BS_X, BS_KEEP_NOTHING));
+  DONE(bs_table_try_row_path(table, other, rows, ROW + 1, &key, 1, BS_X, BS_KEEP_NOTHING));
+  DONE(bs_table_commit(table, holder, NULL));
+  DONE(bs_table_commit(table, other, NULL));
+  end_trace();
+}
+
 /* Records and the schema change under waiters. */
 static void nodes_change(void) {
   static const uint64_t bounds[2] = { 10, 20 };
@@ -437,6 +466,10 @@ static void *jostle(void *arg) {
       if (roll(&dice, 4) != 0) {
         bs_mode mode = roll(&dice, 2) == 0 ? BS_S : BS_X;
         last = bs_table_lock(table, txn, crowd_nodes[roll(&dice, CROWD_NODES)], mode, &until).status;
+        continue;
+      }
+      if (roll(&dice, 2) == 0) {
+        last = bs_table_lock_row_path(table, txn, rows, roll(&dice, 3), &key, 1, BS_X, &until).status;
         continue;
       }
       last = bs_table_lock_path(table, txn, rows, BS_IX, &until).status;
@@ -796,6 +829,7 @@ int main(int count, char **words) {
   TELL(paths);
   TELL(tries);
   TELL(rows_come_and_go);
+  TELL(rows_with_what_is_above_them);
   TELL(nodes_change);
   TELL(lists);
   TELL(begins_in_turn);

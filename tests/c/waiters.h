@@ -5,6 +5,7 @@
 #ifndef WAITERS_H
 #define WAITERS_H
 
+#include "burlapslate_rows.h"
 #include "threads.h"
 
 static bs_table *table;
@@ -193,6 +194,19 @@ static inline bs_reply lock_row(bs_txn txn, uint64_t key, bs_mode mode, const st
   return bs_table_lock_row(table, txn, rows, ROW, &key, 1, mode, until);
 }
 
+static inline bs_reply lock_row_path(bs_txn txn, uint64_t key, bs_mode mode, const struct timespec *until) {
+  return bs_table_lock_row_path(table, txn, rows, ROW, &key, 1, mode, until);
+}
+
+static inline bs_reply ask_row_path(struct heard *h, bs_txn txn, uint64_t key, bs_mode mode,
+                                    const struct timespec *until) {
+  const struct heard *before = begin_asking(h, txn, NULL);
+  bs_reply reply = bs_table_ask_row_path(table, txn, rows, ROW, &key, 1, mode, until, h);
+  asking = before;
+  key = 0; /* The ask has a copy. */
+  return reply;
+}
+
 /* If it is not negative, the table of a story is traced into this file: from its first transaction on. */
 static __attribute__((unused)) int traced_into = -1;
 
@@ -224,6 +238,18 @@ static inline bs_node add_root(void) {
   return DONE(bs_table_add_inner(table, NULL, 0)).node;
 }
 
+/* A command of this kind for the row, by its lower key. */
+static __attribute__((unused)) bs_command row_command(uint32_t kind, bs_txn txn, bs_mode mode) {
+  static const uint64_t key = LOW_KEY;
+  bs_command command = bs_do(kind, txn);
+  command.file = rows;
+  command.number = ROW;
+  command.keys = &key;
+  command.key_count = 1;
+  command.mode = mode;
+  return command;
+}
+
 /* A list of one command, which the table leaves waiting. */
 static inline void leave_waiting(bs_command *command) {
   WANT(bs_table_run(table, command, 1) == 0);
@@ -235,7 +261,7 @@ static inline void leave_waiting(bs_command *command) {
  */
 
 /* The calls that sleep. BY_AWAIT awaits a lock that a list has left waiting. */
-enum sleep_call { BY_LOCK, BY_PATH, BY_ROW, BY_AWAIT, BY_BEGIN };
+enum sleep_call { BY_LOCK, BY_PATH, BY_ROW, BY_ROW_PATH, BY_AWAIT, BY_BEGIN };
 
 /* A thread that sleeps in a call of the table. */
 struct sleeper {
@@ -259,6 +285,7 @@ static inline bs_reply sleep_by(struct sleeper *s) {
     case BY_LOCK: return bs_table_lock(table, s->txn, s->node, s->mode, s->until);
     case BY_PATH: return bs_table_lock_path(table, s->txn, s->node, s->mode, s->until);
     case BY_ROW: return lock_row(s->txn, s->key, s->mode, s->until);
+    case BY_ROW_PATH: return lock_row_path(s->txn, s->key, s->mode, s->until);
     case BY_AWAIT: return bs_table_await(table, s->txn, s->node, s->mode, s->until);
     default: return bs_table_begin_in_turn(table, s->until);
   }

@@ -666,6 +666,22 @@ static void a_thread_sleeps_between_waits(void) {
   close_table();
 }
 
+/* While the thread looks, its watcher is out of its place: a second thread is refused all the same. */
+static void a_thread_looks_and_is_alone(void) {
+  bs_watcher eye;
+  set_up(BS_BY_WATCHER);
+  DONE(bs_table_watch_thread(table, 0));
+  pthread_mutex_lock(&table->latch);
+  eye = table->eye;
+  memset(&table->eye, 0, sizeof table->eye);
+  pthread_mutex_unlock(&table->latch);
+  ANSWERS(BS_IN_USE, bs_table_watch_thread(table, 0));
+  pthread_mutex_lock(&table->latch);
+  table->eye = eye;
+  pthread_mutex_unlock(&table->latch);
+  close_table();
+}
+
 /* A thread that could not be started does not count as a watcher, and its caller blocks no signals after the call. */
 static void a_thread_that_cannot_be_started(void) {
   bs_watcher watchers[BS_MOST_WATCHERS];
@@ -752,24 +768,13 @@ static void a_thread_frees_the_latch_between_victims(void) {
 /* The ways in which a wait for a node, or for the row, begins by a list, for an instant, or by an ask. */
 enum { WAYS_TO_WAIT = 10 };
 
-static bs_command row_command(bs_txn txn, bs_mode mode) {
-  static const uint64_t key = LOW_KEY;
-  bs_command command = bs_do(BS_DO_LOCK_ROW, txn);
-  command.file = rows;
-  command.number = ROW;
-  command.keys = &key;
-  command.key_count = 1;
-  command.mode = mode;
-  return command;
-}
-
 static void begin_to_wait(int way, bs_txn txn, bs_node node, struct heard *h, struct sleeper *s) {
   bs_command command = bs_do_at(BS_DO_LOCK, txn, node, BS_X);
   switch (way) {
     case 0: command.kind = BS_DO_LOCK_PATH; break;
     case 1: command.mode |= BS_INSTANT; break;
     case 2: command.kind = BS_DO_LOCK_PATH, command.mode |= BS_INSTANT; break;
-    case 3: command = row_command(txn, BS_X); break;
+    case 3: command = row_command(BS_DO_LOCK_ROW, txn, BS_X); break;
     case 4: WAITS(ask(h, txn, node, BS_X | BS_INSTANT)); return;
     case 5: WAITS(ask_path(h, txn, node, BS_X | BS_INSTANT)); return;
     case 6: WAITS(ask_row(h, txn, LOW_KEY, BS_X)); return;
@@ -898,7 +903,7 @@ static void wait_again(int way, bs_txn txn, bs_node node, struct sleeper *s, str
     case 4: WAITS(ask_row(h, txn, LOW_KEY, BS_X)); return;
     case 5: WAITS(ask(h, txn, node, BS_X)); return;
     case 6: command.kind = BS_DO_LOCK_PATH; break;
-    case 7: command = row_command(txn, BS_X); break;
+    case 7: command = row_command(BS_DO_LOCK_ROW, txn, BS_X); break;
     default: break;
   }
   leave_waiting(&command);
@@ -1059,7 +1064,7 @@ static void a_row_is_not_locked_for_an_instant(void) {
   set_up(BS_AT_BLOCK);
   holder = begin_writer(), txn = begin_writer();
   for (i = 0; i < 2; i++) {
-    list[0] = row_command(txn, BS_X | BS_INSTANT);
+    list[0] = row_command(BS_DO_LOCK_ROW, txn, BS_X | BS_INSTANT);
     list[1] = list[0];
     list[1].kind = BS_DO_TRY_ROW;
     ANSWERS(BS_BAD_NUMBER, lock_row(txn, LOW_KEY, BS_X | BS_INSTANT, NULL));
@@ -1085,7 +1090,7 @@ static void a_row_is_awaited_by_its_reply(void) {
   for (round = 0; round < 4; round++) {
     holder = begin_writer(), waiter = begin_writer();
     DONE(lock_row(holder, LOW_KEY, BS_X, NULL));
-    list[0] = row_command(waiter, round % 2 == 0 ? BS_X : BS_S);
+    list[0] = row_command(BS_DO_LOCK_ROW, waiter, round % 2 == 0 ? BS_X : BS_S);
     if (round >= 2) list[0].keys = &other_key;
     list[1] = bs_do(BS_DO_COMMIT, waiter);
     leave_waiting(&list[0]);
@@ -1173,6 +1178,7 @@ int main(int count, char **words) {
   TELL(instants_in_all_slots);
   TELL(a_thread_takes_no_old_board);
   TELL(a_thread_sleeps_between_waits);
+  TELL(a_thread_looks_and_is_alone);
   TELL(a_thread_that_cannot_be_started);
   TELL(a_thread_blocks_signals_but_its_faults);
   TELL(a_thread_frees_the_latch_between_victims);

@@ -115,6 +115,26 @@ class Tables(unittest.TestCase):
             one.unlock_row(rows, 7)
             self.assertTrue(two.lock_row(rows, 7))
 
+    def test_rows_with_what_is_above_them(self):
+        rows = self.table.add_row_file([self.db])
+        days = self.table.add_index([self.db], rows, [100])
+        early, late = self.table.interval(days, 0), self.table.interval(days, 1)
+        with self.table.begin() as writer, self.table.begin() as reader:
+            self.assertTrue(writer.lock_row_path(rows, 7, [50]))
+            held = [writer.held(node) for node in (self.db, rows, early, late)]
+            self.assertEqual(held, [bs.IX, bs.IX, bs.IX, bs.NL])
+            self.refused("WouldBlock", reader.try_row_path, rows, 7, [50], bs.S)
+            self.assertEqual(reader.held(rows), bs.NL)
+            self.refused("WouldBlock", reader.try_row_path, rows, 7, [50], bs.S, True)
+            self.assertEqual(reader.held(rows), bs.IS)
+            self.assertTrue(reader.try_row_path(rows, 8, [50], bs.S))
+            with self.assertRaises(bs.TimedOut):
+                reader.lock_row_path(rows, 7, [50], bs.S, timeout=0.02)
+            waiter = self.sleeps(reader.lock_row_path, rows, 7, [50], bs.S)
+            writer.commit()
+            self.assertTrue(waiter.ended().answer)
+            self.assertEqual((reader.held(early), reader.held(late)), (bs.NL, bs.NL))
+
     def test_a_block_that_raises_aborts(self):
         with self.assertRaises(KeyError):
             with self.table.begin() as txn:
@@ -188,7 +208,8 @@ class Tables(unittest.TestCase):
         one, two = self.table.begin(), self.table.begin()
         one.lock_path(self.orders, bs.X), one.lock_path(rows, bs.IX), two.lock_path(rows, bs.IX)
         one.lock_row(rows, 7)
-        for wait in (two.lock, self.orders, bs.S), (two.lock_path, self.orders, bs.S), (two.lock_row, rows, 7):
+        waits = (two.lock, self.orders, bs.S), (two.lock_path, self.orders, bs.S)
+        for wait in *waits, (two.lock_row, rows, 7), (two.lock_row_path, rows, 7):
             self.alarm(signal.default_int_handler)
             with self.assertRaises(KeyboardInterrupt):
                 wait[0](*wait[1:])

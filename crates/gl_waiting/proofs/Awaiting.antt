@@ -39,14 +39,18 @@ use Rattle.gl_model.specs.State.{Txn, is_waiting_at, live_by, lives, status_of, 
 use Rattle.gl_model.specs.declared.txn.Status.{Status}
 use Rattle.gl_model.specs.declared.txn.Status.TheVariants.{Active, Condemned, Waiting}
 use Rattle.gl_catalog.specs.Replies.{wait_of}
+use Rattle.gl_rows.specs.declared.answer.RowLocked.{RowLocked}
+use Rattle.gl_rows.specs.declared.answer.RowRefusal.{RowRefusal}
+use Rattle.gl_rows.specs.declared.answer.RowRefusal.TheVariants as row_no
 use Rattle.gl_wakes.specs.Boxes.{Slot, box_at, by_notice, named, stopped, verdict_of}
 use Rattle.gl_wakes.specs.Wakes.{HasEnded}
 use Rattle.gl_wakes.proofs.Waking.{ended_none}
 use Rattle.gl_wakes.specs.declared.grant.Grant.{Grant}
 use Rattle.gl_wakes.specs.declared.grant.Stop.{Stop}
 use Rattle.gl_waiting.specs.Delivering.{Carries, DeliveryView}
-use Rattle.gl_waiting.specs.Waiters.{KnowsDue, WaitsStill, by_verdict, came_as, came_of, granted_to, holds_or_ends, is_held, next_in, next_of}
+use Rattle.gl_waiting.specs.Waiters.{KnowsDue, WaitsStill, by_verdict, came_as, came_of, goes_on, goes_on_with, holds_or_ends, next_in, next_of}
 use Rattle.gl_waiting.specs.Waiters.{place_at, place_of, waiter_in, waits_as, waits_for_node}
+use Rattle.gl_waiting.specs.RowLocks.{row_came_as, row_came_of, row_lacks}
 use Rattle.gl_waiting.specs.Waiting.{WaitingView}
 use Rattle.gl_waiting.specs.Begins.{BeginsView}
 use Rattle.gl_waiting.specs.declared.waiter.Came.{Came}
@@ -142,7 +146,7 @@ module _ (s : State) (t : TxnId) (n : NodeId) (k : Mode) where
 -- a waiter that waits has nothing to do next
 pub still_none : (s : State) (boxes : List Slot) (p : Place) → WaitsStill s p → next_in s boxes p ≡ None
 still_none s boxes place.Empty waits = refl
-still_none s boxes (place.Holds w mode) waits = absurd waits
+still_none s boxes (place.GoesOn w granted) waits = absurd waits
 still_none s boxes (place.Waits w) waits =
     ap (by_verdict w)
     (ap (λ b. if b then (if is_waiting_at s w.txn.slot w.at then None else by_notice s w.txn w.at w.wanted (named w.txn (box_at boxes w.txn.slot)))
@@ -155,7 +159,7 @@ first_same x y e = let so : x ≡ y = cc e in ap (λ (z : Waiter × Next). Some 
 -- the waiter that goes on is that of its place
 pub next_waiter : (s : State) (boxes : List Slot) (p : Place) (w : Waiter) (x : Next) → next_in s boxes p ≡ Some (w, x) → waiter_in p ≡ Some w
 next_waiter s boxes place.Empty w x is = absurd (cc is)
-next_waiter s boxes (place.Holds v mode) w x is = first_same (v, next_of v (granted_to v mode)) (w, x) is
+next_waiter s boxes (place.GoesOn v granted) w x is = first_same (v, goes_on_with v granted) (w, x) is
 next_waiter s boxes (place.Waits v) w x is = by (verdict_of s boxes v.txn v.at v.wanted) is
   where
     by : (o : Option (Result Grant Stop)) → by_verdict v o ≡ Some (w, x) → Some v ≡ Some w
@@ -178,7 +182,7 @@ none_due s boxes places due none h idle = record { own = h.own; still = λ u out
   where
     by : (p : Place) → next_in s boxes p ≡ None → WaitsStill s p
     by place.Empty is = tt
-    by (place.Holds w mode) is = cc is
+    by (place.GoesOn w granted) is = cc is
     by (place.Waits w) is = verdict_still s w.txn w.at w.wanted boxes (waits_on_by (verdict_of s boxes w.txn w.at w.wanted) is)
       where
         waits_on_by : (o : Option (Result Grant Stop)) → by_verdict w o ≡ None → o ≡ None
@@ -190,7 +194,7 @@ module _ (s s' : State) (ended : Slots) (law : IsLawful s) (ends : HasEnded s s'
   still_on : (u : ℕ) (p : Place) → ((w : Waiter) → waiter_in p ≡ Some w → (w.txn.slot ≡ u) × (u < most_slots)) → has_slot ended u ≡ false → WaitsStill s p
       → WaitsStill s' p
   still_on u place.Empty own out waits = tt
-  still_on u (place.Holds w mode) own out waits = waits
+  still_on u (place.GoesOn w granted) own out waits = waits
   still_on u (place.Waits w) own out waits = by (waits_on s' w.txn w.at) refl
     where
       by : (b : Bool) → waits_on s' w.txn w.at ≡ b → b ≡ true
@@ -244,12 +248,14 @@ pub placed_txn : (v : Waiter) (c : Came) (w : Waiter) → waiter_in (place_of v 
 placed_txn v (came.Ended o) w is = absurd (cc is)
 placed_txn v (came.Waits at wanted) w is = let so : record v { at = at; wanted = wanted } ≡ w = cc is in sym (ap (λ (x : Waiter). x.txn) so)
 placed_txn v (came.Holds at mode) w is = let so : record v { at = at } ≡ w = cc is in sym (ap (λ (x : Waiter). x.txn) so)
+placed_txn v (came.Lacks at wanted) w is = let so : record v { at = at; wanted = wanted } ≡ w = cc is in sym (ap (λ (x : Waiter). x.txn) so)
 
-pub placed_still : (s : State) (v : Waiter) (c : Came) → (is_held c ≡ true → ⊥)
+pub placed_still : (s : State) (v : Waiter) (c : Came) → (goes_on c ≡ true → ⊥)
     → ((at : NodeId) (wanted : Mode) → c ≡ came.Waits at wanted → waits_on s v.txn at ≡ true) → WaitsStill s (place_of v c)
 placed_still s v (came.Ended o) held waits = tt
 placed_still s v (came.Waits at wanted) held waits = waits at wanted refl
 placed_still s v (came.Holds at mode) held waits = absurd (held refl)
+placed_still s v (came.Lacks at wanted) held waits = absurd (held refl)
 
 -- the slots that are due after a waiter went on
 module _ (due ended due' : Slots) (slot : ℕ) (held : Bool)
@@ -313,6 +319,32 @@ due_registered due s places w law below long waits h =
     same : (v : Waiter) → Some w ≡ Some v → v.txn ≡ w.txn
     same v is = let so : w ≡ v = cc is in sym (ap (λ (x : Waiter). x.txn) so)
 
+-- a waiter was registered that goes on with the next call
+pub due_climbing : (due due' : Slots) (s : State) (places : List Place) (w : Waiter) → IsLawful s → w.txn.slot < most_slots → length places ≡ most_slots
+    → ((u : ℕ) → has_slot due' u ≡ (has_slot due u || (u == w.txn.slot))) → KnowsDue (has_slot due) s places
+    → KnowsDue (has_slot due') s (slice_set places w.txn.slot (place.GoesOn w None))
+due_climbing due due' s places w law below long is h =
+    due_put s s due law (ended_none s due) due due' places w.txn (place.GoesOn w None) (λ v is. same v is) below long here (λ u apart out. there u out) h
+  where
+    same : (v : Waiter) → Some w ≡ Some v → v.txn ≡ w.txn
+    same v is = let so : w ≡ v = cc is in sym (ap (λ (x : Waiter). x.txn) so)
+
+    both : (a b : Bool) → (a || b) ≡ false → (a ≡ false) × (b ≡ false)
+    both false false out = (refl, refl)
+    both false true out = absurd (true≢false out)
+    both true b out = absurd (true≢false out)
+
+    there : (u : ℕ) → has_slot due' u ≡ false → (has_slot due u ≡ false) × (has_slot due u ≡ false)
+    there u out = let so = both (has_slot due u) (u == w.txn.slot) (sym (is u) ∙ out) in (so.0, so.0)
+
+    itself : (u : ℕ) → (u == u) ≡ true
+    itself u = grind (arith, nat_tests)
+
+    here : has_slot due' w.txn.slot ≡ false → WaitsStill s (place.GoesOn w None)
+    here out =
+        let so = both (has_slot due w.txn.slot) (w.txn.slot == w.txn.slot) (sym (is w.txn.slot) ∙ out) in
+        absurd (true≢false (sym (itself w.txn.slot) ∙ so.1))
+
 -- nothing belongs to any slot
 pub all_empty : (k u : ℕ) → place_at (replicate k place.Empty) u ≡ place.Empty
 all_empty zero u = refl
@@ -356,6 +388,22 @@ module _ (s : State) (t : TxnId) where
 
       by : (y : Locked) → came.Waits at wanted ≡ came_as s t node instant x.node y → waits_on s t at ≡ true
       by (locked.Granted m) e = absurd (held (same_node x.node node && not instant) m e)
+      by locked.Victim e = absurd (cc e)
+      by locked.Waiting e = as_waits at wanted e
+
+  -- the same of a row
+  lacks_no_wait : (mode : Mode) (r : Refusal) (at : NodeId) (wanted : Mode) → came.Waits at wanted ≡ row_lacks mode r → ⊥
+  lacks_no_wait mode (no.NeedParents parent) at wanted e = cc e
+  lacks_no_wait mode r at wanted e = cc e
+
+  pub row_came_waits : (mode : Mode) (locked : Result RowLocked RowRefusal) (at : NodeId) (wanted : Mode)
+      → came.Waits at wanted ≡ row_came_of s t mode locked → waits_on s t at ≡ true
+  row_came_waits mode (Err (row_no.Refused r)) at wanted e = absurd (lacks_no_wait mode r at wanted e)
+  row_came_waits mode (Err row_no.NotRows) at wanted e = absurd (cc e)
+  row_came_waits mode (Ok x) at wanted e = by x.locked e
+    where
+      by : (y : Locked) → came.Waits at wanted ≡ row_came_as s t x.node x.own_keys y → waits_on s t at ≡ true
+      by (locked.Granted m) e = absurd (cc e)
       by locked.Victim e = absurd (cc e)
       by locked.Waiting e = as_waits at wanted e
 

@@ -4,6 +4,7 @@ use Rattle.std.specs.Prelude.{OnErr, OnOk, drop, slice_get, slice_set}
 use Rattle.gl_modes.specs.declared.node.NodeId.{NodeId}
 use Rattle.gl_modes.specs.declared.refusal.Refusal.{Refusal}
 use Rattle.gl_modes.specs.declared.refusal.Refusal.TheVariants as no
+use Rattle.gl_slots.specs.Limit.{most_slots}
 use Rattle.gl_slots.specs.Slots.{HasNoSlot}
 use Rattle.gl_slots.specs.declared.slots.Slots.{Slots}
 use Rattle.gl_graph.specs.Refusals.{first_refusal, max_count}
@@ -138,6 +139,13 @@ abbrev pub Awaits : WaitingView → Waiter → Option Came → WaitingView → T
 Awaits v w None v' = (waiter_in (place_at v.places w.txn.slot) ≢ None) × (v' ≡ v)
 Awaits v w (Some c) v' =
     (waiter_in (place_at v.places w.txn.slot) ≡ None) × AwaitsBy (verdict_of (state_of v.manager) v.boxes w.txn w.at w.wanted) v w c v'
+
+-- a waiter is registered that lacks a node above its own, unless its slot has a waiter already, or there is no such slot
+abbrev pub Climbs : WaitingView → Waiter → Bool → WaitingView → Type 0
+Climbs v w true v' =
+    (w.txn.slot < most_slots) × (waiter_in (place_at v.places w.txn.slot) ≡ None)
+    × (v' ≡ record v { places = slice_set v.places w.txn.slot (place.GoesOn w None) })
+Climbs v w false v' = (w.txn.slot < most_slots → waiter_in (place_at v.places w.txn.slot) ≢ None) × (v' ≡ v)
 
 -- a waiter goes on, by at most one call, and its request came to this
 pub record GoesOnBy (v : WaitingView) (t : TxnId) (c : Came) (told : Told) (ended : Slots) (v' : WaitingView) : Type 0 where

@@ -15,7 +15,7 @@ use Rattle.gl_rows.specs.declared.answer.RowLocked.{RowLocked}
 use Rattle.gl_rows.specs.declared.answer.RowRefusal.{RowRefusal}
 use Rattle.gl_waiting.specs.Delivering.{DeliveryView, registry_in}
 use Rattle.gl_waiting.specs.Going.{Call}
-use Rattle.gl_waiting.specs.RowLocks.{LocksRowWith, again_as}
+use Rattle.gl_waiting.specs.RowLocks.{LocksRowWith, again_as, row_came_of}
 use Rattle.gl_waiting.specs.Waiters.{came_of, next_in, node_in, place_at}
 use Rattle.gl_waiting.specs.Waiting.{WaitingView}
 use Rattle.gl_waiting.specs.declared.waiter.Came.{Came}
@@ -31,15 +31,17 @@ pub record Unlocks (t : TxnId) (node : NodeId) (told : Told) (d d' : DeliveryVie
   pub rows : d'.rows ≡ d.rows
 
 -- a waiter does what comes next, and its request came to this: it ends, after its lock is given back if that was for an instant; the next part of its path is
--- locked; or its row is locked again
+-- locked; its row is locked again; or its row is locked
 abbrev pub Continues : Waiter → Next → DeliveryView → Came → Told → DeliveryView → Type 0
 Continues w (next.End outcome) d c told d' = (c ≡ came.Ended outcome) × (told ≡ []) × (d' ≡ d)
 Continues w (next.GiveBack outcome) d c told d' = (c ≡ came.Ended outcome) × Unlocks w.txn (node_in w.request) told d d'
 Continues w (next.GoOn node mode) d c told d' =
     (result : Result Reached Refusal) × PathLeavesRows w.txn (node, mode) (registry_in d) result told (registry_in d')
-    × (c ≡ came_of (state_of d'.manager) w.txn node w.instant result)
+    × (c ≡ came_of (state_of d'.manager) w.txn (node_in w.request) w.instant result)
 Continues w (next.LockAgain row keys mode granted) d c told d' =
     (result : Result RowLocked RowRefusal) × LocksRowWith d w.txn row keys mode result told d' × (c ≡ came.Ended (again_as w.at granted result))
+Continues w (next.LockRow row keys mode) d c told d' =
+    (result : Result RowLocked RowRefusal) × LocksRowWith d w.txn row keys mode result told d' × (c ≡ row_came_of (state_of d'.manager) w.txn mode result)
 
 -- at most one call, with these notices, that ended the waits of these slots, and names no transaction but this
 abbrev pub CallWith : TxnId → Told → Slots → DeliveryView → DeliveryView → Type 0

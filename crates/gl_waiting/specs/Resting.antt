@@ -1,12 +1,14 @@
 -- Transactions that rest: active ones that have done nothing, and hold intentions for what their session begins next.
-use Rattle.std.specs.Prelude.{◌≡◌, ◌||◌, ◌&&◌, ◌==◌, ◌≤◌, ℕ, Bool, true, false, not, List, [], ◌∷◌, Option, Some, None, Result, Ok, Err}
+use Rattle.std.specs.Prelude.{◌≡◌, ◌||◌, ◌&&◌, ◌==◌, ◌≤◌, ◌<◌, ℕ, Bool, true, false, not, min, List, [], ◌∷◌, Option, Some, None, Result, Ok, Err}
+use Rattle.std.specs.Prelude.{if◌then◌else◌, slice_get}
 use Rattle.std.specs.List.{list_any}
-use Rattle.gl_modes.specs.declared.mode.Mode.TheVariants.{IX}
+use Rattle.gl_modes.specs.declared.mode.Mode.TheVariants.{IS, IX}
 use Rattle.gl_modes.specs.declared.node.NodeId.{NodeId}
 use Rattle.gl_modes.specs.declared.refusal.Refusal.{Refusal}
-use Rattle.gl_modes.specs.Modes.{are_compatible, is_at_least}
+use Rattle.gl_modes.specs.Modes.{are_compatible, is_at_least, same_mode}
 use Rattle.gl_slots.specs.Slots.{HasNoSlot, has_slot}
 use Rattle.gl_slots.specs.declared.slots.Slots.{Slots}
+use Rattle.gl_model.specs.declared.answers.LockRow.{LockRow}
 use Rattle.gl_model.specs.declared.txn.Status.TheVariants.{Active}
 use Rattle.gl_model.specs.declared.txn.TxnId.{TxnId}
 use Rattle.gl_model.specs.Lawful.{IsLawful}
@@ -15,7 +17,8 @@ use Rattle.gl_model.specs.Tellings.{Told}
 use Rattle.gl_steps.specs.Promises.{names}
 use Rattle.gl_steps.specs.declared.command.Command.{Command}
 use Rattle.gl_steps.specs.declared.command.Command.TheVariants as command
-use Rattle.gl_catalog.specs.Manager.{state_of}
+use Rattle.gl_table.specs.Table.{rows_of}
+use Rattle.gl_catalog.specs.Manager.{ManagerView, state_of}
 use Rattle.gl_rows.specs.declared.answer.RowAnswer.{RowAnswer}
 use Rattle.gl_rows.specs.declared.call.RowCall.TheVariants as call
 use Rattle.gl_waiting.specs.Asking.{InTurn, IsNothing, ServesRow}
@@ -27,6 +30,22 @@ use Rattle.gl_waiting.specs.declared.resting.Number.TheVariants as number
 use Rattle.gl_waiting.specs.declared.resting.Whom.{Whom}
 use Rattle.gl_waiting.specs.declared.resting.Whom.TheVariants as whom
 use Rattle.gl_waiting.specs.declared.set_off.SetOff.{SetOff}
+
+-- there is a lock, and it is an intention
+abbrev pub is_intention : Option LockRow → Bool
+is_intention (Some x) = same_mode x.mode IS || same_mode x.mode IX
+is_intention None = false
+
+-- the lock at this place of a transaction's list
+abbrev pub lock_in : ManagerView → TxnId → ℕ → Option LockRow
+lock_in m t place = if lives (state_of m) t then slice_get (rows_of m.table t.slot) place else None
+
+-- this many of a transaction's first locks are intentions, at most `most`: if it is known of the first `known` of them, all are, and the next one is none
+pub record FirstIntentions (m : ManagerView) (t : TxnId) (known most count : ℕ) : Type 0 where
+  pub low : min known most ≤ count
+  pub high : count ≤ most
+  pub all : (k : ℕ) → known ≤ k → k < count → is_intention (lock_in m t k) ≡ true
+  pub next : count < most → is_intention (lock_in m t count) ≡ false
 
 -- the slots of those who rest, and of those whose waits may be for one of them
 pub record RestingView : Type 0 where

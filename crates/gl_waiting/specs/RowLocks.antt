@@ -4,13 +4,18 @@ use denote.Bor.{Bor}
 use Rattle.gl_slots.specs.declared.slots.Slots.{Slots}
 use Rattle.gl_modes.specs.declared.mode.Mode.{Mode}
 use Rattle.gl_modes.specs.declared.node.NodeId.{NodeId}
+use Rattle.gl_modes.specs.declared.refusal.Refusal.{Refusal}
+use Rattle.gl_modes.specs.declared.refusal.Refusal.TheVariants as no
 use Rattle.gl_model.specs.declared.answers.Locked.{Locked}
 use Rattle.gl_model.specs.declared.answers.Locked.TheVariants as locked
 use Rattle.gl_model.specs.declared.txn.TxnId.{TxnId}
+use Rattle.gl_model.specs.State.{State}
 use Rattle.gl_model.specs.Tellings.{Told}
+use Rattle.gl_catalog.specs.Paths.{intention}
 use Rattle.gl_rows.specs.declared.answer.RowAnswer.{RowAnswer}
 use Rattle.gl_rows.specs.declared.answer.RowLocked.{RowLocked}
 use Rattle.gl_rows.specs.declared.answer.RowRefusal.{RowRefusal}
+use Rattle.gl_rows.specs.declared.answer.RowRefusal.TheVariants as row_no
 use Rattle.gl_rows.specs.declared.call.RowCall.{RowCall}
 use Rattle.gl_rows.specs.declared.call.RowCall.TheVariants as call
 use Rattle.gl_rows.specs.declared.row.Row.{Row}
@@ -19,7 +24,10 @@ use Rattle.gl_rows.specs.Applying.{AppliesCall, CarriesOut, answer_in, own_comma
 use Rattle.gl_rows.specs.Locking.{Wish}
 use Rattle.gl_waiting.specs.Delivering.{Carries, DeliveryView, registry_in}
 use Rattle.gl_waiting.specs.Keys.{keys_in}
+use Rattle.gl_waiting.specs.Waiters.{waits_as}
 use Rattle.gl_waiting.specs.declared.keys.RowKeys.{RowKeys}
+use Rattle.gl_waiting.specs.declared.waiter.Came.{Came}
+use Rattle.gl_waiting.specs.declared.waiter.Came.TheVariants as came
 use Rattle.gl_waiting.specs.declared.waiter.Outcome.{Outcome}
 use Rattle.gl_waiting.specs.declared.waiter.Outcome.TheVariants as end
 
@@ -68,3 +76,24 @@ after_grant at granted None = end.OtherKeys at granted
 -- the same, by the lock that was requested again
 abbrev pub again_as : NodeId → Mode → Result RowLocked RowRefusal → Outcome
 again_as at granted result = after_grant at granted (granted_own result)
+
+-- the outcome of a request for a row that was granted by this node in this mode, by whether the node has the keys of the request
+abbrev pub granted_row : NodeId → Mode → Bool → Outcome
+granted_row node mode own_keys = if own_keys then end.RowGranted node mode else end.OtherKeys node mode
+
+-- what a row with what must be held above it came to, by the lock of its node
+abbrev pub row_came_as : State → TxnId → NodeId → Bool → Locked → Came
+row_came_as s t node own_keys (locked.Granted mode) = came.Ended (granted_row node mode own_keys)
+row_came_as s t node own_keys locked.Victim = came.Ended (end.Victim node)
+row_came_as s t node own_keys locked.Waiting = waits_as s t
+
+-- the same of a row that was refused: a node that it lacks above is requested next, by the intention for this mode
+abbrev pub row_lacks : Mode → Refusal → Came
+row_lacks mode (no.NeedParents parent) = came.Lacks parent (intention mode)
+row_lacks mode r = came.Ended (end.Refused r)
+
+-- the same of a row's lock
+abbrev pub row_came_of : State → TxnId → Mode → Result RowLocked RowRefusal → Came
+row_came_of s t mode (Ok x) = row_came_as s t x.node x.own_keys x.locked
+row_came_of s t mode (Err (row_no.Refused r)) = row_lacks mode r
+row_came_of s t mode (Err row_no.NotRows) = came.Ended end.NotRows

@@ -56,6 +56,7 @@ is_granted_so (end.Victim at) = false
 is_granted_so (end.Moved at) = false
 is_granted_so (end.Gone at) = false
 is_granted_so (end.Refused r) = false
+is_granted_so end.NotRows = false
 is_granted_so (end.TimedOut at) = false
 
 -- a path has more to lock: it was granted a node above its own, or the node has other parents now
@@ -73,12 +74,19 @@ abbrev pub next_of_row : Row → RowKeys → Mode → NodeId → Result Grant St
 next_of_row row keys mode at (Ok grant) = next.LockAgain row keys mode grant.mode
 next_of_row row keys mode at (Err x) = next.End (outcome_of at (Err x))
 
+-- what comes after a wait for a row or for a node above it: the row is locked if the node was granted, or has other parents or keys now
+abbrev pub next_of_row_path : Row → RowKeys → Mode → NodeId → Result Grant Stop → Next
+next_of_row_path row keys mode at (Ok grant) = next.LockRow row keys mode
+next_of_row_path row keys mode at (Err stop.Moved) = next.LockRow row keys mode
+next_of_row_path row keys mode at (Err x) = next.End (outcome_of at (Err x))
+
 -- what comes after a wait for this node: a path that has more to lock goes on, a row that was granted is locked again, and any other request ends
 abbrev pub next_after : Request → Bool → NodeId → Result Grant Stop → Next
 next_after (request.Node node mode) instant at verdict = closing instant (outcome_of at verdict)
 next_after (request.Path node mode) instant at verdict =
     if has_more node at verdict then next.GoOn node mode else closing instant (outcome_of at verdict)
 next_after (request.Row row keys mode) instant at verdict = next_of_row row keys mode at verdict
+next_after (request.RowPath row keys mode) instant at verdict = next_of_row_path row keys mode at verdict
 
 -- the same of a waiter
 abbrev pub next_of : Waiter → Result Grant Stop → Next
@@ -88,6 +96,11 @@ next_of w verdict = next_after w.request w.instant w.at verdict
 abbrev pub granted_to : Waiter → Mode → Result Grant Stop
 granted_to w mode = Ok (record { txn = w.txn; node = w.at; mode = mode })
 
+-- what a waiter goes on with: by its grant, if it was granted its node; else it requests that
+abbrev pub goes_on_with : Waiter → Option Mode → Next
+goes_on_with w (Some mode) = next_of w (granted_to w mode)
+goes_on_with w None = next.GoOn w.at w.wanted
+
 -- what a waiter does next by what became of its wait; `None` if it waits on
 abbrev pub by_verdict : Waiter → Option (Result Grant Stop) → Option (Waiter × Next)
 by_verdict w (Some verdict) = Some (w, next_of w verdict)
@@ -96,19 +109,19 @@ by_verdict w None = None
 -- what the waiter of a slot does next; `None` if it waits on, or the slot has none
 abbrev pub next_in : State → List Slot → Place → Option (Waiter × Next)
 next_in s boxes (place.Waits w) = by_verdict w (verdict_of s boxes w.txn w.at w.wanted)
-next_in s boxes (place.Holds w mode) = Some (w, next_of w (granted_to w mode))
+next_in s boxes (place.GoesOn w granted) = Some (w, goes_on_with w granted)
 next_in s boxes place.Empty = None
 
 -- the waiter of a slot
 abbrev pub waiter_in : Place → Option Waiter
 waiter_in (place.Waits w) = Some w
-waiter_in (place.Holds w mode) = Some w
+waiter_in (place.GoesOn w granted) = Some w
 waiter_in place.Empty = None
 
 -- if the slot has a waiter, that waits for its node
 abbrev pub WaitsStill : State → Place → Type 0
 WaitsStill s (place.Waits w) = waits_on s w.txn w.at ≡ true
-WaitsStill s (place.Holds w mode) = ⊥
+WaitsStill s (place.GoesOn w granted) = ⊥
 WaitsStill s place.Empty = Unit {0}
 
 -- each waiter has the slot of its transaction, and waits for its node unless its slot is due
@@ -130,7 +143,7 @@ abbrev pub holds_or_ends : Bool → NodeId → Mode → Came
 holds_or_ends true at mode = came.Ended (end.Granted mode)
 holds_or_ends false at mode = came.Holds at mode
 
--- what a path to a node came to, by its last lock, that of a node of it
+-- what a request for this node with what must be held above it came to, by its last lock, that of a node of it
 abbrev pub came_as : State → TxnId → NodeId → Bool → NodeId → Locked → Came
 came_as s t node instant at (locked.Granted mode) = holds_or_ends (same_node at node && not instant) at mode
 came_as s t node instant at locked.Victim = came.Ended (end.Victim at)
@@ -145,13 +158,15 @@ came_of s t node instant (Err r) = came.Ended (end.Refused r)
 abbrev pub place_of : Waiter → Came → Place
 place_of w (came.Ended outcome) = place.Empty
 place_of w (came.Waits at wanted) = place.Waits (record w { at = at; wanted = wanted })
-place_of w (came.Holds at mode) = place.Holds (record w { at = at }) mode
+place_of w (came.Holds at mode) = place.GoesOn (record w { at = at }) (Some mode)
+place_of w (came.Lacks at wanted) = place.GoesOn (record w { at = at; wanted = wanted }) None
 
--- a request holds a node of its path, and goes on with the next call
-abbrev pub is_held : Came → Bool
-is_held (came.Holds at mode) = true
-is_held (came.Waits at wanted) = false
-is_held (came.Ended outcome) = false
+-- a request holds a node of its path, or lacks one, and goes on with the next call
+abbrev pub goes_on : Came → Bool
+goes_on (came.Holds at mode) = true
+goes_on (came.Lacks at wanted) = true
+goes_on (came.Waits at wanted) = false
+goes_on (came.Ended outcome) = false
 
 -- the transaction has a waiter
 abbrev pub HasWaiter : List Place → TxnId → Waiter → Type 0
@@ -187,3 +202,4 @@ abbrev pub node_in : Request → NodeId
 node_in (request.Node node mode) = node
 node_in (request.Path node mode) = node
 node_in (request.Row row keys mode) = no_node
+node_in (request.RowPath row keys mode) = no_node

@@ -53,7 +53,7 @@ impl Places {
     pub(crate) fn has_waiter(&self, slot: Slot) -> bool
         ensures { result ≡ is_some (waiter_in (place_at self.now slot)) }
     {
-        matches!(self.at(slot), Some(Place::Waits(_) | Place::Holds(_, _)))
+        matches!(self.at(slot), Some(Place::Waits(_) | Place::GoesOn(_, _)))
     }
 
     /// What belongs to a place in the list.

@@ -7,8 +7,8 @@ ghost use Rattle.gl_modes.specs.Modes.{are_compatible};
 ghost use Rattle.gl_model.specs.State.{age_of, is_wait, lives, status_of, waits_for};
 ghost use Rattle.gl_catalog.specs.Manager.{IsLawfulManager, state_of};
 ghost use Rattle.gl_waiting.specs.Asking.{InTurn, KeepsLocks};
-ghost use Rattle.gl_waiting.specs.Resting.{ChoosesSome, Commits, EndsSome, IsChosen, IsQuiet, KeepsRest, LetsRest, NoneIsChosen, RestOn, Rouses};
-ghost use Rattle.gl_waiting.specs.Resting.{RestsWell, acting_in, has_begun, is_counted, slot_if};
+ghost use Rattle.gl_waiting.specs.Resting.{ChoosesSome, Commits, EndsSome, FirstIntentions, IsChosen, IsQuiet, KeepsRest, LetsRest};
+ghost use Rattle.gl_waiting.specs.Resting.{NoneIsChosen, RestOn, RestsWell, Rouses, acting_in, has_begun, is_counted, is_intention, slot_if};
 ghost use Rattle.gl_waiting.specs.declared.resting.Number.TheVariants.{One as one};
 ghost use Rattle.gl_waiting.specs.declared.resting.Whom.TheVariants.{InTheWay as in_the_way};
 
@@ -18,7 +18,7 @@ use gl_catalog::{Command, Manager};
 use gl_modes::{Mode, NodeId, Refusal, compatible};
 use gl_rows::{RowAnswer, RowCall};
 use gl_slots::{Slot, Slots};
-use gl_table::{Status, Told, TxnId};
+use gl_table::{LockRow, Status, Told, TxnId};
 use std::marker::Model;
 
 /// Whom of those who rest to end.
@@ -379,6 +379,28 @@ fn age(manager: &Manager, slot: Slot) -> u64
     ensures { result ≡ age_of (state_of manager.now) slot }
 {
     manager.living(slot).map_or(0, |(txn, _)| txn.age)
+}
+
+/// How many of the first locks of a transaction are intentions, up to so many. The caller knows that the first `known` are.
+pub fn first_intentions(manager: &Manager, txn: TxnId, known: usize, most: usize) -> usize
+    ensures { FirstIntentions manager.now txn known most result }
+{
+    for place in known..most {
+        if !is_intention(manager.lock_at(txn, place)) {
+            return place;
+        }
+    }
+    most
+}
+
+/// Whether there is a lock, and it is an intention.
+fn is_intention(lock: Option<LockRow>) -> bool
+    ensures { result ≡ is_intention lock }
+{
+    match lock {
+        Some(lock) => matches!(lock.mode, Mode::IS | Mode::IX),
+        None => false,
+    }
 }
 
 /// The slot of the transaction that a command names. One that is settled is not named: it has done nothing.

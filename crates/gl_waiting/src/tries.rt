@@ -78,8 +78,8 @@ pub(crate) fn go_down(mode: Mode, above: &mut Above)
     }
 }
 
-/// The intention that a mode wants on parents.
-fn intention(mode: Mode) -> Mode
+/// The intention that a mode wants on parents: `IX` to write, `IS` to read.
+pub fn intention(mode: Mode) -> Mode
     ensures { result ≡ intention mode }
 {
     if covers(mode, Mode::IX) {

@@ -3,11 +3,13 @@
 ghost use Rattle.std.specs.Prelude.{◌≡◌};
 ghost use Rattle.gl_waiting.specs.Waiters.{
   closing,
+  goes_on,
+  goes_on_with,
   granted_to,
   has_more,
   is_granted_so,
-  is_held,
   next_of,
+  next_of_row_path,
   node_in,
   outcome_of,
   place_of,
@@ -31,6 +33,8 @@ pub enum Request {
     Path { node: NodeId, mode: Mode },
     /// A mode on a row that has these keys, with what must be held above it held already.
     Row { row: Row, keys: RowKeys, mode: Mode },
+    /// A mode on a row that has these keys, with what must be held above it.
+    RowPath { row: Row, keys: RowKeys, mode: Mode },
 }
 
 impl Request {
@@ -40,7 +44,7 @@ impl Request {
     {
         match self {
             Request::Node { node, .. } | Request::Path { node, .. } => *node,
-            Request::Row { .. } => NodeId::NONE,
+            Request::Row { .. } | Request::RowPath { .. } => NodeId::NONE,
         }
     }
 }
@@ -77,6 +81,8 @@ pub enum Outcome {
     Gone(NodeId),
     /// The request was refused, or its wait was cancelled (`NotWaiting`) or aborted (`NoSuchTxn`).
     Refused(Refusal),
+    /// The file of the row is no file of rows.
+    NotRows,
     /// The time of the wait for this node is over.
     TimedOut(NodeId),
 }
@@ -99,14 +105,16 @@ pub enum Came {
     /// It holds this node, in this mode, and goes on with the next call: with the rest of its path, or to give back its
     /// lock for an instant.
     Holds { at: NodeId, mode: Mode },
+    /// It lacks this node above its own, in this mode, and requests it with the next call.
+    Lacks { at: NodeId, wanted: Mode },
 }
 
 impl Came {
-    /// Whether it holds a node, and goes on.
-    pub(crate) fn is_held(&self) -> bool
-        ensures { result ≡ is_held self.now }
+    /// Whether it goes on with the next call.
+    pub(crate) fn goes_on(&self) -> bool
+        ensures { result ≡ goes_on self.now }
     {
-        matches!(self, Came::Holds { .. })
+        matches!(self, Came::Holds { .. } | Came::Lacks { .. })
     }
 }
 
@@ -116,8 +124,9 @@ pub enum Place {
     Empty,
     /// A waiter whose wait may be over.
     Waits(Waiter),
-    /// A waiter that was granted the node for which it waited, in this mode.
-    Holds(Waiter, Mode),
+    /// A waiter that goes on with the next call: it was granted the node for which it waited, in this mode; or, if there is
+    /// none, it has yet to request its node.
+    GoesOn(Waiter, Option<Mode>),
 }
 
 /// What comes after a wait.
@@ -127,7 +136,8 @@ pub enum Next {
     End(Outcome),
     /// The lock was for an instant: it is released, and the request has ended.
     GiveBack(Outcome),
-    /// The rest of a path is to be locked, up to this node in this mode.
+    /// The rest of a path is to be locked, up to this node in this mode; or a node above a row, with what must be held
+    /// above it.
     GoOn {
         node: NodeId,
         mode: Mode,
@@ -139,6 +149,12 @@ pub enum Next {
         mode: Mode,
         granted: Mode,
     },
+    /// A row is to be locked that has these keys.
+    LockRow {
+        row: Row,
+        keys: RowKeys,
+        mode: Mode,
+    },
 }
 
 impl Waiter {
@@ -149,7 +165,8 @@ impl Waiter {
         match came {
             Came::Ended(_) => Place::Empty,
             Came::Waits { at, wanted } => Place::Waits(self.at(at, wanted)),
-            Came::Holds { at, mode } => Place::Holds(self.at(at, self.wanted), mode),
+            Came::Holds { at, mode } => Place::GoesOn(self.at(at, self.wanted), Some(mode)),
+            Came::Lacks { at, wanted } => Place::GoesOn(self.at(at, wanted), None),
         }
     }
 
@@ -183,12 +200,28 @@ impl Waiter {
                 granted: grant.mode,
             },
             (Request::Row { .. }, Err(_)) => Next::End(outcome_of(self.at, verdict)),
+            (Request::RowPath { row, keys, mode }, _) => {
+                next_of_row_path(*row, *keys, *mode, self.at, verdict)
+            }
             _ => closing(self.instant, outcome_of(self.at, verdict)),
         }
     }
 
+    /// What it goes on with, if it was granted its node in this mode; else it requests that first.
+    pub(crate) fn go_on(&self, granted: Option<Mode>) -> Next
+        ensures { result ≡ goes_on_with self.now granted }
+    {
+        match granted {
+            Some(mode) => self.next(self.granted(mode)),
+            None => Next::GoOn {
+                node: self.at,
+                mode: self.wanted,
+            },
+        }
+    }
+
     /// That it was granted the node for which it waited, in this mode.
-    pub(crate) fn granted(&self, mode: Mode) -> Result<Grant, Stop>
+    fn granted(&self, mode: Mode) -> Result<Grant, Stop>
         ensures { result ≡ granted_to self.now mode }
     {
         Ok(Grant {
@@ -196,6 +229,23 @@ impl Waiter {
             node: self.at,
             mode,
         })
+    }
+}
+
+/// What comes after a wait for a node of a row's path, or for the row itself: the row is locked, if the node was granted
+/// or has other parents or keys now.
+fn next_of_row_path(
+    row: Row,
+    keys: RowKeys,
+    mode: Mode,
+    at: NodeId,
+    verdict: Result<Grant, Stop>,
+) -> Next
+    ensures { result ≡ next_of_row_path row keys mode at verdict }
+{
+    match verdict {
+        Ok(_) | Err(Stop::Moved) => Next::LockRow { row, keys, mode },
+        Err(_) => Next::End(outcome_of(at, verdict)),
     }
 }
 
@@ -240,7 +290,7 @@ impl Place {
         ensures { result ≡ waiter_in self.now }
     {
         match self {
-            Place::Waits(waiter) | Place::Holds(waiter, _) => Some(*waiter),
+            Place::Waits(waiter) | Place::GoesOn(waiter, _) => Some(*waiter),
             Place::Empty => None,
         }
     }

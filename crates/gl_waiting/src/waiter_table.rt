@@ -3,10 +3,10 @@
 ghost use Rattle.gl_slots.specs.Limit.{most_slots};
 ghost use Rattle.std.specs.Prelude.{◌≡◌, ◌==◌, ◌&&◌, ◌||◌, ℕ, [], drop, not, replicate, slice_get};
 ghost use Rattle.gl_slots.specs.Slots.{has_slot};
-ghost use Rattle.gl_waiting.specs.Waiters.{is_held};
+ghost use Rattle.gl_waiting.specs.Waiters.{goes_on};
 ghost use Rattle.gl_catalog.specs.Manager.{IsLawfulManager, state_of};
 ghost use Rattle.gl_rows.specs.Rows.{name_of};
-ghost use Rattle.gl_waiting.specs.Asking.{Awaits, Begins, BeginsInTurn, BeginsNext, GoesOn, HandsOnAfter, HandsOnIf, IsInTurn, KeepsLocks, LocksPath};
+ghost use Rattle.gl_waiting.specs.Asking.{Awaits, Begins, BeginsInTurn, BeginsNext, Climbs, GoesOn, HandsOnAfter, HandsOnIf, IsInTurn, KeepsLocks, LocksPath};
 ghost use Rattle.gl_waiting.specs.Asking.{RollsBackTo, Serves, ServesRow, TimesOut, TriesRowThere, TriesThere, WithdrawsWaiter, is_done};
 ghost use Rattle.gl_waiting.specs.Begins.{earliest_of, has_word, is_late, without_first};
 ghost use Rattle.std.specs.List.{find, list_any};
@@ -26,7 +26,7 @@ use crate::waiters::continue_by;
 use gl_catalog::{Answer, Command, Manager, Reached};
 use gl_modes::{Mode, NodeId, Refusal};
 use gl_rows::{Row, RowAnswer, RowCall};
-use gl_slots::{Slot, Slots};
+use gl_slots::{SLOTS, Slot, Slots};
 use gl_table::{Told, TxnId};
 use gl_wakes::{Grant, Stop};
 use std::alloc::Global;
@@ -240,6 +240,22 @@ impl WaiterTable {
         }
     }
 
+    /// Registers the waiter of a request that lacks this node above its own: it requests it with the next `go_on`. `false`
+    /// if the slot of its transaction has a waiter already, or there is no such slot.
+    pub(crate) fn climb(&mut self, waiter: Waiter) -> bool
+        ensures climbs { Climbs self.old waiter result self.new }
+        ensures rest { self.new ≡ record self.old { places = self.new.places } }
+    {
+        let slot = waiter.txn.slot;
+        if slot as usize >= SLOTS || self.places.has_waiter(slot) {
+            return false;
+        }
+        self.delivery.law();
+        self.due.insert(slot);
+        self.places.put(slot, Place::GoesOn(waiter, None));
+        true
+    }
+
     /// Removes the waiter of a transaction, whose wait goes on; whether it had one.
     pub(crate) fn withdraw_waiter(&mut self, txn: TxnId) -> bool
         ensures { WithdrawsWaiter self.old txn result self.new }
@@ -292,9 +308,7 @@ impl WaiterTable {
                 let verdict = self.delivery.verdict(waiter.txn, waiter.at, waiter.wanted)?;
                 Some((*waiter, waiter.next(verdict)))
             }
-            Some(Place::Holds(waiter, mode)) => {
-                Some((*waiter, waiter.next(waiter.granted(*mode))))
-            }
+            Some(Place::GoesOn(waiter, granted)) => Some((*waiter, waiter.go_on(*granted))),
             Some(Place::Empty) | None => None,
         }
     }
@@ -451,10 +465,10 @@ impl WaiterTable {
 
 /// The slots that are due after the waiter of this one came to this, and the waits of these slots ended.
 fn due_after(due: Slots, slot: Slot, came: Came, ended: Slots) -> Slots
-    ensures { (u : ℕ) → has_slot result u ≡ (has_slot due u && not (u == slot && not (is_held came)) || has_slot ended u) }
+    ensures { (u : ℕ) → has_slot result u ≡ (has_slot due u && not (u == slot && not (goes_on came)) || has_slot ended u) }
 {
     let mut left = due;
-    if !came.is_held() {
+    if !came.goes_on() {
         left.remove(slot);
     }
     left.union(ended)

@@ -6,11 +6,12 @@ ghost use Rattle.gl_modes.specs.declared.mode.Mode.{Mode as AMode};
 ghost use Rattle.gl_modes.specs.declared.node.NodeId.{NodeId as ANode};
 ghost use Rattle.gl_steps.specs.Promises.{waits_on};
 ghost use Rattle.gl_waiting.specs.Ends.{CallWith, Continues, Unlocks};
-ghost use Rattle.gl_waiting.specs.RowLocks.{again_as};
+ghost use Rattle.gl_waiting.specs.RowLocks.{again_as, granted_row, row_came_as, row_came_of};
 ghost use Rattle.gl_waiting.specs.Waiters.{came_of, holds_or_ends, waits_as};
 ghost use Rattle.gl_waiting.specs.declared.waiter.Came.TheVariants.{Waits as waits};
 
 use crate::delivery::Delivery;
+use crate::tries::intention;
 use crate::waiter::{Came, Next, Outcome, Waiter};
 use gl_catalog::{Command, Manager, Reached};
 use gl_modes::{Mode, NodeId, Refusal};
@@ -42,10 +43,15 @@ pub(crate) fn continue_by(
             let came = came_of(
                 delivery.manager(),
                 waiter.txn,
-                node,
+                waiter.request.node(),
                 waiter.instant,
                 reached,
             );
+            (came, ended)
+        }
+        Next::LockRow { row, keys, mode } => {
+            let (outcome, ended) = delivery.lock_row(waiter.txn, row, keys.as_slice(), mode, told);
+            let came = row_came_of(delivery.manager(), waiter.txn, mode, outcome);
             (came, ended)
         }
         Next::LockAgain {
@@ -70,7 +76,7 @@ fn unlock(delivery: &mut Delivery, txn: TxnId, node: NodeId, told: &mut Told) ->
     ended
 }
 
-/// What a path to a node came to whose last lock came to this.
+/// What a request for this node with what must be held above it came to, whose last lock came to this.
 fn came_of(
     manager: &Manager,
     txn: TxnId,
@@ -98,6 +104,50 @@ fn holds_or_ends(is_end: bool, at: NodeId, mode: Mode) -> Came
         Came::Ended(Outcome::Granted(mode))
     } else {
         Came::Holds { at, mode }
+    }
+}
+
+/// What a row with what must be held above it came to, whose lock came to this: a node that it lacks above is requested
+/// next.
+fn row_came_of(
+    manager: &Manager,
+    txn: TxnId,
+    mode: Mode,
+    locked: Result<RowLocked, RowRefusal>,
+) -> Came
+    ensures { result ≡ row_came_of (state_of manager.now) txn mode locked }
+{
+    match locked {
+        Ok(row) => row_came_as(manager, txn, row),
+        Err(RowRefusal::Refused(Refusal::NeedParents { node })) => Came::Lacks {
+            at: node,
+            wanted: intention(mode),
+        },
+        Err(RowRefusal::Refused(refusal)) => Came::Ended(Outcome::Refused(refusal)),
+        Err(RowRefusal::NotRows) => Came::Ended(Outcome::NotRows),
+    }
+}
+
+/// The same of a row that was not refused.
+fn row_came_as(manager: &Manager, txn: TxnId, row: RowLocked) -> Came
+    ensures { result ≡ row_came_as (state_of manager.now) txn row.node row.own_keys row.locked }
+{
+    match row.locked {
+        Locked::Granted(mode) => Came::Ended(granted_row(row.node, mode, row.own_keys)),
+        Locked::Victim => Came::Ended(Outcome::Victim(row.node)),
+        Locked::Waiting => wait_of(manager, txn),
+    }
+}
+
+/// How a request for a row ends that was granted by this node in this mode, if the node has the keys of the request, or
+/// others.
+fn granted_row(node: NodeId, mode: Mode, own_keys: bool) -> Outcome
+    ensures { result ≡ granted_row node mode own_keys }
+{
+    if own_keys {
+        Outcome::RowGranted { node, mode }
+    } else {
+        Outcome::OtherKeys { node, mode }
     }
 }
 

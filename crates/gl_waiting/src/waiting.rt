@@ -5,7 +5,7 @@ ghost use Rattle.std.specs.Prelude.{◌≡◌, [], drop, replicate, slice_get};
 ghost use Rattle.std.specs.List.{find, list_any};
 ghost use Rattle.gl_catalog.specs.Manager.{IsLawfulManager, state_of};
 ghost use Rattle.gl_rows.specs.Rows.{name_of};
-ghost use Rattle.gl_waiting.specs.Asking.{Awaits, Begins, BeginsInTurn, GoesOn, InTurn, IsInTurn, KeepsLocks, LocksPath, RollsBackTo};
+ghost use Rattle.gl_waiting.specs.Asking.{Awaits, Begins, BeginsInTurn, Climbs, GoesOn, InTurn, IsInTurn, KeepsLocks, LocksPath, RollsBackTo};
 ghost use Rattle.gl_waiting.specs.Asking.{Serves, ServesRow, TimesOut, TriesRowThere, TriesThere, WithdrawsWaiter};
 ghost use Rattle.gl_waiting.specs.Begins.{earliest_of, has_word, is_late, without_first};
 ghost use Rattle.gl_waiting.specs.Ends.{HasNext, IsNext};
@@ -207,6 +207,15 @@ impl Waiting {
         ensures rest { self.new ≡ record self.old { places = self.new.places } }
     {
         self.table.await_request(waiter)
+    }
+
+    /// Registers the waiter of a request that lacks this node above its own: it requests it with the next `go_on`. `false`
+    /// if the slot of its transaction has a waiter already, or there is no such slot.
+    pub fn climb(&mut self, waiter: Waiter) -> bool
+        ensures climbs { Climbs self.old waiter result self.new }
+        ensures rest { self.new ≡ record self.old { places = self.new.places } }
+    {
+        self.table.climb(waiter)
     }
 
     /// Removes the waiter of a transaction, whose wait goes on; whether it had one.

@@ -18,12 +18,12 @@ impl Slots {
     /// The empty set.
     pub const NONE: Slots = Slots { words: [0; WORDS] };
 
-    /// The set of these words: bit `s % 64` of word `s / 64` stands for slot s.
+    /// The set of these words: bit `s % 64` of word `s / 64` is that of slot s.
     pub const fn from_words(words: [u64; WORDS]) -> Slots {
         Slots { words }
     }
 
-    /// Its words: bit `s % 64` of word `s / 64` stands for slot s.
+    /// Its words: bit `s % 64` of word `s / 64` is that of slot s.
     pub const fn words(self) -> [u64; WORDS] {
         self.words
     }

@@ -27,12 +27,13 @@
 //! # Threads
 //!
 //! Threads share a [`Table`]. Each begins a [`Session`], whose lock calls sleep until the lock is
-//! granted, and which is aborted if it is dropped without a commit. If there are more threads than slots
+//! granted, and which is aborted if it is dropped without a commit. One call locks a node or a row with all that
+//! must be held above it ([`Session::lock_path`], [`Session::lock_row_path`]). If there are more threads than slots
 //! they [begin in turn](Table::begin_in_turn). A thread keeps its intentions from one transaction to the next
 //! ([`Session::rest`]). A task of a runtime awaits its begin and its locks, and no thread sleeps
-//! ([`Table::begin_async`], [`Session::lock_async`]). A [`Watcher`] reads who waits for whom without the mutex. A table says how long waits last and
-//! where ([`Table::waits`], [`Table::awaited`], [`Table::metrics`]), and tells of long ones ([`Table::on_long_wait`]). What it
-//! does can be written as a script ([`Table::trace`]).
+//! ([`Table::begin_async`], [`Session::lock_async`]). A [`Watcher`] reads who waits for whom without the mutex. A
+//! table says how long waits last and where ([`Table::waits`], [`Table::awaited`], [`Table::metrics`]), and tells of
+//! long ones ([`Table::on_long_wait`]). What it does can be written as a script ([`Table::trace`]).
 //!
 //! ```
 //! use burlapslate::{Detect, Mode, Node, Stop, Table, SLOTS};
@@ -80,22 +81,21 @@
 //! [`rekey`](Manager::rekey), [`escalate`](Manager::escalate), of nodes and of rows. The others are
 //! refused with [`Refusal::NoMemory`] if the allocator refuses, and can be made again. Beside the library's
 //! memory a manager takes 40 bytes for each slot when it is made, for the notices, and a table 56, for the waits of
-//! futures; and none afterwards. But a list of tries takes some for the list, a begin of a future that waits for itself, a function of [`Table::on_long_wait`] for itself and
-//! its thread, and a try of a path that keeps nothing for
+//! futures; and none afterwards. But a list of tries takes some for the list, a begin of a future that waits for
+//! itself, a function of [`Table::on_long_wait`] for itself and its thread, and a try of a path that keeps nothing for
 //! the nodes that it acquires.
 //!
 //! With 1,024 slots, making a manager takes three megabytes of stack, and reading a board 0.7: more than a thread has by
 //! default ([`std::thread::Builder::stack_size`]).
-
 //!
 //! # The library
 //!
 //! The crate is linked with the library for C, of its own version. The build takes the archives that
 //! `BURLAPSLATE_LIBS` names; or else the folder of an installation that `BURLAPSLATE_DIR` names; or else the
-//! installation that `pkg-config` knows; or else, within the repository, what `tools/c_library.sh` builds. How many
-//! [`SLOTS`] there are says `BURLAPSLATE_SLOTS`; or else `include/burlapslate.h`, in the folder nearest above the
-//! archive that has it. If a program was built for another number or another version than its library's, it stops when
-//! it makes a manager or a board.
+//! installation that `pkg-config` knows; or else, within the repository, what `tools/c_library.sh` builds.
+//! `BURLAPSLATE_SLOTS` says how many [`SLOTS`] there are, or else `include/burlapslate.h`, in the folder nearest above
+//! the archive that has it. If a program was built for another number or another version than its library's, it
+//! stops when it makes a manager or a board.
 
 #![deny(missing_docs)]
 #![deny(unsafe_code)] // But for `sys`.

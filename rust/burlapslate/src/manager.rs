@@ -41,7 +41,7 @@ impl Asked {
 }
 
 /// What a request for a row's lock answers.
-#[must_use = "a row that is waited for is not held, and one with other keys lies elsewhere"]
+#[must_use = "a row that is waited for is not held, and one that is held may have other keys"]
 #[derive(Clone, Copy, PartialEq, Eq, Hash, Debug)]
 pub enum RowAsked {
     /// Granted: the transaction holds the row in this mode, and the keys of the call are those of the
@@ -371,7 +371,7 @@ impl Manager {
     /// let mut m = Manager::new(Detect::AtBlock, SLOTS)?;
     /// let shop = m.add_inner(&[])?;
     /// let first = m.begin()?;
-    /// m.abort(first)?; // It fell, say.
+    /// m.abort(first)?; // It was a victim, say.
     /// let other = m.begin()?;
     /// let again = m.begin_again(first.age())?;
     /// m.lock(other, shop, Mode::S)?;
@@ -809,7 +809,7 @@ impl Manager {
 ///
 /// [`unlock`](Manager::unlock) of the row's node lets no row go: the node then stays until the row is next
 /// let go. Each call is one command, and each node that it makes or removes is one more. Calls that end a
-/// transaction, an escalation and a cancel go over all rows that the transaction asked for: a look-up for
+/// transaction, an escalation and a cancel visit all rows that the transaction asked for: a look-up for
 /// each, and a step for each removed node.
 impl Manager {
     /// Locks a row by its node, which is answered too, as [`lock`](Manager::lock) locks a node. A row

@@ -12,7 +12,7 @@ use std::slice;
 pub enum Notice {
     /// Its lock is granted.
     Granted {
-        /// Who is told.
+        /// The transaction that is told.
         txn: Txn,
         /// The node for which it waited.
         node: Node,
@@ -21,24 +21,24 @@ pub enum Notice {
     },
     /// It was condemned to end a deadlock, and can only abort.
     Victim {
-        /// Who is told.
+        /// The transaction that is told.
         txn: Txn,
     },
     /// The node moved to where the transaction lacks the locks above it. Its wait is over; it may lock
     /// there and request the node again.
     Moved {
-        /// Who is told.
+        /// The transaction that is told.
         txn: Txn,
     },
     /// The node was removed: the wait is over, and there is nothing to request again.
     Gone {
-        /// Who is told.
+        /// The transaction that is told.
         txn: Txn,
     },
 }
 
 impl Notice {
-    /// Who is told.
+    /// The transaction that is told.
     pub fn txn(&self) -> Txn {
         match *self {
             Notice::Granted { txn, .. }

@@ -72,7 +72,7 @@ impl From<Refusal> for Stop {
 }
 
 /// How a session holds a row.
-#[must_use = "a row with other keys lies elsewhere than was said"]
+#[must_use = "the row may have other keys than the call's"]
 #[derive(Clone, Copy, PartialEq, Eq, Hash, Debug)]
 pub enum RowLocked {
     /// In this mode, and the keys of the call are those of the row's node.
@@ -114,7 +114,7 @@ pub(crate) fn ended(reply: &Reply) -> Ended {
 }
 
 /// What an accepted try answers.
-#[must_use = "a try that would block locked nothing"]
+#[must_use = "a try that would block does not hold what it tried"]
 #[derive(Clone, Copy, PartialEq, Eq, Hash, Debug)]
 pub enum Tried<T> {
     /// The node or row is held: how.
@@ -180,6 +180,17 @@ pub enum Try<'a> {
         /// Its mode.
         mode: Mode,
     },
+    /// As [`Session::try_lock_row_path`].
+    RowPath {
+        /// The row at the end of the path.
+        row: Row,
+        /// Its keys, one for each index of its file.
+        keys: &'a [u64],
+        /// Its mode.
+        mode: Mode,
+        /// What is kept if the try is passed over.
+        keep: Keep,
+    },
 }
 
 impl<'a> Try<'a> {
@@ -191,6 +202,12 @@ impl<'a> Try<'a> {
                 Command::try_path(txn, node, mode as u32, keep.as_number())
             }
             Try::Row { row, keys, mode } => Command::try_row(txn, row, keys, mode as u32),
+            Try::RowPath {
+                row,
+                keys,
+                mode,
+                keep,
+            } => Command::try_row_path(txn, row, keys, mode as u32, keep.as_number()),
         }
     }
 }
@@ -330,23 +347,16 @@ impl<'t> Session<'t> {
         time.into_iter().chain(self.deadline).min()
     }
 
-    /// Locks a node or a path, within the earlier of this time and its own.
+    /// Locks a row, within the earlier of this time and its own.
     #[inline(always)]
-    fn sought(&mut self, sought: Sought<'_>, time: Option<Instant>) -> Result<Mode, Stop> {
-        let locked = self.table.lock(self.txn, sought, self.until(time));
-        locked.map(RowLocked::mode)
+    fn sought_row(&mut self, sought: Sought<'_>, time: Option<Instant>) -> Result<RowLocked, Stop> {
+        self.table.lock(self.txn, sought, self.until(time))
     }
 
-    /// The same of a row.
-    fn sought_row(
-        &mut self,
-        row: Row,
-        keys: &[u64],
-        mode: Mode,
-        time: Option<Instant>,
-    ) -> Result<RowLocked, Stop> {
-        let sought = Sought::Row(row, keys, mode as u32);
-        self.table.lock(self.txn, sought, self.until(time))
+    /// The same of a node or a path, which has no keys.
+    #[inline(always)]
+    fn sought(&mut self, sought: Sought<'_>, time: Option<Instant>) -> Result<Mode, Stop> {
+        self.sought_row(sought, time).map(RowLocked::mode)
     }
 
     /// Locks what is requested, for a task.
@@ -462,7 +472,8 @@ impl<'t> Session<'t> {
     /// the call is refused with [`NeedParents`](Refusal::NeedParents), and [`lock_path`](Session::lock_path)
     /// locks that parent. That may sleep, and the keys may differ after it. After each grant the engine
     /// reads the row's keys again; if they differ from the call's, it unlocks the row and starts again.
-    /// The end of the session lets its rows go.
+    /// The end of the session lets its rows go. [`lock_row_path`](Session::lock_row_path) locks what is above the
+    /// row too.
     ///
     /// ```
     /// # use burlapslate::{Detect, Mode, Row, RowLocked, Table, SLOTS};
@@ -478,7 +489,7 @@ impl<'t> Session<'t> {
     /// # Ok::<(), burlapslate::Refusal>(())
     /// ```
     pub fn lock_row(&mut self, row: Row, keys: &[u64], mode: Mode) -> Result<RowLocked, Stop> {
-        self.sought_row(row, keys, mode, None)
+        self.sought_row(Sought::row(row, keys, mode), None)
     }
 
     /// As [`lock_row`](Session::lock_row), but after this time the wait is cancelled and answered with
@@ -490,7 +501,7 @@ impl<'t> Session<'t> {
         mode: Mode,
         time: Duration,
     ) -> Result<RowLocked, Stop> {
-        self.sought_row(row, keys, mode, deadline(time))
+        self.sought_row(Sought::row(row, keys, mode), deadline(time))
     }
 
     /// As [`lock_row_timeout`](Session::lock_row_timeout), with the time at which the wait is cancelled.
@@ -501,7 +512,61 @@ impl<'t> Session<'t> {
         mode: Mode,
         until: Instant,
     ) -> Result<RowLocked, Stop> {
-        self.sought_row(row, keys, mode, Some(until))
+        self.sought_row(Sought::row(row, keys, mode), Some(until))
+    }
+
+    /// As [`lock_row`](Session::lock_row), with what must be held above the row: to write, [`IX`](Mode::IX) on
+    /// the file and on the interval of each key; to read, [`IS`](Mode::IS) on the file, unless one of these is
+    /// held already. Each is locked as by [`lock_path`](Session::lock_path), and the call waits for each in turn.
+    /// If another transaction changes the row's keys meanwhile, the call continues with the new keys. So the
+    /// answer is never [`NeedParents`](Refusal::NeedParents) or [`Stop::Moved`].
+    ///
+    /// After [`RowLocked::OtherKeys`] the transaction holds the row, and the engine reads its keys again.
+    ///
+    /// Otherwise the call ends at the first lock that is refused or not granted; the locks acquired before that
+    /// stay. [`Stop::Gone`]: the row, or the node above it for which the call waited, was deleted or dropped.
+    /// Refused with [`NotRows`](Refusal::NotRows) also if the file was dropped meanwhile.
+    ///
+    /// ```
+    /// # use burlapslate::{Detect, Mode, Row, RowLocked, Stop, Table, SLOTS};
+    /// # let table = Table::new(Detect::AtBlock, SLOTS)?;
+    /// # let db = table.add_inner(&[])?;
+    /// let file = table.add_row_file(&[db])?;
+    /// let days = table.add_index(&[db], file, &[100, 200])?;
+    /// let day = table.with(|m| m.interval_of(days, 150))?;
+    /// let mut session = table.begin()?;
+    /// let row = Row { file, number: 7 };
+    /// assert_eq!(session.lock_row_path(row, &[150], Mode::X)?, RowLocked::Own(Mode::X));
+    /// for node in [db, file, days, day] {
+    ///     assert_eq!(table.with(|m| m.held(session.txn(), node)), Ok(Mode::IX));
+    /// }
+    /// # Ok::<(), Stop>(())
+    /// ```
+    pub fn lock_row_path(&mut self, row: Row, keys: &[u64], mode: Mode) -> Result<RowLocked, Stop> {
+        self.sought_row(Sought::row_path(row, keys, mode), None)
+    }
+
+    /// As [`lock_row_path`](Session::lock_row_path), but after this time the wait is cancelled and answered with
+    /// [`Stop::TimedOut`]. The row is let go then, and what was locked above it stays.
+    pub fn lock_row_path_timeout(
+        &mut self,
+        row: Row,
+        keys: &[u64],
+        mode: Mode,
+        time: Duration,
+    ) -> Result<RowLocked, Stop> {
+        self.sought_row(Sought::row_path(row, keys, mode), deadline(time))
+    }
+
+    /// As [`lock_row_path_timeout`](Session::lock_row_path_timeout), with the time at which the wait is cancelled.
+    pub fn lock_row_path_until(
+        &mut self,
+        row: Row,
+        keys: &[u64],
+        mode: Mode,
+        until: Instant,
+    ) -> Result<RowLocked, Stop> {
+        self.sought_row(Sought::row_path(row, keys, mode), Some(until))
     }
 
     /// As [`lock`](Session::lock), for a task: no thread sleeps while the lock waits, and the task is woken
@@ -569,7 +634,20 @@ impl<'t> Session<'t> {
         keys: &[u64],
         mode: Mode,
     ) -> Result<RowLocked, Stop> {
-        self.locking(Sought::Row(row, keys, mode as u32)).await
+        self.locking(Sought::row(row, keys, mode)).await
+    }
+
+    /// As [`lock_row_path`](Session::lock_row_path), for a task, as [`lock_async`](Session::lock_async). The call
+    /// that grants a lock on the way requests the next one, and the task is woken at the end of the path. If the
+    /// future is dropped, the locks acquired before stay; after the last grant the row is held too, and its keys
+    /// were not looked at.
+    pub async fn lock_row_path_async(
+        &mut self,
+        row: Row,
+        keys: &[u64],
+        mode: Mode,
+    ) -> Result<RowLocked, Stop> {
+        self.locking(Sought::row_path(row, keys, mode)).await
     }
 
     /// Locks a node with what must be held above it, as [`lock_path`](Session::lock_path) does, but each
@@ -627,6 +705,40 @@ impl<'t> Session<'t> {
         mode: Mode,
     ) -> Result<Tried<RowLocked>, Refusal> {
         let reply = shared::try_row(&self.call(), self.txn, row, keys, mode as u32);
+        Tried::of(&reply)
+    }
+
+    /// As [`lock_row_path`](Session::lock_row_path), but each lock by a try, in one critical section: the call
+    /// never sleeps, joins no queue and makes nobody a victim. It answers how the row is held then, or the node,
+    /// the row's or one above it, for which the transaction would have to wait.
+    ///
+    /// Refused as [`try_lock_row`](Session::try_lock_row), but never with [`NeedParents`](Refusal::NeedParents).
+    /// If the call fails after some of the locks, `keep` says what becomes of these, as in
+    /// [`try_lock_path`](Session::try_lock_path).
+    ///
+    /// ```
+    /// # use burlapslate::{Detect, Keep, Mode, Row, RowLocked, Table, Tried, SLOTS};
+    /// # let table = Table::new(Detect::AtBlock, SLOTS)?;
+    /// # let db = table.add_inner(&[])?;
+    /// # let file = table.add_row_file(&[db])?;
+    /// let row = Row { file, number: 7 };
+    /// let (mut first, mut second) = (table.begin()?, table.begin()?);
+    /// let tried = first.try_lock_row_path(row, &[], Mode::X, Keep::Nothing)?;
+    /// assert_eq!(tried, Tried::Locked(RowLocked::Own(Mode::X)));
+    /// let tried = second.try_lock_row_path(row, &[], Mode::S, Keep::Nothing)?;
+    /// assert_eq!(Some(tried), table.row_node(row).map(Tried::WouldBlock));
+    /// assert_eq!(table.with(|m| m.held(second.txn(), file)), Ok(Mode::NL));
+    /// # Ok::<(), burlapslate::Refusal>(())
+    /// ```
+    pub fn try_lock_row_path(
+        &mut self,
+        row: Row,
+        keys: &[u64],
+        mode: Mode,
+        keep: Keep,
+    ) -> Result<Tried<RowLocked>, Refusal> {
+        let (mode, keep) = (mode as u32, keep.as_number());
+        let reply = shared::try_row_path(&self.call(), self.txn, row, keys, mode, keep);
         Tried::of(&reply)
     }
 
@@ -735,6 +847,25 @@ impl<'t> Session<'t> {
     /// As [`Manager::insert`](crate::Manager::insert).
     pub fn insert(&mut self, file: Node, keys: &[u64]) -> Result<Node, Refusal> {
         node_of(shared::insert(&self.call(), self.txn, file, keys))
+    }
+
+    /// As [`insert`](Session::insert), with what must be held above the record: [`IX`](Mode::IX) on the file and on
+    /// the interval of each key, each by a try, in one critical section. Under an index that the transaction holds in
+    /// [`X`](Mode::X) nothing is to be locked before. The call never sleeps: it answers the record, or the node above
+    /// it for which the transaction would have to wait. Never refused with [`NeedParents`](Refusal::NeedParents). If
+    /// the call fails after some of the locks, `keep` says what becomes of these, as in
+    /// [`try_lock_path`](Session::try_lock_path).
+    pub fn insert_path(
+        &mut self,
+        file: Node,
+        keys: &[u64],
+        keep: Keep,
+    ) -> Result<Tried<Node>, Refusal> {
+        let reply = shared::insert_path(&self.call(), self.txn, file, keys, keep.as_number());
+        Ok(match Tried::of(&reply)? {
+            Tried::Locked(_) => Tried::Locked(reply.node),
+            Tried::WouldBlock(node) => Tried::WouldBlock(node),
+        })
     }
 
     /// As [`Manager::delete`](crate::Manager::delete). Threads that sleep for the record are woken.

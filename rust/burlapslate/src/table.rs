@@ -18,8 +18,8 @@ pub(crate) use asks::{Locking, Sought};
 use begins::Beginning;
 pub use running::{Awaited, AwaitedNode, Blocker, Histogram, LongWait, Told, WaitEnd, Waits};
 
-/// A table of granular locks that threads share: a [`Manager`] behind one mutex, its latch, with a
-/// condition for each slot. It is a `bs_table` of the library.
+/// A table of granular locks that threads share: a [`Manager`] with one mutex, its latch, and a condition
+/// for each slot. It is a `bs_table` of the library.
 ///
 /// A thread begins a [`Session`], whose calls sleep while their locks wait. Each command that ends a wait
 /// wakes the thread or task that waits.
@@ -318,9 +318,8 @@ impl Table {
     }
 
     /// Cancels the wait of a transaction, from any thread. The thread or task that waits is woken and
-    /// answered [`Stop::Cancelled`]. A row that only this transaction waited for is let go. If a lock on the
-    /// way of a thread's path was granted and the thread is not awake yet, that path ends and is answered so
-    /// too.
+    /// answered [`Stop::Cancelled`]. A row that only this transaction waited for is let go. A path ends at the
+    /// lock for which it waits; the locks acquired before that stay.
     ///
     /// Refused as [`Manager::cancel`].
     pub fn cancel(&self, txn: Txn) -> Result<(), Refusal> {

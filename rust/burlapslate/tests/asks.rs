@@ -1,6 +1,8 @@
 //! Waits of tasks, by a small executor: how they end, tasks that are dropped while they wait and at the moment
 //! of their grant, and a crowd of tasks beside threads that sleep.
 
+mod tasks;
+
 use burlapslate::{Detect, Mode, Node, Refusal, Row, RowLocked, Session, Stop, Table, Txn, SLOTS};
 use std::cell::Cell;
 use std::future::Future;
@@ -9,59 +11,13 @@ use std::sync::atomic::{AtomicBool, AtomicUsize, Ordering};
 use std::sync::mpsc::{channel, Sender};
 use std::sync::{Arc, Barrier, Mutex};
 use std::task::{Context, Poll, RawWaker, RawWakerVTable, Wake, Waker};
-use std::thread::{self, Thread};
+use std::thread;
 use std::time::{Duration, Instant};
+use tasks::{block_on, poll, Bell, PATIENCE};
 
 const RUNS: usize = 1000;
 const KEY: [u64; 1] = [50];
 const OTHER_KEY: [u64; 1] = [200];
-
-/// A waker that counts, and calls the table: so the latch is free where it is woken.
-struct Bell {
-    table: Arc<Table>,
-    rung: AtomicUsize,
-}
-
-impl Wake for Bell {
-    fn wake(self: Arc<Bell>) {
-        self.table.with(|_| ());
-        self.rung.fetch_add(1, Ordering::SeqCst);
-    }
-}
-
-impl Bell {
-    fn rung(&self) -> usize {
-        self.rung.load(Ordering::SeqCst)
-    }
-}
-
-/// The table calls itself where a waker is dropped too.
-impl Drop for Bell {
-    fn drop(&mut self) {
-        self.table.with(|_| ());
-    }
-}
-
-/// Wakes a thread that runs one future.
-struct Unpark(Thread);
-
-impl Wake for Unpark {
-    fn wake(self: Arc<Unpark>) {
-        self.0.unpark();
-    }
-}
-
-fn block_on<T>(future: impl Future<Output = T>) -> T {
-    let waker = Waker::from(Arc::new(Unpark(thread::current())));
-    let mut context = Context::from_waker(&waker);
-    let mut future = pin!(future);
-    loop {
-        match future.as_mut().poll(&mut context) {
-            Poll::Ready(end) => return end,
-            Poll::Pending => thread::park(),
-        }
-    }
-}
 
 /// A file with an index of two intervals, parted at 100, and a record in the first; and a file of rows with
 /// one as well.
@@ -119,11 +75,7 @@ impl Store {
     }
 
     fn bell(&self) -> (Arc<Bell>, Waker) {
-        let bell = Arc::new(Bell {
-            table: Arc::clone(&self.table),
-            rung: AtomicUsize::new(0),
-        });
-        (Arc::clone(&bell), Waker::from(bell))
+        Bell::new(&self.table)
     }
 
     fn held(&self, txn: Txn, node: Node) -> Mode {
@@ -133,10 +85,6 @@ impl Store {
     fn waits_for(&self, txn: Txn) -> Option<Node> {
         self.table.with(|m| m.waiting(txn)).map(|wait| wait.node)
     }
-}
-
-fn poll<F: Future>(future: &mut Pin<&mut F>, waker: &Waker) -> Poll<F::Output> {
-    future.as_mut().poll(&mut Context::from_waker(waker))
 }
 
 /// Two hold these, and the second asks for X on the root; so it waits, and then this is done.
@@ -252,7 +200,7 @@ fn a_watch_condemns_a_task() {
             let mut victim = pin!(younger.lock_async(store.root, Mode::X));
             assert_eq!(poll(&mut victim, &waker), Poll::Pending);
             scope.spawn(|| table.watch_over(Duration::from_secs(60)).unwrap());
-            let limit = Instant::now() + Duration::from_secs(20);
+            let limit = Instant::now() + PATIENCE;
             while bell.rung() == 0 && Instant::now() < limit {
                 thread::yield_now();
             }
@@ -691,9 +639,7 @@ fn run(futures: Vec<Pin<Box<dyn Future<Output = ()> + Send>>>) {
         ready.send(job).unwrap();
     }
     while left > 0 {
-        let job = jobs
-            .recv_timeout(Duration::from_secs(20))
-            .expect("it hangs");
+        let job = jobs.recv_timeout(PATIENCE).expect("it hangs");
         let waker = Waker::from(Arc::clone(&job));
         let mut future = job.future.lock().unwrap();
         let is_done = future.as_mut().is_some_and(|future| {

@@ -1,76 +1,21 @@
 //! Begins of tasks that wait for a slot: their turns, futures that are dropped while they wait and after their turn,
 //! and tasks beside threads that sleep for slots.
 
+mod tasks;
+
 use burlapslate::{Detect, Mode, Refusal, Session, Stop, Table};
 use std::future::Future;
 use std::pin::{pin, Pin};
 use std::sync::atomic::{AtomicUsize, Ordering};
 use std::sync::{Arc, Mutex};
-use std::task::{Context, Poll, Wake, Waker};
-use std::thread::{self, Thread};
+use std::task::{Poll, Wake, Waker};
+use std::thread;
+use tasks::{block_on, poll, quiet, Bell};
 
 const RUNS: usize = 300;
 
-/// A waker that counts, and calls the table: so the latch is free where it is woken and where it is dropped.
-struct Bell {
-    table: Arc<Table>,
-    rung: AtomicUsize,
-}
-
-impl Wake for Bell {
-    fn wake(self: Arc<Bell>) {
-        self.table.with(|_| ());
-        self.rung.fetch_add(1, Ordering::SeqCst);
-    }
-}
-
-impl Bell {
-    fn new(table: &Arc<Table>) -> (Arc<Bell>, Waker) {
-        let bell = Arc::new(Bell {
-            table: Arc::clone(table),
-            rung: AtomicUsize::new(0),
-        });
-        (Arc::clone(&bell), Waker::from(bell))
-    }
-
-    fn rung(&self) -> usize {
-        self.rung.load(Ordering::SeqCst)
-    }
-}
-
-impl Drop for Bell {
-    fn drop(&mut self) {
-        self.table.with(|_| ());
-    }
-}
-
-/// Wakes a thread that runs one future.
-struct Unpark(Thread);
-
-impl Wake for Unpark {
-    fn wake(self: Arc<Unpark>) {
-        self.0.unpark();
-    }
-}
-
-fn block_on<T>(future: impl Future<Output = T>) -> T {
-    let waker = Waker::from(Arc::new(Unpark(thread::current())));
-    let mut context = Context::from_waker(&waker);
-    let mut future = pin!(future);
-    loop {
-        match future.as_mut().poll(&mut context) {
-            Poll::Ready(end) => return end,
-            Poll::Pending => thread::park(),
-        }
-    }
-}
-
 fn of_slots(most: usize) -> Arc<Table> {
     Arc::new(Table::new(Detect::AtBlock, most).unwrap())
-}
-
-fn poll<F: Future + ?Sized>(future: &mut Pin<&mut F>, waker: &Waker) -> Poll<F::Output> {
-    future.as_mut().poll(&mut Context::from_waker(waker))
 }
 
 /// What a future that was woken has begun.
@@ -222,8 +167,7 @@ fn a_future_is_dropped_by_a_holder() {
     let holder = table.begin().unwrap();
     let mut dropped = Box::pin(table.begin_async());
     assert!(poll(&mut dropped.as_mut(), &waker).is_pending());
-    let quiet = Waker::from(Arc::new(Unpark(thread::current())));
-    assert!(poll(&mut dropped.as_mut(), &quiet).is_pending());
+    assert!(poll(&mut dropped.as_mut(), &quiet()).is_pending());
     table.with(|_| drop(dropped));
     assert!(table.metrics().contains("burlapslate_begins_waiting 1\n"));
     holder.commit().unwrap();
@@ -312,11 +256,10 @@ fn the_last_waker_is_woken() {
 #[test]
 fn a_future_is_leaked() {
     let table = Table::new(Detect::AtBlock, 1).unwrap();
-    let waker = Waker::from(Arc::new(Unpark(thread::current())));
     let holder = table.begin().unwrap();
     for _ in 0..2 {
         let mut future = Box::pin(table.begin_async());
-        assert!(poll(&mut future.as_mut(), &waker).is_pending());
+        assert!(poll(&mut future.as_mut(), &quiet()).is_pending());
         std::mem::forget(future);
     }
     holder.commit().unwrap();
@@ -327,10 +270,9 @@ fn a_future_is_leaked() {
 #[test]
 fn a_holder_of_the_table_is_refused() {
     let table = of_slots(1);
-    let waker = Waker::from(Arc::new(Unpark(thread::current())));
     table.with(|_| {
         let mut future = pin!(table.begin_async());
-        let refused = poll(&mut future, &waker).map(|begun| begun.map(drop));
+        let refused = poll(&mut future, &quiet()).map(|begun| begun.map(drop));
         assert_eq!(refused, Poll::Ready(Err(Refusal::InUse)));
     });
 }

@@ -7,6 +7,7 @@
 #![cfg(all(target_os = "linux", target_env = "gnu"))]
 
 mod common;
+mod tasks;
 
 use burlapslate::{
     Detect, Keep, Manager, Mode, Node, Notice, Refusal, Row, RowAsked, RowLocked, Session, Stop,
@@ -18,19 +19,10 @@ use std::ffi::c_void;
 use std::future::Future;
 use std::mem::forget;
 use std::ptr::null_mut;
-use std::sync::Arc;
-use std::task::{Context, Poll, Wake, Waker};
+use std::task::{Context, Poll};
 use std::thread;
 use std::time::{Duration, Instant};
-
-/// How long a test waits for what is to come.
-const PATIENCE: Duration = Duration::from_secs(20);
-
-struct Nobody;
-
-impl Wake for Nobody {
-    fn wake(self: Arc<Nobody>) {}
-}
+use tasks::{quiet, PATIENCE};
 
 /// Which allocations of a thread are refused.
 #[derive(Clone, Copy, PartialEq, Debug)]
@@ -344,7 +336,7 @@ fn a_settle_takes_none() {
 /// A task of this session asks for X on the root, and is left waiting. Whether an allocation was refused then, which is that
 /// of the board alone; a board that takes the memory of an older one needs none.
 fn wait_unshown(session: &mut Session<'_>, root: Node) -> bool {
-    let waker = Waker::from(Arc::new(Nobody));
+    let waker = quiet();
     let mut context = Context::from_waker(&waker);
     let mut n = 0;
     loop {
@@ -489,6 +481,32 @@ fn a_path_that_is_tried_gives_back() {
         assert_eq!((tried, locks), (Err(Refusal::NoMemory), 0));
         let tried = session.try_lock_path(last, Mode::X, Keep::Nothing);
         assert_eq!(tried, Ok(Tried::Locked(Mode::X)));
+    }
+}
+
+/// The same of a row, with what must be held above it.
+#[test]
+fn a_row_path_that_is_tried_gives_back() {
+    for n in 1.. {
+        let table = Table::new(Detect::AtBlock, SLOTS).unwrap();
+        let root = table.add_inner(&[]).unwrap();
+        let file = table.add_row_file(&[root]).unwrap();
+        table.add_index(&[root], file, &[100]).unwrap();
+        let row = Row { file, number: 7 };
+        let mut session = table.begin().unwrap();
+        let held = Ok(Tried::Locked(RowLocked::Own(Mode::X)));
+        let (tried, _) = refusing(Refused::From(n), || {
+            session.try_lock_row_path(row, &[50], Mode::X, Keep::Nothing)
+        });
+        let locks = table.with(|m| m.locks(session.txn()).count());
+        if tried == held {
+            assert_eq!(locks, 5);
+            assert!(n > 2);
+            return;
+        }
+        assert_eq!((tried, locks), (Err(Refusal::NoMemory), 0));
+        let tried = session.try_lock_row_path(row, &[50], Mode::X, Keep::Nothing);
+        assert_eq!(tried, held);
     }
 }
 

@@ -10,6 +10,7 @@ use std::sync::{Arc, Barrier, Mutex};
 use std::task::{Context, Poll, Waker};
 use std::thread;
 use std::time::{Duration, Instant};
+use waiters::tasks::block_on;
 use waiters::*;
 
 // ------------------------------------------------------------------------------------------------------------------
@@ -107,7 +108,7 @@ fn a_waker_grants_the_caller() {
             let until = (place % 2 == 0).then(|| Instant::now() + PATIENCE);
             let (scene, ask, end) = answer(call, act, false, until);
             assert_eq!(end, Ok(RowLocked::Own(Mode::X)), "{ask:?}");
-            let node = if ask.call == OfRow {
+            let node = if ask.call.is_of_row() {
                 scene.store.row_node()
             } else {
                 ask.node
@@ -167,16 +168,19 @@ fn a_waker_ends_the_callers_wait() {
             scene.keep(holder);
         })
     };
-    is_ended(rekeys, Stop::Moved, |call| {
-        matches!(call, Path | PathInstant)
-    });
+    is_ended(rekeys, Stop::Moved, continues);
     let deletes: Act = |scene, mut holder| {
         Box::pin(async move {
             holder.delete(scene.store.low).unwrap();
             scene.keep(holder);
         })
     };
-    is_ended(deletes, Stop::Gone, |call| call == OfRow);
+    is_ended(deletes, Stop::Gone, Call::is_of_row);
+}
+
+/// Whether the call continues after a move, with what must be held above its node by then.
+fn continues(call: Call) -> bool {
+    matches!(call, Path | PathInstant | OfRowPath)
 }
 
 /// A path begins anew, and a wait that still meets the rule of the graph continues: the row is asked for again then, by
@@ -198,12 +202,13 @@ fn a_waker_moves_what_the_caller_waits_for() {
         })
     };
     for call in CALLS {
-        let is_wide = !matches!(call.0, Path | PathInstant);
-        let (scene, ask, end) = answer(call, act, is_wide, None);
-        let Store { low, above, .. } = scene.store;
-        let (node, wanted) = match ask.call {
-            OfRow => (scene.store.row_node(), RowLocked::OtherKeys(Mode::X)),
-            _ => (low, RowLocked::Own(Mode::X)),
+        let (scene, ask, end) = answer(call, act, !continues(call.0), None);
+        let store = &scene.store;
+        let (node, above, wanted) = if ask.call.is_of_row() {
+            let other = RowLocked::OtherKeys(Mode::X);
+            (store.row_node(), store.rows_above, other)
+        } else {
+            (store.low, store.above, RowLocked::Own(Mode::X))
         };
         assert_eq!(end, Ok(wanted), "{ask:?}");
         let held = if ask.is_instant() { Mode::NL } else { Mode::X };
@@ -575,7 +580,11 @@ fn goer(call: Call, has_second: bool) -> Goer {
     });
     assert_eq!(store.waits_for(name), Some(start));
     others.push(store.waits(keeper, goers_node, Mode::X, bell()));
-    let target = if call == OfRow { store.row_node() } else { n };
+    let target = if call.is_of_row() {
+        store.row_node()
+    } else {
+        n
+    };
     let second = has_second.then(|| store.waits(second, target, Mode::X, bell()));
     Goer {
         store,
@@ -619,7 +628,7 @@ impl Goer {
     }
 }
 
-const TARGETS: [(Call, bool, Mode); 9] = [
+const TARGETS: [(Call, bool, Mode); 10] = [
     (Lock, false, Mode::S),
     (ForAnInstant, false, Mode::S),
     (ForAnInstant, false, Mode::IX),
@@ -629,6 +638,7 @@ const TARGETS: [(Call, bool, Mode); 9] = [
     (PathInstant, true, Mode::X),
     (Path, true, Mode::S),
     (OfRow, false, Mode::S),
+    (OfRowPath, false, Mode::S),
 ];
 
 #[test]
@@ -643,7 +653,7 @@ fn a_path_that_continues_grants_the_caller() {
             let end = ask.make(&mut scene.caller, None);
             assert_eq!(end, Ok(RowLocked::Own(ask.mode)), "{ask:?}");
             scene.has_continued();
-            let node = if ask.call == OfRow {
+            let node = if ask.call.is_of_row() {
                 scene.store.row_node()
             } else {
                 ask.node
@@ -682,11 +692,11 @@ fn a_path_that_continues_makes_the_caller_a_victim() {
 /// A row that is granted so is asked for again there, and its keys may be others than was said.
 #[test]
 fn a_row_is_asked_for_again_in_its_call() {
-    for is_task in [false, true] {
-        let mut scene = goer(OfRow, true);
-        let ask = scene.ask((OfRow, false, Mode::S), is_task, HIGH_KEY);
+    for (call, is_task) in CALLS.into_iter().filter(|(call, _)| call.is_of_row()) {
+        let mut scene = goer(call, true);
+        let ask = scene.ask((call, false, Mode::S), is_task, HIGH_KEY);
         let end = ask.make(&mut scene.caller, None);
-        assert_eq!(end, Ok(RowLocked::OtherKeys(Mode::S)));
+        assert_eq!(end, Ok(RowLocked::OtherKeys(Mode::S)), "{ask:?}");
         scene.has_continued();
         let held = scene.store.held(scene.caller.txn(), scene.store.row_node());
         assert_eq!(held, Mode::S);

@@ -1,4 +1,4 @@
-//! For whoever runs a table: times of waits, nodes that were waited for, long waits and deadlocks that are told, metrics.
+//! For operators of a table: times of waits, nodes that were waited for, long waits and deadlocks that are told, metrics.
 
 use burlapslate::{
     Awaited, Blocker, Detect, Histogram, LongWait, Mode, Node, Refusal, Stop, Table, Told, Txn,

@@ -1,12 +1,14 @@
 //! Savepoints: what was locked since goes, and what was had by then stays. And locks for an instant.
 
+mod tasks;
+
 use burlapslate::{Detect, Manager, Mode, Node, Notice, Refusal, Row, Session, Stop, Table, SLOTS};
 use std::future::Future;
 use std::pin::pin;
-use std::sync::Arc;
-use std::task::{Context, Poll, Wake, Waker};
+use std::task::{Context, Poll};
 use std::thread;
 use std::time::Duration;
+use tasks::quiet;
 
 /// A root with two files.
 struct Store {
@@ -173,16 +175,10 @@ fn the_next_lock_stays() {
     assert_eq!(store.held(&session, store.root), Mode::X);
 }
 
-struct Nobody;
-
-impl Wake for Nobody {
-    fn wake(self: Arc<Nobody>) {}
-}
-
 #[test]
 fn a_task_asks_for_an_instant() {
     let store = &Store::new();
-    let waker = Waker::from(Arc::new(Nobody));
+    let waker = quiet();
     let mut context = Context::from_waker(&waker);
     let (mut holder, mut session) = (store.begin(), store.begin());
     let txn = session.txn();

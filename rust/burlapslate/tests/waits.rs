@@ -11,6 +11,7 @@ use std::sync::{Arc, Mutex};
 use std::task::{Context, Poll, Waker};
 use std::thread;
 use std::time::{Duration, Instant};
+use waiters::tasks::block_on;
 use waiters::*;
 
 // ------------------------------------------------------------------------------------------------------------------
@@ -23,7 +24,7 @@ fn left(until: Instant) -> Duration {
 }
 
 /// The calls that sleep no longer than to a time.
-const TIMED: [Timed; 6] = [
+const TIMED: [Timed; 8] = [
     |session, s, until| {
         let end = session.lock_until(s.low, Mode::X, until);
         end.map(RowLocked::Own)
@@ -42,6 +43,8 @@ const TIMED: [Timed; 6] = [
     },
     |session, s, until| session.lock_row_until(s.row, &LOW_KEY, Mode::X, until),
     |session, s, until| session.lock_row_timeout(s.row, &LOW_KEY, Mode::X, left(until)),
+    |session, s, until| session.lock_row_path_until(s.row, &LOW_KEY, Mode::X, until),
+    |session, s, until| session.lock_row_path_timeout(s.row, &LOW_KEY, Mode::X, left(until)),
 ];
 
 /// A session that holds the record and the row in X.
@@ -382,7 +385,7 @@ fn an_instant_of_before_is_nothing_to_a_wait() {
         let store = Store::new(Detect::AtBlock);
         let (mut holder, mut waiter) = (store.writer(true), store.writer(true));
         let mut node = store.low;
-        if call == OfRow {
+        if call.is_of_row() {
             let locked = holder.lock_row(store.row, &LOW_KEY, Mode::X);
             assert_eq!(locked, Ok(RowLocked::Own(Mode::X)));
             node = store.row_node();

@@ -31,8 +31,12 @@ fn cannot_sleep(table: &Table, session: &mut Session<'_>, store: &Store) {
     assert_eq!(session.lock_path(node, Mode::S), refused);
     let timed = session.lock_timeout(node, Mode::S, Duration::ZERO);
     assert_eq!(timed, refused);
-    let row = session.lock_row(store.row, &LOW_KEY, Mode::S);
-    assert_eq!(row.map(|_| Mode::S), refused);
+    for row in [
+        session.lock_row(store.row, &LOW_KEY, Mode::S),
+        session.lock_row_path(store.row, &LOW_KEY, Mode::S),
+    ] {
+        assert_eq!(row.map(|_| Mode::S), refused);
+    }
     assert_eq!(table.begin_in_turn().unwrap_err(), Refusal::InUse);
     let begun = table.begin_timeout(Duration::ZERO);
     assert_eq!(begun.map(drop), Err(Stop::Refused(Refusal::InUse)));

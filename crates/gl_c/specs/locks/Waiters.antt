@@ -4,7 +4,8 @@ use Rattle.gl_modes.specs.declared.mode.Mode.{Mode}
 use Rattle.gl_model.specs.declared.answers.Locked.TheVariants as locked
 use Rattle.gl_model.specs.declared.txn.TxnId.{TxnId}
 use Rattle.gl_steps.specs.declared.command.Answer.TheVariants as answer
-use Rattle.gl_waiting.specs.Asking.{Awaits, GoesOn, InTurn, TimesOut, WithdrawsWaiter}
+use Rattle.gl_catalog.specs.Paths.{intention}
+use Rattle.gl_waiting.specs.Asking.{Awaits, Climbs, GoesOn, InTurn, TimesOut, WithdrawsWaiter}
 use Rattle.gl_waiting.specs.Ends.{HasNext, IsNext}
 use Rattle.gl_waiting.specs.Resting.{Rouses}
 use Rattle.gl_waiting.specs.Waiters.{earliest_until, first_late, node_in}
@@ -27,7 +28,7 @@ use Rattle.gl_c.specs.locks.Paths.{reply_at}
 use Rattle.gl_c.specs.locks.Rows.{row_lock_status}
 use Rattle.gl_c.specs.locks.Turns.{found_reply}
 use Rattle.gl_c.specs.Names.{node_id, row_at, txn_id, txn_of}
-use Rattle.gl_c.specs.Numbers.{done, given_at, gone, in_use, mode_number, moved, no_manager, no_place, on_the_way, timed_out, victim, waiting}
+use Rattle.gl_c.specs.Numbers.{done, given_at, gone, in_use, mode_number, moved, no_manager, no_place, not_rows, on_the_way, timed_out, victim, waiting}
 
 -- C says of a flag that it is set
 abbrev pub is_set : ℕ → Bool
@@ -66,6 +67,21 @@ row_waiter t file number keys mode at until = record {
   until = given_at until;
 }
 
+-- the waiter of a row, which waits for this node of it, with what must be held above it
+abbrev pub row_path_waiter : Txn → Node → ℕ → RowKeys → Mode → Node → ℕ → Waiter
+row_path_waiter t file number keys mode at until = record {
+  txn = txn_id t;
+  request = request.RowPath (row_at file number) keys mode;
+  instant = false;
+  at = node_id at;
+  wanted = mode;
+  until = given_at until;
+}
+
+-- the same for a row that lacks this node above it
+abbrev pub row_climber : Txn → Node → ℕ → RowKeys → Mode → Node → ℕ → Waiter
+row_climber t file number keys mode parent until = record (row_path_waiter t file number keys mode parent until) { wanted = intention mode }
+
 -- the reply for the end of a wait; if it was not granted, with the node for which it waited
 abbrev pub outcome_reply : Outcome → Reply
 outcome_reply (end.Granted m) = reply_of (answer.Granted m)
@@ -75,13 +91,15 @@ outcome_reply (end.Victim n) = reply_at n (status_reply victim)
 outcome_reply (end.Moved n) = reply_at n (status_reply moved)
 outcome_reply (end.Gone n) = reply_at n (status_reply gone)
 outcome_reply (end.Refused r) = refused_reply r
+outcome_reply end.NotRows = status_reply not_rows
 outcome_reply (end.TimedOut n) = reply_at n (status_reply timed_out)
 
--- the reply for what a request came to: it has ended; it waits for this node in this mode; or it holds this node, and goes on
+-- the reply for what a request came to: it has ended; it waits for this node in this mode; or it holds or lacks this node, and goes on
 abbrev pub came_reply : Came → Reply
 came_reply (came.Ended outcome) = outcome_reply outcome
 came_reply (came.Waits at wanted) = reply_at at (record (status_reply waiting) { mode = mode_number wanted })
 came_reply (came.Holds at m) = reply_at at (record (status_reply on_the_way) { mode = mode_number m })
+came_reply (came.Lacks at wanted) = reply_at at (record (status_reply on_the_way) { mode = mode_number wanted })
 
 -- the reply to who awaits a request: it waits, or its wait is over, or its slot has a waiter already
 abbrev pub awaited_reply : Option Came → Reply
@@ -99,6 +117,18 @@ pub record AwaitsThere (g : GuardedView) (w : Waiter) (r : Reply) (g' : GuardedV
 abbrev pub AwaitsIn : Option GuardedView → Waiter → Reply → Option GuardedView → Type 0
 AwaitsIn None w r s' = Declines None no_manager r s'
 AwaitsIn (Some g) w r s' = (g' : GuardedView) × (s' ≡ Some g') × AwaitsThere g w r g'
+
+-- the waiter of a request is registered that lacks a node above its own
+pub record ClimbsThere (g : GuardedView) (w : Waiter) (r : Reply) (g' : GuardedView) : Type 0 where
+  pub registered : Bool
+  pub climbs : Climbs (waiting_in g) w registered (waiting_in g')
+  pub rest : g' ≡ record g { places = g'.places }
+  pub replied : r ≡ found_reply registered
+
+-- the same, if there is a manager
+abbrev pub ClimbsIn : Option GuardedView → Waiter → Reply → Option GuardedView → Type 0
+ClimbsIn None w r s' = Declines None no_manager r s'
+ClimbsIn (Some g) w r s' = (g' : GuardedView) × (s' ≡ Some g') × ClimbsThere g w r g'
 
 -- the waiter of a transaction is removed
 pub record WithdrawsThere (g : GuardedView) (t : TxnId) (r : Reply) (g' : GuardedView) : Type 0 where
@@ -151,6 +181,7 @@ next_by w (next.End outcome) = count_reply 0
 next_by w (next.GiveBack outcome) = reply_at (node_in w.request) (count_reply 1)
 next_by w (next.GoOn n m) = reply_at n (record (count_reply 2) { mode = mode_number m })
 next_by w (next.LockAgain row keys m granted) = reply_at w.at (record (count_reply 3) { mode = mode_number m })
+next_by w (next.LockRow row keys m) = reply_at w.at (record (count_reply 4) { mode = mode_number m })
 
 -- the same with its transaction; nobody goes on if no wait is over
 abbrev pub next_reply : Option (Waiter × Next) → Reply

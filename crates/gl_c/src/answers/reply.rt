@@ -2,7 +2,7 @@
 
 ghost use Rattle.std.specs.Prelude.{◌≡◌};
 ghost use Rattle.gl_steps.specs.declared.command.Answer.TheVariants as answer;
-ghost use Rattle.gl_c.specs.locks.Resting.{ended_reply};
+ghost use Rattle.gl_c.specs.locks.Resting.{ended_reply, resting_reply};
 ghost use Rattle.gl_c.specs.locks.Paths.{path_reply, reached_reply, reply_at};
 ghost use Rattle.gl_c.specs.answers.Replies.{count_reply, refused_at, refused_reply, reply_of, served_reply, status_reply};
 ghost use Rattle.gl_c.specs.locks.Rows.{call_reply, row_lock_status};
@@ -173,6 +173,19 @@ impl Reply {
         }
     }
 
+    /// The same of one that rests, with the number of locks that it keeps.
+    pub(crate) fn of_resting(next: Result<Option<TxnId>, Refusal>, keep: usize) -> Reply
+        ensures { result ≡ resting_reply keep next }
+    {
+        match next {
+            Ok(Some(txn)) => Reply {
+                count: keep as u64,
+                ..Reply::of(Answer::Begun(txn))
+            },
+            _ => Reply::of_keeping(next),
+        }
+    }
+
     /// The reply for a call about rows; if it is a lock that is not refused, with the row's node.
     /// Inlined for the same reason.
     #[inline(always)]
@@ -292,6 +305,7 @@ impl Reply {
             Outcome::Moved(node) => Reply::about(MOVED, node),
             Outcome::Gone(node) => Reply::about(GONE, node),
             Outcome::Refused(refusal) => Reply::refused(refusal),
+            Outcome::NotRows => Reply::with_status(NOT_ROWS),
             Outcome::TimedOut(node) => Reply::about(TIMED_OUT, node),
         }
     }
@@ -308,6 +322,10 @@ impl Reply {
             },
             Came::Holds { at, mode } => Reply {
                 mode: mode_number(mode),
+                ..Reply::about(ON_THE_WAY, at)
+            },
+            Came::Lacks { at, wanted } => Reply {
+                mode: mode_number(wanted),
                 ..Reply::about(ON_THE_WAY, at)
             },
         }
@@ -357,6 +375,7 @@ impl Reply {
             Next::GiveBack(_) => Reply::with_count(1).at(waiter.request.node()),
             Next::GoOn { node, mode } => Reply::in_mode(2, mode).at(node),
             Next::LockAgain { mode, .. } => Reply::in_mode(3, mode).at(waiter.at),
+            Next::LockRow { mode, .. } => Reply::in_mode(4, mode).at(waiter.at),
         }
     }
 

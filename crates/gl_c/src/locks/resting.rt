@@ -8,7 +8,7 @@ ghost use Rattle.gl_waiting.specs.declared.resting.Number.TheVariants as number;
 ghost use Rattle.gl_waiting.specs.declared.resting.Whom.TheVariants as whom;
 ghost use Rattle.gl_c.specs.answers.Notices.{Tells};
 ghost use Rattle.gl_c.specs.Numbers.{bad_number, mode_at};
-ghost use Rattle.gl_c.specs.locks.Resting.{FindsResting, WakesIn, end_call, number_of_ends, resting_call};
+ghost use Rattle.gl_c.specs.locks.Resting.{CountsIntentionsIn, FindsResting, RestsIn, WakesIn, end_call, number_of_ends};
 ghost use Rattle.gl_c.specs.managers.Carries.{Carries, Declines, Where};
 ghost use Rattle.gl_c.specs.managers.Handle.{guarded_in};
 ghost use Rattle.gl_c.specs.Names.{node_id, txn_id};
@@ -21,18 +21,34 @@ use crate::names::{Node, Txn};
 use crate::numbers::{BAD_NUMBER, mode_at};
 use gl_waiting::{Number, Whom};
 
-/// As `bs_call_commit_keeping`; the transaction that begins rests.
+/// As `bs_call_commit_keeping`, of the first locks that are intentions, up to `most`, of which the caller knows
+/// that the first `known` are; the transaction that begins rests. The reply has the number of locks that it
+/// keeps. `BS_NO_PLACE` if the first lock is no intention: then nothing changes.
 #[unsafe(no_mangle)]
 pub extern "C" fn bs_call_commit_and_rest(
     manager: &mut Handle,
     txn: Txn,
-    keep: usize,
+    known: usize,
+    most: usize,
     since: u64,
     told: &mut Notices,
 ) -> Reply
-    ensures { Carries (guarded_in manager.old) (resting_call (txn_id txn) keep since) result told.new (guarded_in manager.new) }
+    ensures { RestsIn (guarded_in manager.old) (txn_id txn) known most since result told.new (guarded_in manager.new) }
 {
-    manager.commit_and_rest(txn.id(), keep, since, told)
+    manager.commit_and_rest(txn.id(), known, most, since, told)
+}
+
+/// How many locks that keeps, in `count`.
+#[unsafe(no_mangle)]
+pub extern "C" fn bs_call_first_intentions(
+    manager: &mut Handle,
+    txn: Txn,
+    known: usize,
+    most: usize,
+) -> Reply
+    ensures { CountsIntentionsIn (guarded_in manager.old) (txn_id txn) known most result (guarded_in manager.new) }
+{
+    manager.first_intentions(txn.id(), known, most)
 }
 
 /// How many of those who rest to end.

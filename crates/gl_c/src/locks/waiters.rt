@@ -8,7 +8,8 @@ ghost use Rattle.gl_waiting.specs.Keys.{keys_in};
 ghost use Rattle.gl_waiting.specs.declared.keys.RowKeys.{RowKeys as AKeys};
 ghost use Rattle.gl_c.specs.Names.{txn_id};
 ghost use Rattle.gl_c.specs.Numbers.{bad_number, mode_at};
-ghost use Rattle.gl_c.specs.locks.Waiters.{AwaitsIn, FindsTime, FindsWaitLate, NextIn, WithdrawsIn, late_call, node_waiter, on_call, path_waiter, row_waiter};
+ghost use Rattle.gl_c.specs.locks.Waiters.{AwaitsIn, ClimbsIn, FindsTime, FindsWaitLate, NextIn, WithdrawsIn};
+ghost use Rattle.gl_c.specs.locks.Waiters.{late_call, node_waiter, on_call, path_waiter, row_climber, row_path_waiter, row_waiter};
 ghost use Rattle.gl_c.specs.managers.Carries.{Carries, Declines, Where};
 ghost use Rattle.gl_c.specs.managers.Handle.{guarded_in};
 
@@ -18,7 +19,7 @@ use crate::managers::handle::Handle;
 use crate::names::{Node, Txn};
 use crate::numbers::{BAD_NUMBER, given_at, mode_at};
 use gl_modes::MOST_PARENTS;
-use gl_waiting::{Request, RowKeys, Waiter};
+use gl_waiting::{Request, RowKeys, Waiter, intention};
 
 /// Registers the waiter of a lock that waits. `instant` is not zero if it is for an instant: then it is
 /// released as it is granted. The reply is `BS_WAITING`, with the node and the mode; `BS_IN_USE` if the slot
@@ -113,6 +114,70 @@ pub extern "C" fn bs_call_await_row(
     })
 }
 
+/// Registers the waiter of a row that is locked with what must be held above it, and waits for its node `at`.
+#[unsafe(no_mangle)]
+pub extern "C" fn bs_call_await_row_path(
+    manager: &mut Handle,
+    txn: Txn,
+    file: Node,
+    number: u64,
+    keys: &[u64],
+    mode: u32,
+    at: Node,
+    until: u64,
+) -> Reply
+    ensures { Where (mode_at mode) (λ wanted. (k : AKeys) × (keys_in k ≡ take MOST_PARENTS keys.now)
+        × AwaitsIn (guarded_in manager.old) (row_path_waiter txn file number k wanted at until) result (guarded_in manager.new))
+        (Declines (guarded_in manager.old) bad_number result (guarded_in manager.new)) }
+{
+    let Some(mode) = mode_at(mode) else {
+        return Reply::with_status(BAD_NUMBER);
+    };
+    let row = file.row(number);
+    let keys = RowKeys::new(keys);
+    manager.await_request(Waiter {
+        txn: txn.id(),
+        request: Request::RowPath { row, keys, mode },
+        instant: false,
+        at: at.id(),
+        wanted: mode,
+        until: given_at(until),
+    })
+}
+
+/// Registers the waiter of a row that is locked with what must be held above it, and lacks the node `parent`: the next
+/// `bs_call_go_on` of it locks that by an intention. `BS_NO_PLACE` if the slot of its transaction has a waiter already, or
+/// there is no such slot.
+#[unsafe(no_mangle)]
+pub extern "C" fn bs_call_climb_to_row(
+    manager: &mut Handle,
+    txn: Txn,
+    file: Node,
+    number: u64,
+    keys: &[u64],
+    mode: u32,
+    parent: Node,
+    until: u64,
+) -> Reply
+    ensures { Where (mode_at mode) (λ wanted. (k : AKeys) × (keys_in k ≡ take MOST_PARENTS keys.now)
+        × ClimbsIn (guarded_in manager.old) (row_climber txn file number k wanted parent until) result (guarded_in manager.new))
+        (Declines (guarded_in manager.old) bad_number result (guarded_in manager.new)) }
+{
+    let Some(mode) = mode_at(mode) else {
+        return Reply::with_status(BAD_NUMBER);
+    };
+    let row = file.row(number);
+    let keys = RowKeys::new(keys);
+    manager.climb(Waiter {
+        txn: txn.id(),
+        request: Request::RowPath { row, keys, mode },
+        instant: false,
+        at: parent.id(),
+        wanted: intention(mode),
+        until: given_at(until),
+    })
+}
+
 /// Removes the waiter of a transaction, whose wait goes on. `BS_NO_PLACE` if it has none.
 #[unsafe(no_mangle)]
 pub extern "C" fn bs_call_withdraw_waiter(manager: &mut Handle, txn: Txn) -> Reply
@@ -133,7 +198,7 @@ pub extern "C" fn bs_call_go_on(manager: &mut Handle, told: &mut Notices) -> Rep
 }
 
 /// What `bs_call_go_on` does next, in `count`: 0 ends a request, 1 gives back a lock for an instant, 2 locks
-/// a path, 3 a row again; with the transaction, and the node and the mode of the command. `BS_NO_PLACE` if
+/// a path, 3 a row again, 4 a row; with the transaction, and the node and the mode of the command. `BS_NO_PLACE` if
 /// no wait is over.
 #[unsafe(no_mangle)]
 pub extern "C" fn bs_call_next_waiter(manager: &mut Handle) -> Reply

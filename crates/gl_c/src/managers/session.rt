@@ -11,14 +11,14 @@ ghost use Rattle.gl_wakes.specs.Boxes.{verdict_of};
 ghost use Rattle.gl_c.specs.managers.Carries.{Answers, Replies, command_call};
 ghost use Rattle.gl_c.specs.questions.Looks.{looked};
 ghost use Rattle.gl_c.specs.locks.Paths.{path_call};
-ghost use Rattle.gl_c.specs.locks.Resting.{WakesThere, end_call, resting_call};
+ghost use Rattle.gl_c.specs.locks.Resting.{CountsIntentions, RestsThere, WakesThere, end_call, resting_call};
 ghost use Rattle.gl_c.specs.locks.Savepoints.{back_call, keeping_call};
 ghost use Rattle.gl_c.specs.managers.Managing.{IsNew};
 ghost use Rattle.gl_c.specs.locks.Rows.{named_reply, row_call};
 ghost use Rattle.gl_c.specs.locks.Tries.{tried_path_call, tried_row_call};
 ghost use Rattle.gl_c.specs.locks.Turns.{begun_reply, found_reply, turn_call, word_reply};
 ghost use Rattle.gl_c.specs.locks.Verdicts.{verdict_reply};
-ghost use Rattle.gl_c.specs.locks.Waiters.{AwaitsThere, LooksNext, WithdrawsThere, late_call, on_call, time_reply, txn_reply};
+ghost use Rattle.gl_c.specs.locks.Waiters.{AwaitsThere, ClimbsThere, LooksNext, WithdrawsThere, late_call, on_call, time_reply, txn_reply};
 ghost use Rattle.gl_waiting.specs.Waiters.{earliest_until, first_late};
 ghost use Rattle.gl_waiting.specs.Begins.{has_word, is_late, without_first};
 ghost use Rattle.std.specs.List.{find, list_any};
@@ -29,6 +29,7 @@ ghost use Rattle.gl_c.specs.managers.Session.{IsIdle, guarded_of};
 use crate::answers::notices::Notices;
 use crate::answers::reply::Reply;
 use crate::managers::guarded::Guarded;
+use crate::numbers::NO_PLACE;
 use crate::questions::look::{Query, look};
 use gl_catalog::{Command, Manager};
 use gl_modes::{Mode, NodeId, Refusal};
@@ -142,19 +143,39 @@ impl Session {
     }
 
     /// The same, and lets the one that begins rest.
-    pub(crate) fn commit_and_rest(
-        &mut self,
-        txn: TxnId,
-        keep: usize,
-        since: u64,
-        notices: &mut Notices,
-    ) -> Reply
+    fn rest_keeping(&mut self, txn: TxnId, keep: usize, since: u64, notices: &mut Notices) -> Reply
         ensures { Replies self.old (resting_call txn keep since) result notices.new self.new }
     {
         let next = self.guarded.serve_resting(txn, keep, since, &mut self.told);
         notices.put(self.told.as_slice());
         self.told.clear();
-        Reply::of_keeping(next)
+        Reply::of_resting(next, keep)
+    }
+
+    /// The same, of the first locks that are intentions, up to so many, of which `known` are known to be.
+    pub(crate) fn commit_and_rest(
+        &mut self,
+        txn: TxnId,
+        known: usize,
+        most: usize,
+        since: u64,
+        notices: &mut Notices,
+    ) -> Reply
+        ensures { RestsThere self.old txn known most since result notices.new self.new }
+    {
+        let keep = self.guarded.first_intentions(txn, known, most);
+        if keep == 0 {
+            notices.clear();
+            return Reply::with_status(NO_PLACE);
+        }
+        self.rest_keeping(txn, keep, since, notices)
+    }
+
+    /// How many of the first locks of a transaction are intentions, up to so many, of which `known` are known to be.
+    pub(crate) fn first_intentions(&self, txn: TxnId, known: usize, most: usize) -> Reply
+        ensures { CountsIntentions self.now txn known most result }
+    {
+        Reply::with_count(self.guarded.first_intentions(txn, known, most) as u64)
     }
 
     /// Ends those who rest, or one of them, and writes the notices.
@@ -257,6 +278,13 @@ impl Session {
         ensures { AwaitsThere self.old waiter result self.new }
     {
         Reply::of_awaited(self.guarded.await_request(waiter))
+    }
+
+    /// Registers the waiter of a request that lacks a node above its own.
+    pub(crate) fn climb(&mut self, waiter: Waiter) -> Reply
+        ensures { ClimbsThere self.old waiter result self.new }
+    {
+        Reply::of_found(self.guarded.climb(waiter))
     }
 
     /// Removes the waiter of a transaction.

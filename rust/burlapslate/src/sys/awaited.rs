@@ -1,4 +1,5 @@
-//! Asks of futures, and the ends of their waits, as `include/burlapslate_shared.h` declares the calls of both.
+//! Asks of futures, and the ends of their waits, as `include/burlapslate_shared.h` and `include/burlapslate_rows.h` declare
+//! the calls of both.
 //!
 //! A slot has one ask that waits at most. So each slot of a table has one place for a waker and for the end of a wait, and
 //! the word of an ask is an even number: by that a late end, of an ask that nobody awaits any more, is told from the next
@@ -53,6 +54,17 @@ unsafe extern "C" {
         until: Until<'_>,
         word: usize,
     ) -> Reply;
+    fn bs_table_ask_row_path(
+        table: &Shared,
+        txn: Txn,
+        file: Node,
+        number: u64,
+        keys: *const u64,
+        count: usize,
+        mode: u32,
+        until: Until<'_>,
+        word: usize,
+    ) -> Reply;
 }
 
 /// The waits of futures, by slot. The context of the callback points here, so this stays where it is.
@@ -77,6 +89,8 @@ pub(crate) enum Sought<'k> {
     Path(Node, u32),
     /// A row, with its keys.
     Row(Row, &'k [u64], u32),
+    /// A row, with its keys and what must be held above it.
+    RowPath(Row, &'k [u64], u32),
 }
 
 impl Waits {
@@ -109,11 +123,25 @@ impl Waits {
         let reply = match sought {
             Sought::Node(node, mode) => bs_table_ask(table, txn, node, mode, until, word),
             Sought::Path(node, mode) => bs_table_ask_path(table, txn, node, mode, until, word),
-            Sought::Row(Row { file, number }, keys, mode) => {
-                let (start, count) = (numbers(keys), keys.len());
+            Sought::Row(row, keys, mode) | Sought::RowPath(row, keys, mode) => {
+                let (Row { file, number }, start) = (row, numbers(keys));
+                let ask = match sought {
+                    Sought::RowPath(..) => bs_table_ask_row_path,
+                    _ => bs_table_ask_row,
+                };
                 // SAFETY: the count is the list's own.
                 unsafe {
-                    bs_table_ask_row(table, txn, file, number, start, count, mode, until, word)
+                    ask(
+                        table,
+                        txn,
+                        file,
+                        number,
+                        start,
+                        keys.len(),
+                        mode,
+                        until,
+                        word,
+                    )
                 }
             }
         };

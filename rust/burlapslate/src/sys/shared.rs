@@ -1,5 +1,5 @@
-//! The calls with a table that threads share, as `include/burlapslate_shared.h` declares them. The asks are in
-//! [`awaited`](super::awaited).
+//! The calls with a table that threads share, as `include/burlapslate_shared.h`, `include/burlapslate_rows.h` and
+//! `include/burlapslate_session.h` declare them. The asks are in [`awaited`](super::awaited).
 //!
 //! Any thread may make any call with a table, so these take it by `&`. A [`Table`] is freed when its owner drops it, and
 //! no thread is in a call then, because each call borrows it.
@@ -34,6 +34,7 @@ pub(crate) const KEEP_WAY: u32 = 1;
 const DO_TRY: u32 = 4;
 const DO_TRY_PATH: u32 = 26;
 const DO_TRY_ROW: u32 = 27;
+const DO_TRY_ROW_PATH: u32 = 32;
 
 /// `bs_table`, which callers know by its address alone.
 #[repr(C)]
@@ -122,6 +123,20 @@ impl<'k> Command<'k> {
             keys: numbers(keys),
             key_count: keys.len(),
             ..Command::new(DO_TRY_ROW, txn, mode)
+        }
+    }
+
+    pub(crate) fn try_row_path(
+        txn: Txn,
+        row: Row,
+        keys: &'k [u64],
+        mode: u32,
+        keep: u32,
+    ) -> Command<'k> {
+        Command {
+            kind: DO_TRY_ROW_PATH,
+            keep,
+            ..Command::try_row(txn, row, keys, mode)
         }
     }
 }
@@ -291,6 +306,16 @@ unsafe extern "C" {
         mode: u32,
         until: Until<'_>,
     ) -> Reply;
+    fn bs_table_lock_row_path(
+        table: &Shared,
+        txn: Txn,
+        file: Node,
+        number: u64,
+        keys: *const u64,
+        count: usize,
+        mode: u32,
+        until: Until<'_>,
+    ) -> Reply;
     fn bs_table_try_row(
         table: &Shared,
         txn: Txn,
@@ -299,6 +324,24 @@ unsafe extern "C" {
         keys: *const u64,
         count: usize,
         mode: u32,
+    ) -> Reply;
+    fn bs_table_insert_path(
+        table: &Shared,
+        txn: Txn,
+        file: Node,
+        keys: *const u64,
+        count: usize,
+        keep: u32,
+    ) -> Reply;
+    fn bs_table_try_row_path(
+        table: &Shared,
+        txn: Txn,
+        file: Node,
+        number: u64,
+        keys: *const u64,
+        count: usize,
+        mode: u32,
+        keep: u32,
     ) -> Reply;
     pub(crate) safe fn bs_table_unlock_row(
         table: &Shared,
@@ -538,6 +581,17 @@ pub(crate) fn insert(table: &Shared, txn: Txn, file: Node, keys: &[u64]) -> Repl
     unsafe { bs_table_insert(table, txn, file, numbers(keys), keys.len()) }
 }
 
+pub(crate) fn insert_path(
+    table: &Shared,
+    txn: Txn,
+    file: Node,
+    keys: &[u64],
+    keep: u32,
+) -> Reply {
+    // SAFETY: the count is the list's own.
+    unsafe { bs_table_insert_path(table, txn, file, numbers(keys), keys.len(), keep) }
+}
+
 pub(crate) fn adopt(table: &Shared, file: Node, keys: &[u64]) -> Reply {
     // SAFETY: the count is the list's own.
     unsafe { bs_table_adopt(table, file, numbers(keys), keys.len()) }
@@ -561,10 +615,36 @@ pub(crate) fn lock_row(
     unsafe { bs_table_lock_row(table, txn, file, number, start, keys.len(), mode, until) }
 }
 
+pub(crate) fn lock_row_path(
+    table: &Shared,
+    txn: Txn,
+    row: Row,
+    keys: &[u64],
+    mode: u32,
+    until: Until<'_>,
+) -> Reply {
+    let (Row { file, number }, start) = (row, numbers(keys));
+    // SAFETY: the count is the list's own.
+    unsafe { bs_table_lock_row_path(table, txn, file, number, start, keys.len(), mode, until) }
+}
+
 pub(crate) fn try_row(table: &Shared, txn: Txn, row: Row, keys: &[u64], mode: u32) -> Reply {
     let (Row { file, number }, start) = (row, numbers(keys));
     // SAFETY: the count is the list's own.
     unsafe { bs_table_try_row(table, txn, file, number, start, keys.len(), mode) }
+}
+
+pub(crate) fn try_row_path(
+    table: &Shared,
+    txn: Txn,
+    row: Row,
+    keys: &[u64],
+    mode: u32,
+    keep: u32,
+) -> Reply {
+    let (Row { file, number }, start) = (row, numbers(keys));
+    // SAFETY: the count is the list's own.
+    unsafe { bs_table_try_row_path(table, txn, file, number, start, keys.len(), mode, keep) }
 }
 
 /// Makes a call of a session.

@@ -2,7 +2,7 @@
 
 use super::Table;
 use crate::mode::Mode;
-use crate::names::{Node, Txn};
+use crate::names::{Node, Row, Txn};
 use crate::session::{ended, Ended, Stop};
 pub(crate) use crate::sys::awaited::Sought;
 use crate::sys::shared::{self, Time, INSTANT};
@@ -12,7 +12,7 @@ use std::pin::Pin;
 use std::task::{Context, Poll, Waker};
 use std::time::Instant;
 
-impl Sought<'_> {
+impl<'k> Sought<'k> {
     pub(crate) fn node(node: Node, mode: Mode) -> Sought<'static> {
         Sought::Node(node, mode as u32)
     }
@@ -27,6 +27,14 @@ impl Sought<'_> {
 
     pub(crate) fn path_instant(node: Node, mode: Mode) -> Sought<'static> {
         Sought::Path(node, mode as u32 | INSTANT)
+    }
+
+    pub(crate) fn row(row: Row, keys: &'k [u64], mode: Mode) -> Sought<'k> {
+        Sought::Row(row, keys, mode as u32)
+    }
+
+    pub(crate) fn row_path(row: Row, keys: &'k [u64], mode: Mode) -> Sought<'k> {
+        Sought::RowPath(row, keys, mode as u32)
     }
 }
 
@@ -119,6 +127,9 @@ impl Table {
             Sought::Node(node, mode) => shared::bs_table_lock(table, txn, node, mode, until),
             Sought::Path(node, mode) => shared::bs_table_lock_path(table, txn, node, mode, until),
             Sought::Row(row, keys, mode) => shared::lock_row(table, txn, row, keys, mode, until),
+            Sought::RowPath(row, keys, mode) => {
+                shared::lock_row_path(table, txn, row, keys, mode, until)
+            }
         })
     }
 

@@ -1,4 +1,4 @@
-//! For whoever runs a table: who waits, for whom, for how long, and how it was until now.
+//! For operators of a table: which transactions wait, for which others, for how long, and the totals until now.
 
 use super::Table;
 use crate::listing::Deadlock;
@@ -175,7 +175,7 @@ impl Blocker {
     }
 }
 
-/// # For whoever runs the table
+/// # For operators
 ///
 /// A table times each wait, from the command that leaves a lock waiting to the command that ends the wait. A lock that does
 /// not wait reads no clock.

@@ -2,20 +2,21 @@
 
 #![allow(dead_code)] // Each test program uses some of it.
 
+#[path = "../tasks/mod.rs"]
+pub mod tasks;
+
 use burlapslate::{Detect, Mode, Node, Row, RowLocked, Session, Stop, Table, Txn, SLOTS};
 use std::future::Future;
 use std::pin::{pin, Pin};
 use std::sync::atomic::{AtomicBool, AtomicUsize, Ordering};
 use std::sync::{Arc, Mutex};
 use std::task::{Context, Poll, Wake, Waker};
-use std::thread::{self, Thread};
+use std::thread;
 use std::time::{Duration, Instant};
+pub use tasks::PATIENCE;
 
 pub const LOW_KEY: [u64; 1] = [50];
 pub const HIGH_KEY: [u64; 1] = [200];
-
-/// A lost wake-up is a time that comes, and not a test that hangs.
-pub const PATIENCE: Duration = Duration::from_secs(20);
 
 pub type Task = Pin<Box<dyn Future<Output = ()> + Send>>;
 pub type Ended = Result<RowLocked, Stop>;
@@ -91,27 +92,7 @@ impl Wake for Does {
 }
 
 pub fn poll_by<F: Future>(future: &mut Pin<&mut F>, waker: Waker) -> Poll<F::Output> {
-    future.as_mut().poll(&mut Context::from_waker(&waker))
-}
-
-/// Wakes a thread that runs one future.
-struct Unpark(Thread);
-
-impl Wake for Unpark {
-    fn wake(self: Arc<Unpark>) {
-        self.0.unpark();
-    }
-}
-
-pub fn block_on<T>(future: impl Future<Output = T>) -> T {
-    let waker = Waker::from(Arc::new(Unpark(thread::current())));
-    let mut future = pin!(future);
-    loop {
-        match poll_by(&mut future, waker.clone()) {
-            Poll::Ready(end) => return end,
-            Poll::Pending => thread::park_timeout(PATIENCE),
-        }
-    }
+    tasks::poll(future, &waker)
 }
 
 /// The end of a future whose wait ends within its first poll: that poll is ready, or its waker was woken by the time
@@ -146,9 +127,18 @@ pub enum Call {
     Path,
     PathInstant,
     Row,
+    RowPath,
 }
 
-pub use Call::{Instant as ForAnInstant, Lock, Path, PathInstant, Row as OfRow};
+pub use Call::{
+    Instant as ForAnInstant, Lock, Path, PathInstant, Row as OfRow, RowPath as OfRowPath,
+};
+
+impl Call {
+    pub fn is_of_row(self) -> bool {
+        matches!(self, OfRow | OfRowPath)
+    }
+}
 
 /// What the caller asks for, and how.
 #[derive(Clone, Copy, Debug)]
@@ -202,6 +192,7 @@ impl Ask {
             Path => session.lock_path(node, mode).map(RowLocked::Own),
             PathInstant => session.lock_path_instant(node, mode).map(RowLocked::Own),
             OfRow => session.lock_row(row, &self.keys, mode),
+            OfRowPath => session.lock_row_path(row, &self.keys, mode),
         }
     }
 
@@ -221,20 +212,23 @@ impl Ask {
                 .map(RowLocked::Own),
             PathInstant => unreachable!("no task locks a path for an instant"),
             OfRow => session.lock_row_async(row, &self.keys, mode).await,
+            OfRowPath => session.lock_row_path_async(row, &self.keys, mode).await,
         }
     }
 }
 
-pub const CALLS: [(Call, bool); 9] = [
+pub const CALLS: [(Call, bool); 11] = [
     (Lock, false),
     (ForAnInstant, false),
     (Path, false),
     (PathInstant, false),
     (OfRow, false),
+    (OfRowPath, false),
     (Lock, true),
     (ForAnInstant, true),
     (Path, true),
     (OfRow, true),
+    (OfRowPath, true),
 ];
 
 /// A file of records and a file of rows under a root, each with an index of two intervals, parted at 100; and a record

@@ -4,7 +4,7 @@ ghost use Rattle.std.specs.Prelude.{◌≡◌, ◌&&◌, []};
 ghost use Rattle.gl_slots.specs.Slots.{has_slot};
 ghost use Rattle.gl_model.specs.State.{lives};
 ghost use Rattle.gl_catalog.specs.Manager.{state_of};
-ghost use Rattle.gl_waiting.specs.Resting.{RestOn, slot_if};
+ghost use Rattle.gl_waiting.specs.Resting.{FirstIntentions, RestOn, slot_if};
 ghost use Rattle.gl_c.specs.locks.Resting.{end_call, resting_call};
 ghost use Rattle.gl_c.specs.managers.Carries.{Performs};
 
@@ -13,7 +13,7 @@ use crate::managers::showing::keep_nobody;
 use gl_modes::Refusal;
 use gl_slots::Slots;
 use gl_table::{Told, TxnId};
-use gl_waiting::{Ended, Number, Whom};
+use gl_waiting::{Ended, Number, Whom, first_intentions};
 
 impl Guarded {
     /// Commits a transaction and begins another in its slot that keeps its first `keep` locks and rests,
@@ -61,6 +61,14 @@ impl Guarded {
         keep_nobody(&mut self.showing, true);
         self.show_if_due();
         came
+    }
+
+    /// How many of the first locks of a transaction are intentions, up to so many, of which `known` are
+    /// known to be.
+    pub(crate) fn first_intentions(&self, txn: TxnId, known: usize, most: usize) -> usize
+        ensures { FirstIntentions self.now.manager txn known most result }
+    {
+        first_intentions(self.waiting.manager(), txn, known, most)
     }
 
     /// Whether this transaction rested; it works again.

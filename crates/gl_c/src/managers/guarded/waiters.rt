@@ -1,7 +1,7 @@
 //! Waiters of requests.
 
 ghost use Rattle.std.specs.Prelude.{◌≡◌, []};
-ghost use Rattle.gl_waiting.specs.Asking.{Awaits, WithdrawsWaiter};
+ghost use Rattle.gl_waiting.specs.Asking.{Awaits, Climbs, WithdrawsWaiter};
 ghost use Rattle.gl_waiting.specs.Ends.{IsNext};
 ghost use Rattle.gl_waiting.specs.Waiters.{earliest_until, first_late};
 ghost use Rattle.gl_c.specs.locks.Waiters.{late_call, on_call, on_slot};
@@ -22,6 +22,15 @@ impl Guarded {
         ensures rest { self.new ≡ record self.old { places = self.new.places } }
     {
         self.waiting.await_request(waiter)
+    }
+
+    /// Registers the waiter of a request that lacks a node above its own. `false` if the slot of its transaction
+    /// has a waiter already, or there is no such slot.
+    pub(crate) fn climb(&mut self, waiter: Waiter) -> bool
+        ensures climbs { Climbs (waiting_in self.old) waiter result (waiting_in self.new) }
+        ensures rest { self.new ≡ record self.old { places = self.new.places } }
+    {
+        self.waiting.climb(waiter)
     }
 
     /// Removes the waiter of a transaction, whose wait goes on; whether it had one.

@@ -15,7 +15,7 @@ ghost use Rattle.gl_model.specs.State.{members, waits_for};
 ghost use Rattle.gl_catalog.specs.Manager.{IsLawfulManager};
 ghost use Rattle.gl_c.specs.questions.Looks.{Looks};
 ghost use Rattle.gl_c.specs.locks.Paths.{path_call};
-ghost use Rattle.gl_c.specs.locks.Resting.{FindsResting, WakesIn, end_call, resting_call};
+ghost use Rattle.gl_c.specs.locks.Resting.{CountsIntentionsIn, FindsResting, RestsIn, WakesIn, end_call};
 ghost use Rattle.gl_c.specs.locks.Savepoints.{back_call, keeping_call};
 ghost use Rattle.gl_c.specs.answers.Notices.{Tells};
 ghost use Rattle.gl_c.specs.Numbers.{no_manager};
@@ -24,7 +24,7 @@ ghost use Rattle.gl_c.specs.locks.Rows.{FindsRow, row_call};
 ghost use Rattle.gl_c.specs.locks.Tries.{tried_path_call, tried_row_call};
 ghost use Rattle.gl_c.specs.locks.Turns.{TakesBegun, TakesLate, Withdraws, turn_call};
 ghost use Rattle.gl_c.specs.locks.Verdicts.{Judges};
-ghost use Rattle.gl_c.specs.locks.Waiters.{AwaitsIn, FindsTime, FindsWaitLate, NextIn, WithdrawsIn, late_call, on_call};
+ghost use Rattle.gl_c.specs.locks.Waiters.{AwaitsIn, ClimbsIn, FindsTime, FindsWaitLate, NextIn, WithdrawsIn, late_call, on_call};
 ghost use Rattle.gl_c.specs.watchers.Watching.{Attends};
 
 use super::Handle;
@@ -169,21 +169,35 @@ impl Handle {
         reply
     }
 
-    /// The same, and lets the one that begins rest.
+    /// The same, of the first locks that are intentions, and lets the one that begins rest.
     pub(crate) fn commit_and_rest(
         &mut self,
         txn: TxnId,
-        keep: usize,
+        known: usize,
+        most: usize,
         since: u64,
         told: &mut Notices,
     ) -> Reply
-        ensures { Carries (guarded_in self.old) (resting_call txn keep since) result told.new (guarded_in self.new) }
+        ensures { RestsIn (guarded_in self.old) txn known most since result told.new (guarded_in self.new) }
     {
         let alloc = self.alloc;
         let Some(mut session) = self.take() else {
             return declined(told);
         };
-        let reply = session.commit_and_rest(txn, keep, since, told);
+        let reply = session.commit_and_rest(txn, known, most, since, told);
+        *self = Handle::of(alloc, session);
+        reply
+    }
+
+    /// How many of the first locks of a transaction are intentions.
+    pub(crate) fn first_intentions(&mut self, txn: TxnId, known: usize, most: usize) -> Reply
+        ensures { CountsIntentionsIn (guarded_in self.old) txn known most result (guarded_in self.new) }
+    {
+        let alloc = self.alloc;
+        let Some(session) = self.take() else {
+            return Reply::with_status(NO_MANAGER);
+        };
+        let reply = session.first_intentions(txn, known, most);
         *self = Handle::of(alloc, session);
         reply
     }
@@ -332,6 +346,19 @@ impl Handle {
             return Reply::with_status(NO_MANAGER);
         };
         let reply = session.await_request(waiter);
+        *self = Handle::of(alloc, session);
+        reply
+    }
+
+    /// Registers the waiter of a request that lacks a node above its own.
+    pub(crate) fn climb(&mut self, waiter: Waiter) -> Reply
+        ensures { ClimbsIn (guarded_in self.old) waiter result (guarded_in self.new) }
+    {
+        let alloc = self.alloc;
+        let Some(mut session) = self.take() else {
+            return Reply::with_status(NO_MANAGER);
+        };
+        let reply = session.climb(waiter);
         *self = Handle::of(alloc, session);
         reply
     }

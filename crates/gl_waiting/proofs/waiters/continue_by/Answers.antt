@@ -31,3 +31,12 @@ returns-in-LockAgain-clause-call c = (
   refl,
   λ u apart. apart,
 )
+
+pub returns-in-LockRow-clause-call : goal.returns-in-LockRow-clause-call
+returns-in-LockRow-clause-call c = (
+  call_made c.args.delivery.now c.lock_row-outcome.new.self _ c.lock_row-outcome.new.told.items c.lock_row-outcome.result.1
+      c.lock_row-outcome.ensures.carries c.lock_row-outcome.ensures.run,
+  refl,
+  refl,
+  λ u apart. apart,
+)

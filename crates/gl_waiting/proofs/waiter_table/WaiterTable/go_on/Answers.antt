@@ -7,7 +7,7 @@ use Rattle.gl_catalog.specs.Manager.{state_of}
 use Rattle.gl_wakes.specs.Wakes.{HasEnded}
 use Rattle.gl_waiting.specs.Asking.{GoesOnBy}
 use Rattle.gl_waiting.specs.Ends.{IsNext}
-use Rattle.gl_waiting.specs.Waiters.{KnowsDue, is_held, place_at, place_of}
+use Rattle.gl_waiting.specs.Waiters.{KnowsDue, goes_on, place_at, place_of}
 use Rattle.gl_waiting.specs.Waiting.{WaitingView}
 use Rattle.gl_waiting.specs.declared.waiter.Place.{Place}
 use Rattle.gl_waiting.proofs.Awaiting.{carries_ended, due_put, next_due, next_waiter, none_due, others_due, placed_still, placed_txn, stays_due, waiting_with}
@@ -51,8 +51,8 @@ invariant_of-self-2 c =
     (due_put (state_of d.manager) (state_of d'.manager) ended c.law.ensures.lawful ends due due' c.self.inside.places w.txn (place_of w came)
     (placed_txn w came) below c.put.ensures.slots
     (λ out. placed_still (state_of d'.manager) w came
-    (stays_due due ended due' w.txn.slot (is_held came) c.due_after-self-inside.ensures was out) c.continue_by-came.ensures.waits)
-    (others_due due ended due' w.txn.slot (is_held came) c.due_after-self-inside.ensures) c.self.invariant))
+    (stays_due due ended due' w.txn.slot (goes_on came) c.due_after-self-inside.ensures was out) c.continue_by-came.ensures.waits)
+    (others_due due ended due' w.txn.slot (goes_on came) c.due_after-self-inside.ensures) c.self.invariant))
 
 pub returns : goal.returns
 returns c =
