@@ -1,9 +1,9 @@
 #!/usr/bin/env bash
-# faults.sh [--tenth] [NAME..] [LIBRARY LIBRARY]: plants faults in a copy of the C sources, the shared table, its dump, its
-# trace and what times its waits, one at a time. The stories or the crowd must find each: by a check that fails, or because they hang. `all` means every
-# fault there is, --tenth each tenth, by turns: which one is chosen by the sum of the folder c. The libraries are the proved
-# one and the calls for memory; without them they are the last two that tools/c_library.sh prints. Ends with status 1 if a
-# fault is not found. CC names another compiler than cc.
+# faults.sh [--tenth] [NAME..] [LIBRARY LIBRARY]: plants faults in a copy of the C sources, one at a time: the shared
+# table, its dump, its trace and what times its waits. The stories or the crowd must find each: a check fails, or they
+# hang or crash. `all` means every fault there is, --tenth each tenth, by turns: the sum of the folder c chooses which.
+# The libraries are the proved one and the calls for memory; without them they are the last two that tools/c_library.sh
+# prints. Ends with status 1 if a fault is not found. CC names another compiler than cc.
 set -uo pipefail
 top=$(cd "$(dirname "$0")/../.." && pwd) || exit 2
 names=() libraries=() turn=
@@ -367,16 +367,20 @@ a-refused-list-of-a-session-tells	/^size_t bs_session_run(/,/^}/s/^    table_lis
 FAULTS
 }
 
-# says THERE WORD..: compiles a program of the tests with the sources there, and ends with its status.
+# says THERE WORD..: compiles a program of the tests with the sources there, and runs it: status 1 if it fails, hangs or
+# crashes, and 2 if it cannot be compiled.
 says() {
-  local there=$1 program=$2 with=()
+  local there=$1 program=$2 status with=()
   [ "$program" = running ] || with+=("$there/burlapslate_running.c")
   [ "$program" = traces ] || with+=("$there/burlapslate_trace.c")
   [ "$program" = crowd ] || with+=("-Wl,--wrap=malloc,--wrap=realloc,--wrap=free")
   # shellcheck disable=SC2086 # CC and FAULT_LINKS may have several words.
   ${CC:-cc} -std=c99 -D_POSIX_C_SOURCE=200809L -pthread -O1 -w -I"$top/include" -I"$there" -o "$there/$program" \
     "$top/tests/c/$program.c" "${libraries[@]}" ${FAULT_LINKS:-} "${with[@]}" || return 2
-  timeout 60 "$there/$program" "${@:3}" >>"$there/said" 2>&1
+  timeout 60 "$there/$program" "${@:3}" >>"$there/said" 2>&1 && return
+  status=$?
+  [ "$status" -eq 1 ] || echo "$program: not so: it ends with status $status" >>"$there/said"
+  return 1
 }
 
 # found NAME EDIT: whether the fault is found.
