@@ -540,21 +540,19 @@ static TABLE_APART void table_register(bs_table *table, const table_request *req
   table_enlist(table, request, wait, waiter);
 }
 
-/* Leaves the wait of a list's request, which nobody awaits any more; answers for which node, in which mode. One for an
- * instant is released when it is granted, whoever awaits it. */
-static TABLE_APART bs_reply table_leave_waiting(bs_table *table, bs_txn txn, bs_node node, bool is_instant) {
+/* Leaves the wait of a list's request, which nobody awaits any more. One for an instant is released when it is granted,
+ * whoever awaits it. */
+static TABLE_APART void table_leave_waiting(bs_table *table, bs_txn txn, table_wait wait, bool is_instant) {
   table_instant *own = &table->instants[txn.slot];
-  bs_reply wait = bs_call_doing(&table->manager, txn);
   if (table->waiters[txn.slot] != NULL) {
     table->waiters[txn.slot] = NULL;
     bs_call_withdraw_waiter(&table->manager, txn);
   }
-  if (is_instant && table_is_same_node(wait.node, node)) {
+  if (is_instant) {
     own->txn = txn;
-    own->node = node;
-    bs_call_await_node(&table->manager, txn, node, wait.mode, true, TABLE_NO_TIME);
+    own->node = wait.node;
+    bs_call_await_node(&table->manager, txn, wait.node, wait.mode, true, TABLE_NO_TIME);
   }
-  return wait;
 }
 
 /* Sleeps on a condition variable, with the latch held before and after, at most until a time if that is not null.
@@ -1710,30 +1708,24 @@ static uint64_t table_count_timed(const bs_table *table) {
   return count;
 }
 
-/* How many asks wait for a slot to a time, and the earliest of these times. */
-static uint64_t table_count_timed_begins(const bs_table *table, uint64_t *earliest) {
+/* How many asks wait for a slot to a time. */
+static uint64_t table_count_timed_begins(const bs_table *table) {
   const table_asked *ask = table->asks == NULL ? NULL : table->asks->begins.first;
   uint64_t count = 0;
-  *earliest = TABLE_NO_TIME;
-  for (; ask != NULL; ask = ask->next) {
-    count += ask->begin_time != TABLE_NO_TIME;
-    if (ask->begin_time < *earliest) *earliest = ask->begin_time;
-  }
+  for (; ask != NULL; ask = ask->next) count += ask->begin_time != TABLE_NO_TIME;
   return count;
 }
 
 bs_reply bs_table_expire(bs_table *table, struct timespec *next) {
-  bs_reply reply = bs_call_only(BS_DONE), first;
-  uint64_t earliest;
+  bs_reply reply = bs_call_only(BS_DONE), earliest;
   struct timespec now;
   if (!table_enter(table)) return table_no_table(table);
   now = table_ahead(0, 0);
   table_end_late(table, table_time_of(&now));
   table_end_late_begins(table, table_time_of(&now), BS_TIMED_OUT);
-  reply.count = table_count_timed(table) + table_count_timed_begins(table, &earliest);
-  first = bs_call_earliest_wait(&table->manager);
-  if (first.status == BS_DONE && first.count < earliest) earliest = first.count;
-  if (reply.count > 0 && next != NULL) *next = table_timespec_of(earliest);
+  reply.count = table_count_timed(table) + table_count_timed_begins(table);
+  earliest = bs_call_earliest_time(&table->manager);
+  if (earliest.status == BS_DONE && next != NULL) *next = table_timespec_of(earliest.count);
   return table_leave(table, reply);
 }
 
@@ -1881,19 +1873,34 @@ static void table_tell_all_but(bs_notices *told, bs_txn txn) {
   told->count = kept;
 }
 
+/* For which node, in which mode, a request of a list waits that was left waiting. */
+static table_wait table_wait_of(const bs_table *table, const bs_command *c, bs_txn txn) {
+  table_wait wait = { c->node, table_mode_of(c->mode) };
+  if (c->kind != BS_DO_LOCK) {
+    bs_reply doing = bs_call_doing(&table->manager, txn);
+    wait.node = doing.node;
+    if (c->kind != BS_DO_LOCK_ROW) wait.mode = doing.mode;
+  }
+  return wait;
+}
+
 /* After a request of a list was left waiting, and after those whose wait it has ended have gone on. If its own wait has
  * ended by that, that end is its answer; else nobody awaits it any more, and the answer says for what it waits. */
 static TABLE_APART bs_reply table_made_waiting(bs_table *table, const bs_command *c, bs_txn txn, table_waiter *own,
                                                bs_notices *told) {
-  bs_reply reply, wait;
+  bs_reply reply;
+  table_wait wait;
+  bool is_last;
   if (own->has_ended) {
     table_tell_all_but(told, txn);
     return own->end;
   }
-  wait = table_leave_waiting(table, txn, c->node, table_is_instant(table, txn, c->node, c->mode));
+  wait = table_wait_of(table, c, txn);
+  is_last = table_is_same_node(wait.node, c->node);
+  table_leave_waiting(table, txn, wait, is_last && table_is_instant(table, txn, c->node, c->mode));
   reply = bs_call_only(BS_WAITING);
   reply.node = wait.node;
-  reply.mode = c->kind == BS_DO_LOCK || c->kind == BS_DO_LOCK_ROW ? table_mode_of(c->mode) : wait.mode;
+  reply.mode = wait.mode;
   return reply;
 }
 

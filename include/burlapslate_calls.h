@@ -48,7 +48,7 @@ bs_reply bs_call_next_waiter(const bs_manager *manager);
 bs_reply bs_call_go_on(bs_manager *manager, bs_notices *told);
 bs_reply bs_call_time_out(bs_manager *manager, bs_txn txn, bs_notices *told);
 bs_reply bs_call_first_late(const bs_manager *manager, uint64_t now);
-bs_reply bs_call_earliest_wait(const bs_manager *manager);
+bs_reply bs_call_earliest_time(const bs_manager *manager);
 bs_reply bs_call_lock(bs_manager *manager, bs_txn txn, bs_node node, bs_mode mode, bs_notices *told);
 bs_reply bs_call_lock_path(bs_manager *manager, bs_txn txn, bs_node node, bs_mode mode, bs_notices *told);
 bs_reply bs_call_try(bs_manager *manager, bs_txn txn, bs_node node, bs_mode mode);

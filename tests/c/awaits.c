@@ -202,9 +202,9 @@ static void waits_go_on_by_rising_slots(void) {
 static void waits_end_at_their_time(void) {
   begin(__func__);
   wait_for_root(BS_IX);
-  ANSWERS(BS_NO_PLACE, bs_call_earliest_wait(m));
+  ANSWERS(BS_NO_PLACE, bs_call_earliest_time(m));
   ANSWERS(BS_WAITING, bs_call_await_node(m, b, db, BS_IX, 0, 5));
-  WANT(DONE(bs_call_earliest_wait(m)).count == 5);
+  WANT(DONE(bs_call_earliest_time(m)).count == 5);
   ANSWERS(BS_NO_PLACE, bs_call_first_late(m, 4));
   WANT(same_txn(DONE(bs_call_first_late(m, 5)).txn, b));
   ANSWERS(BS_TIMED_OUT, bs_call_time_out(m, b, &told));

@@ -106,9 +106,7 @@ asked-begins-are-not-late	/^bs_reply bs_table_expire(/,/^}/s/^  table_end_late_b
 all-begins-are-late	/^bs_reply bs_table_expire(/,/^}/s/table_end_late_begins(table, table_time_of(&now)/table_end_late_begins(table, UINT64_MAX/
 begins-are-late-once	/^static void table_end_late_begins(/,/^}/s/^  for (; late.count != 0; .*/  if (late.count != 0) {/
 all-asked-begins-have-a-time	/^static uint64_t table_count_timed_begins(/,/^}/s/count += ask->begin_time != TABLE_NO_TIME;/count++;/
-next-time-is-of-no-begin	/^static uint64_t table_count_timed_begins(/,/^}/s/^    if (ask->begin_time < .*//
-next-time-is-of-the-last-begin	/^static uint64_t table_count_timed_begins(/,/^}/s/^    if (ask->begin_time < \*earliest) /    if (ask->begin_time != TABLE_NO_TIME) /
-next-time-is-of-begins-alone	s/^  if (first.status == BS_DONE \&\& first.count < earliest) .*//
+next-time-is-not-said	s/^  if (earliest.status == BS_DONE \&\& next != NULL) .*//
 any-begin-is-taken-back	/^static table_asked \*table_asked_by(/,/^}/s/^  while (ask != NULL .*//
 begin-taken-back-is-not-told	/^bs_reply bs_table_cancel_begin(/,/^}/s/^  table_end_begin(.*//
 last-begin-stays-the-last	/^static void table_unlist(/,/^}/s/^  if (list->last == ask) .*//

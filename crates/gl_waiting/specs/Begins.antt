@@ -35,3 +35,9 @@ without_first test (b ∷ queue) = if test b then queue else b ∷ without_first
 -- the least time at which a begin of the queue ends, of those that have one
 abbrev pub earliest_of : List QueuedBegin → Option ℕ
 earliest_of queue = reduce min (filter_map (λ b. b.until) queue)
+
+-- the earlier of two times, of which each may be none
+abbrev pub earlier : Option ℕ → Option ℕ → Option ℕ
+earlier None other = other
+earlier (Some one) None = Some one
+earlier (Some one) (Some other) = Some (min one other)

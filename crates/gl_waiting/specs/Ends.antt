@@ -1,5 +1,5 @@
 -- How a waiter goes on whose wait is over.
-use Rattle.std.specs.Prelude.{◌≡◌, ◌<◌, ℕ, [], Bool, false, Option, None, Some, Result, is_some}
+use Rattle.std.specs.Prelude.{◌≡◌, ◌<◌, ℕ, [], Bool, true, false, Option, None, Some, Result, is_some}
 use Rattle.gl_modes.specs.declared.refusal.Refusal.{Refusal}
 use Rattle.gl_slots.specs.declared.slots.Slots.{Slots}
 use Rattle.gl_catalog.specs.Manager.{state_of}
@@ -16,7 +16,8 @@ use Rattle.gl_rows.specs.declared.answer.RowRefusal.{RowRefusal}
 use Rattle.gl_waiting.specs.Delivering.{DeliveryView, registry_in}
 use Rattle.gl_waiting.specs.Going.{Call}
 use Rattle.gl_waiting.specs.RowLocks.{LocksRowWith, again_as, row_came_of}
-use Rattle.gl_waiting.specs.Waiters.{came_of, next_in, node_in, place_at}
+use Rattle.gl_waiting.specs.Begins.{earlier, earliest_of}
+use Rattle.gl_waiting.specs.Waiters.{came_of, earliest_until, next_in, node_in, place_at}
 use Rattle.gl_waiting.specs.Waiting.{WaitingView}
 use Rattle.gl_waiting.specs.declared.waiter.Came.{Came}
 use Rattle.gl_waiting.specs.declared.waiter.Came.TheVariants as came
@@ -59,4 +60,9 @@ IsNext v None = (u : ℕ) → next_at v u ≡ None
 
 -- whether the wait of a waiter is over
 abbrev pub HasNext : WaitingView → Bool → Type 0
-HasNext v over = (next : Option (Waiter × Next)) × IsNext v next × (over ≡ is_some next)
+HasNext v true = (u : ℕ) × (is_some (next_at v u) ≡ true)
+HasNext v false = IsNext v None
+
+-- the earliest time at which a wait ends, for a lock or for a slot; none if none has one
+abbrev pub earliest_time : WaitingView → Option ℕ
+earliest_time v = earlier (earliest_until v.places) (earliest_of v.queue)

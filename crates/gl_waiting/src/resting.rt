@@ -1,11 +1,10 @@
 //! Who of a table's transactions rest.
 
-ghost use Rattle.gl_slots.specs.Limit.{most_slots};
 ghost use Rattle.gl_slots.specs.Slots.{HasNoSlot, has_slot, no_slots};
 ghost use Rattle.std.specs.Prelude.{◌≡◌, ◌≤◌, ◌<◌, ◌&&◌, ◌||◌, ◌==◌, ◌↔◌, ℕ, [], IfNone, IfSome, IsTrue, Some, false, not, true};
 ghost use Rattle.gl_modes.specs.Modes.{are_compatible};
 ghost use Rattle.gl_model.specs.State.{age_of, is_wait, lives, status_of, waits_for};
-ghost use Rattle.gl_catalog.specs.Manager.{IsLawfulManager, state_of};
+ghost use Rattle.gl_catalog.specs.Manager.{state_of};
 ghost use Rattle.gl_waiting.specs.Asking.{InTurn, KeepsLocks};
 ghost use Rattle.gl_waiting.specs.Resting.{ChoosesSome, Commits, EndsSome, FirstIntentions, IsChosen, IsQuiet, KeepsRest, LetsRest};
 ghost use Rattle.gl_waiting.specs.Resting.{NoneIsChosen, RestOn, RestsWell, Rouses, acting_in, has_begun, is_counted, is_intention, slot_if};

@@ -1,17 +1,17 @@
 //! The table of waiters, with each call carried out alone: begins are handed on by `Waiting`.
 
 ghost use Rattle.gl_slots.specs.Limit.{most_slots};
-ghost use Rattle.std.specs.Prelude.{◌≡◌, ◌==◌, ◌&&◌, ◌||◌, ℕ, [], drop, not, replicate, slice_get};
+ghost use Rattle.std.specs.Prelude.{◌≡◌, ◌==◌, ◌&&◌, ◌||◌, ℕ, [], drop, is_some, not, replicate, slice_get};
 ghost use Rattle.gl_slots.specs.Slots.{has_slot};
 ghost use Rattle.gl_waiting.specs.Waiters.{goes_on};
 ghost use Rattle.gl_catalog.specs.Manager.{IsLawfulManager, state_of};
 ghost use Rattle.gl_rows.specs.Rows.{name_of};
 ghost use Rattle.gl_waiting.specs.Asking.{Awaits, Begins, BeginsInTurn, BeginsNext, Climbs, GoesOn, HandsOnAfter, HandsOnIf, IsInTurn, KeepsLocks, LocksPath};
 ghost use Rattle.gl_waiting.specs.Asking.{RollsBackTo, Serves, ServesRow, TimesOut, TriesRowThere, TriesThere, WithdrawsWaiter, is_done};
-ghost use Rattle.gl_waiting.specs.Begins.{earliest_of, has_word, is_late, without_first};
+ghost use Rattle.gl_waiting.specs.Begins.{earlier, has_word, is_late, without_first};
 ghost use Rattle.std.specs.List.{find, list_any};
-ghost use Rattle.gl_waiting.specs.Ends.{IsNext, next_at};
-ghost use Rattle.gl_waiting.specs.Waiters.{earliest_until, first_late};
+ghost use Rattle.gl_waiting.specs.Ends.{HasNext, IsNext, earliest_time, next_at};
+ghost use Rattle.gl_waiting.specs.Waiters.{first_late};
 ghost use Rattle.gl_wakes.specs.Boxes.{verdict_of};
 ghost use Rattle.gl_waiting.specs.Waiting.{delivery_in};
 ghost use Rattle.gl_waiting.specs.declared.waiter.Place.TheVariants.{Empty as empty};
@@ -299,6 +299,33 @@ impl WaiterTable {
         None
     }
 
+    /// Whether the wait of a waiter is over.
+    pub(crate) fn has_next(&self) -> bool
+        ensures { HasNext self.now result }
+    {
+        let mut left = self.due;
+        'slots: while let Some(slot) = left.take_lowest() {
+            if self.is_over_at(slot) {
+                return true;
+            }
+        }
+        false
+    }
+
+    /// Whether the wait of a slot's waiter is over.
+    fn is_over_at(&self, slot: Slot) -> bool
+        ensures { result ≡ is_some (next_at self.now slot) }
+    {
+        match self.places.at(slot) {
+            Some(Place::Waits(waiter)) => self
+                .delivery
+                .verdict(waiter.txn, waiter.at, waiter.wanted)
+                .is_some(),
+            Some(Place::GoesOn(_, _)) => true,
+            Some(Place::Empty) | None => false,
+        }
+    }
+
     /// The waiter of a slot and what it does next, if its wait is over.
     fn next_at(&self, slot: Slot) -> Option<(Waiter, Next)>
         ensures { result ≡ next_at self.now slot }
@@ -340,11 +367,11 @@ impl WaiterTable {
         self.places.first_late(now)
     }
 
-    /// The earliest time at which a wait ends; `None` if none has one.
-    pub(crate) fn earliest_wait(&self) -> Option<u64>
-        ensures { result ≡ earliest_until self.now.places }
+    /// The earliest time at which a wait ends, for a lock or for a slot; `None` if none has one.
+    pub(crate) fn earliest_time(&self) -> Option<u64>
+        ensures { result ≡ earliest_time self.now }
     {
-        self.places.earliest()
+        earlier(self.places.earliest(), self.begins.earliest())
     }
 
     /// Begins a transaction, for new work or for work since an earlier begin. It does not ask who waits for a slot.
@@ -454,13 +481,6 @@ impl WaiterTable {
     {
         self.begins.take_late(now)
     }
-
-    /// The earliest time at which a begin ends that waits for a slot; `None` if none has one.
-    pub(crate) fn earliest_begin(&self) -> Option<u64>
-        ensures { result ≡ earliest_of self.now.queue }
-    {
-        self.begins.earliest()
-    }
 }
 
 /// The slots that are due after the waiter of this one came to this, and the waits of these slots ended.
@@ -472,6 +492,17 @@ fn due_after(due: Slots, slot: Slot, came: Came, ended: Slots) -> Slots
         left.remove(slot);
     }
     left.union(ended)
+}
+
+/// The earlier of two times, of which each may be none.
+fn earlier(one: Option<u64>, other: Option<u64>) -> Option<u64>
+    ensures { result ≡ earlier one other }
+{
+    match (one, other) {
+        (Some(one), Some(other)) => Some(one.min(other)),
+        (Some(one), None) => Some(one),
+        (None, other) => other,
+    }
 }
 
 /// Whether a call was done.

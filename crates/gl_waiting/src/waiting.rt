@@ -7,9 +7,9 @@ ghost use Rattle.gl_catalog.specs.Manager.{IsLawfulManager, state_of};
 ghost use Rattle.gl_rows.specs.Rows.{name_of};
 ghost use Rattle.gl_waiting.specs.Asking.{Awaits, Begins, BeginsInTurn, Climbs, GoesOn, InTurn, IsInTurn, KeepsLocks, LocksPath, RollsBackTo};
 ghost use Rattle.gl_waiting.specs.Asking.{Serves, ServesRow, TimesOut, TriesRowThere, TriesThere, WithdrawsWaiter};
-ghost use Rattle.gl_waiting.specs.Begins.{earliest_of, has_word, is_late, without_first};
-ghost use Rattle.gl_waiting.specs.Ends.{HasNext, IsNext};
-ghost use Rattle.gl_waiting.specs.Waiters.{earliest_until, first_late};
+ghost use Rattle.gl_waiting.specs.Begins.{has_word, is_late, without_first};
+ghost use Rattle.gl_waiting.specs.Ends.{HasNext, IsNext, earliest_time};
+ghost use Rattle.gl_waiting.specs.Waiters.{first_late};
 ghost use Rattle.gl_wakes.specs.Boxes.{verdict_of};
 ghost use Rattle.gl_waiting.specs.Waiting.{delivery_in};
 ghost use Rattle.gl_waiting.specs.declared.waiter.Place.TheVariants.{Empty as empty};
@@ -236,7 +236,7 @@ impl Waiting {
     pub fn has_next(&self) -> bool
         ensures { HasNext self.now result }
     {
-        self.table.next().is_some()
+        self.table.has_next()
     }
 
     /// Continues the waiter of the lowest slot whose wait is over, by one command at most, with its notices put into an
@@ -267,11 +267,11 @@ impl Waiting {
         self.table.first_late(now)
     }
 
-    /// The earliest time at which a wait ends; `None` if none has one.
-    pub fn earliest_wait(&self) -> Option<u64>
-        ensures { result ≡ earliest_until self.now.places }
+    /// The earliest time at which a wait ends, for a lock or for a slot; `None` if none has one.
+    pub fn earliest_time(&self) -> Option<u64>
+        ensures { result ≡ earliest_time self.now }
     {
-        self.table.earliest_wait()
+        self.table.earliest_time()
     }
 
     /// Begins a transaction, for new work or for work since an earlier begin. It is refused while others wait for a slot,
@@ -312,12 +312,5 @@ impl Waiting {
         ensures rest { self.new ≡ record self.old { queue = without_first (is_late now) self.old.queue } }
     {
         self.table.take_late_begin(now)
-    }
-
-    /// The earliest time at which a begin ends that waits for a slot; `None` if none has one.
-    pub fn earliest_begin(&self) -> Option<u64>
-        ensures { result ≡ earliest_of self.now.queue }
-    {
-        self.table.earliest_begin()
     }
 }

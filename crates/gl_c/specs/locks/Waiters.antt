@@ -6,9 +6,9 @@ use Rattle.gl_model.specs.declared.txn.TxnId.{TxnId}
 use Rattle.gl_steps.specs.declared.command.Answer.TheVariants as answer
 use Rattle.gl_catalog.specs.Paths.{intention}
 use Rattle.gl_waiting.specs.Asking.{Awaits, Climbs, GoesOn, InTurn, TimesOut, WithdrawsWaiter}
-use Rattle.gl_waiting.specs.Ends.{HasNext, IsNext}
+use Rattle.gl_waiting.specs.Ends.{HasNext, IsNext, earliest_time}
 use Rattle.gl_waiting.specs.Resting.{Rouses}
-use Rattle.gl_waiting.specs.Waiters.{earliest_until, first_late, node_in}
+use Rattle.gl_waiting.specs.Waiters.{first_late, node_in}
 use Rattle.gl_waiting.specs.declared.keys.RowKeys.{RowKeys}
 use Rattle.gl_waiting.specs.declared.waiter.Came.{Came}
 use Rattle.gl_waiting.specs.declared.waiter.Came.TheVariants as came
@@ -209,7 +209,7 @@ abbrev pub FindsWaitLate : Option GuardedView → ℕ → Reply → Option Guard
 FindsWaitLate None now r s' = Declines None no_manager r s'
 FindsWaitLate (Some g) now r s' = (r ≡ txn_reply (first_late now g.places)) × (s' ≡ Some g)
 
--- the reply with the earliest time at which a wait ends
+-- the reply with the earliest time at which a wait ends, for a lock or for a slot
 abbrev pub time_reply : Option ℕ → Reply
 time_reply (Some n) = count_reply n
 time_reply None = status_reply no_place
@@ -217,4 +217,4 @@ time_reply None = status_reply no_place
 -- a question for that time: nothing changes
 abbrev pub FindsTime : Option GuardedView → Reply → Option GuardedView → Type 0
 FindsTime None r s' = Declines None no_manager r s'
-FindsTime (Some g) r s' = (r ≡ time_reply (earliest_until g.places)) × (s' ≡ Some g)
+FindsTime (Some g) r s' = (r ≡ time_reply (earliest_time (waiting_in g))) × (s' ≡ Some g)

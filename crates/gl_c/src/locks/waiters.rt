@@ -224,10 +224,10 @@ pub extern "C" fn bs_call_first_late(manager: &mut Handle, now: u64) -> Reply
     manager.first_late(now)
 }
 
-/// The earliest time at which a wait ends. `BS_NO_PLACE` if none has one.
+/// The earliest time at which a wait ends, for a lock or for a slot. `BS_NO_PLACE` if none has one.
 #[unsafe(no_mangle)]
-pub extern "C" fn bs_call_earliest_wait(manager: &mut Handle) -> Reply
+pub extern "C" fn bs_call_earliest_time(manager: &mut Handle) -> Reply
     ensures { FindsTime (guarded_in manager.old) result (guarded_in manager.new) }
 {
-    manager.earliest_wait()
+    manager.earliest_time()
 }

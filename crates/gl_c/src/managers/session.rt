@@ -19,11 +19,12 @@ ghost use Rattle.gl_c.specs.locks.Tries.{tried_path_call, tried_row_call};
 ghost use Rattle.gl_c.specs.locks.Turns.{begun_reply, found_reply, turn_call, word_reply};
 ghost use Rattle.gl_c.specs.locks.Verdicts.{verdict_reply};
 ghost use Rattle.gl_c.specs.locks.Waiters.{AwaitsThere, ClimbsThere, LooksNext, WithdrawsThere, late_call, on_call, time_reply, txn_reply};
-ghost use Rattle.gl_waiting.specs.Waiters.{earliest_until, first_late};
+ghost use Rattle.gl_waiting.specs.Ends.{earliest_time};
+ghost use Rattle.gl_waiting.specs.Waiters.{first_late};
 ghost use Rattle.gl_waiting.specs.Begins.{has_word, is_late, without_first};
 ghost use Rattle.std.specs.List.{find, list_any};
 ghost use Rattle.gl_c.specs.watchers.Watching.{OnlyShows};
-ghost use Rattle.gl_c.specs.managers.Guarded.{GuardedView};
+ghost use Rattle.gl_c.specs.managers.Guarded.{GuardedView, waiting_in};
 ghost use Rattle.gl_c.specs.managers.Session.{IsIdle, guarded_of};
 
 use crate::answers::notices::Notices;
@@ -328,11 +329,11 @@ impl Session {
         Reply::of_txn(self.guarded.first_late(now))
     }
 
-    /// The earliest time at which a wait ends.
-    pub(crate) fn earliest_wait(&self) -> Reply
-        ensures { result ≡ time_reply (earliest_until self.now.places) }
+    /// The earliest time at which a wait ends, for a lock or for a slot.
+    pub(crate) fn earliest_time(&self) -> Reply
+        ensures { result ≡ time_reply (earliest_time (waiting_in self.now)) }
     {
-        Reply::of_time(self.guarded.earliest_wait())
+        Reply::of_time(self.guarded.earliest_time())
     }
 
     /// Takes the first of the begins that were handed on.

@@ -2,8 +2,8 @@
 
 ghost use Rattle.std.specs.Prelude.{◌≡◌, []};
 ghost use Rattle.gl_waiting.specs.Asking.{Awaits, Climbs, WithdrawsWaiter};
-ghost use Rattle.gl_waiting.specs.Ends.{IsNext};
-ghost use Rattle.gl_waiting.specs.Waiters.{earliest_until, first_late};
+ghost use Rattle.gl_waiting.specs.Ends.{IsNext, earliest_time};
+ghost use Rattle.gl_waiting.specs.Waiters.{first_late};
 ghost use Rattle.gl_c.specs.locks.Waiters.{late_call, on_call, on_slot};
 ghost use Rattle.gl_c.specs.managers.Carries.{Performs};
 ghost use Rattle.gl_c.specs.managers.Guarded.{waiting_in};
@@ -94,11 +94,11 @@ impl Guarded {
         self.waiting.first_late(now)
     }
 
-    /// The earliest time at which a wait ends; `None` if none has one.
-    pub(crate) fn earliest_wait(&self) -> Option<u64>
-        ensures { result ≡ earliest_until self.now.places }
+    /// The earliest time at which a wait ends, for a lock or for a slot; `None` if none has one.
+    pub(crate) fn earliest_time(&self) -> Option<u64>
+        ensures { result ≡ earliest_time (waiting_in self.now) }
     {
-        self.waiting.earliest_wait()
+        self.waiting.earliest_time()
     }
 }
 

@@ -428,15 +428,15 @@ impl Handle {
         reply
     }
 
-    /// The earliest time at which a wait ends.
-    pub(crate) fn earliest_wait(&mut self) -> Reply
+    /// The earliest time at which a wait ends, for a lock or for a slot.
+    pub(crate) fn earliest_time(&mut self) -> Reply
         ensures { FindsTime (guarded_in self.old) result (guarded_in self.new) }
     {
         let alloc = self.alloc;
         let Some(session) = self.take() else {
             return Reply::with_status(NO_MANAGER);
         };
-        let reply = session.earliest_wait();
+        let reply = session.earliest_time();
         *self = Handle::of(alloc, session);
         reply
     }
