@@ -3,8 +3,8 @@
 //! - the archives that `BURLAPSLATE_LIBS` names, with the separator of PATH between them;
 //! - the folder that `BURLAPSLATE_DIR` names from `/` on: the PREFIX of `tools/install.sh`, or its `lib`;
 //! - the installation that `pkg-config` knows, of this crate's version;
-//! - the repository, if the crate is in it: `tools/c_library.sh` builds the library if it is missing or
-//!   old.
+//! - the repository, if the crate is in it, and if `tools/c_library.sh` has built the library. A build of the
+//!   crate never builds it: that proves it first, which takes up to an hour.
 //!
 //! `BURLAPSLATE_SLOTS` says how many slots it has, or else the header of the library.
 
@@ -12,7 +12,7 @@ use std::env;
 use std::ffi::OsString;
 use std::fs;
 use std::path::{Path, PathBuf};
-use std::process::{Command, Stdio};
+use std::process::{Command, Output, Stdio};
 
 const ARCHIVES: &str = "BURLAPSLATE_LIBS";
 const FOLDER: &str = "BURLAPSLATE_DIR";
@@ -128,10 +128,13 @@ fn archives_of_repository() -> Option<Vec<PathBuf>> {
     }
     println!("cargo:rerun-if-changed={}", script.display());
     println!("cargo:rerun-if-changed={}", top.join("crates").display());
-    let output = Command::new(&script)
-        .stderr(Stdio::inherit())
-        .output()
-        .unwrap_or_else(|error| panic!("{} does not run: {error}", script.display()));
+    assert!(
+        ran(Command::new(&script).arg("--look")).status.success(),
+        "the library is not built, or older than its sources: run {}, which proves it, or name another in \
+         {ARCHIVES} or {FOLDER}",
+        script.display()
+    );
+    let output = ran(&mut Command::new(&script));
     assert!(
         output.status.success(),
         "{} failed; see above, or name the library in {ARCHIVES} or {FOLDER}",
@@ -139,6 +142,13 @@ fn archives_of_repository() -> Option<Vec<PathBuf>> {
     );
     let printed = String::from_utf8(output.stdout).expect("a path is not UTF-8");
     Some(printed.lines().map(PathBuf::from).collect())
+}
+
+/// What a program printed, and how it ended.
+fn ran(program: &mut Command) -> Output {
+    let shown = format!("{program:?}");
+    let ran = program.stderr(Stdio::inherit()).output();
+    ran.unwrap_or_else(|error| panic!("{shown} does not run: {error}"))
 }
 
 /// Links an archive `libNAME.a`, which is made part of the crate.
