@@ -75,18 +75,17 @@
 //!
 //! # Memory
 //!
-//! Calls that end or release something take no memory and cannot fail for lack of it:
-//! [`unlock`](Manager::unlock), [`cancel`](Manager::cancel), [`commit`](Manager::commit),
-//! [`abort`](Manager::abort), [`settle`](Manager::settle), [`delete`](Manager::delete),
-//! [`rekey`](Manager::rekey), [`escalate`](Manager::escalate), of nodes and of rows. The others are
-//! refused with [`Refusal::NoMemory`] if the allocator refuses, and can be made again. Beside the library's
+//! Calls that end or release something take no memory and cannot fail for lack of it: [`unlock`](Manager::unlock),
+//! [`cancel`](Manager::cancel), [`commit`](Manager::commit), [`abort`](Manager::abort), [`settle`](Manager::settle),
+//! [`delete`](Manager::delete), [`rekey`](Manager::rekey), [`escalate`](Manager::escalate), of nodes and of rows. The
+//! others are refused with [`Refusal::NoMemory`] if the allocator refuses, and can be made again. Beside the library's
 //! memory a manager takes 40 bytes for each slot when it is made, for the notices, and a table 56, for the waits of
-//! futures; and none afterwards. But a list of tries takes some for the list, a begin of a future that waits for
-//! itself, a function of [`Table::on_long_wait`] for itself and its thread, and a try of a path that keeps nothing for
-//! the nodes that it acquires.
+//! futures; and none afterwards. But a list of tries takes some for the list, [`Answers`] for a list of commands that
+//! is longer than those before it, a begin of a future that waits for itself, a function of [`Table::on_long_wait`]
+//! for itself and its thread, and a try of a path that keeps nothing for the nodes that it acquires.
 //!
-//! With 1,024 slots, making a manager takes three megabytes of stack, and reading a board 0.7: more than a thread has by
-//! default ([`std::thread::Builder::stack_size`]).
+//! With 1,024 slots, making a manager takes three megabytes of stack, and reading a board 0.7: more than a thread has
+//! by default ([`std::thread::Builder::stack_size`]).
 //!
 //! # The library
 //!
@@ -101,8 +100,10 @@
 #![deny(unsafe_code)] // But for `sys`.
 #![deny(clippy::undocumented_unsafe_blocks)]
 
+mod answers;
 mod board;
 mod clock;
+mod list;
 mod listing;
 mod manager;
 mod mode;
@@ -116,7 +117,9 @@ mod sys;
 mod table;
 mod watcher;
 
+pub use answers::Answers;
 pub use board::{Board, SlotIter, Slots};
+pub use list::{Do, Done, Halt, Named, NamedRow};
 pub use listing::{Counters, Deadlock, Doing, Listing, LockRow, Stuck, TxnRow, Waiter};
 pub use manager::{Asked, Escalated, Manager, Mark, Options, Reached, RowAsked, Wait};
 pub use mode::{Detect, Kind, Mode, Victims};
@@ -124,7 +127,7 @@ pub use names::{Node, Row, Txn};
 pub use notices::{Notice, Notices};
 pub use refusal::Refusal;
 pub use resting::Resting;
-pub use session::{Keep, RowLocked, Session, Stop, Taken, Tried, Try};
+pub use session::{Keep, RowLocked, Session, Stop, Taken, Tried, Try, Unfinished};
 pub use table::{Awaited, AwaitedNode, Blocker, Histogram, LongWait, Table, Told, WaitEnd, Waits};
 pub use watcher::Watcher;
 

@@ -1,7 +1,9 @@
 //! What the transactions of a thread keep for the next.
 
+use crate::answers::Answers;
+use crate::list::Do;
 use crate::refusal::{accepted, Refusal};
-use crate::session::{Handle, Session};
+use crate::session::{run_whole, Handle, Session, Unfinished};
 use crate::sys::shared::{self, Calling, Kept};
 use std::fmt;
 
@@ -36,7 +38,42 @@ impl<'t> Resting<'t> {
         let mut kept = self.kept;
         let reply = accepted(shared::session_begin(&self.call(), &mut kept))?;
         self.kept = Kept::NOTHING;
-        Ok(Session::with_kept(self.table.clone(), reply.txn, kept))
+        Ok(Session::with_kept(
+            self.table.clone(),
+            reply.txn,
+            kept.count,
+        ))
+    }
+
+    /// Makes a whole transaction of a list, in one critical section: it begins the thread's next transaction, which
+    /// holds what is kept, makes the list as [`Session::run`], and commits as [`Session::rest`] with the same `most`.
+    /// If the list stops, or the commit is refused, the transaction lives on in the session that is given back, and
+    /// has what was kept: then this keeps nothing, and its next transaction begins without.
+    ///
+    /// Refused as [`Table::run`](crate::Table::run). What is kept stays if there is no memory for the list, and after
+    /// [`InUse`](Refusal::InUse); after any other refusal nothing is kept any more.
+    ///
+    /// ```
+    /// # use burlapslate::{Answers, Detect, Do, Mode, Table, SLOTS};
+    /// # let table = Table::new(Detect::AtBlock, SLOTS)?;
+    /// # let db = table.add_inner(&[])?;
+    /// # let file = table.add_row_file(&[db])?;
+    /// # let row = |number| burlapslate::Row { file, number }.into();
+    /// let mut answers = Answers::new();
+    /// let mut resting = table.begin()?.rest(16)?;
+    /// for number in 0..3 {
+    ///     let writes = [Do::LockRowPath(row(number), &[], Mode::X)];
+    ///     resting.run(&writes, &mut answers)?.unwrap();
+    /// }
+    /// assert_eq!(table.with(|m| m.group(file)), Ok(Mode::IX)); // It is kept for the next one.
+    /// # Ok::<(), burlapslate::Refusal>(())
+    /// ```
+    pub fn run(
+        &mut self,
+        list: &[Do<'_>],
+        answers: &mut Answers,
+    ) -> Result<Result<(), Unfinished<'t>>, Refusal> {
+        run_whole(&self.table, &mut self.kept, list, answers)
     }
 }
 

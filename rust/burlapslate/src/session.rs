@@ -5,7 +5,8 @@ use crate::mode::Mode;
 use crate::names::{Node, Row, Txn};
 use crate::refusal::{accepted, done, Refusal};
 use crate::resting::Resting;
-use crate::sys::shared::{self, Calling, Command, Kept};
+use crate::sys::commands::{self, Command};
+use crate::sys::shared::{self, Calling, Kept};
 use crate::sys::{self, Reply};
 use crate::table::{node_of, Locking, Sought, Table};
 use std::error::Error;
@@ -94,7 +95,7 @@ impl RowLocked {
     }
 
     /// The mode in which it is held.
-    fn mode(self) -> Mode {
+    pub(crate) fn mode(self) -> Mode {
         match self {
             RowLocked::Own(mode) | RowLocked::OtherKeys(mode) => mode,
         }
@@ -144,7 +145,7 @@ pub enum Keep {
 }
 
 impl Keep {
-    fn as_number(self) -> u32 {
+    pub(crate) fn as_number(self) -> u32 {
         match self {
             Keep::Nothing => shared::KEEP_NOTHING,
             Keep::Way => shared::KEEP_WAY,
@@ -196,19 +197,28 @@ pub enum Try<'a> {
 impl<'a> Try<'a> {
     /// As a command of a transaction.
     fn command(&self, txn: Txn) -> Command<'a> {
+        let mut command = Command::new(commands::TRY, txn);
         match *self {
-            Try::Node { node, mode } => Command::try_node(txn, node, mode as u32),
+            Try::Node { node, mode } => command.node(node).mode(mode as u32),
             Try::Path { node, mode, keep } => {
-                Command::try_path(txn, node, mode as u32, keep.as_number())
+                let tried = command.of(commands::TRY_PATH, txn).node(node);
+                tried.mode(mode as u32).keep(keep.as_number())
             }
-            Try::Row { row, keys, mode } => Command::try_row(txn, row, keys, mode as u32),
+            Try::Row { row, keys, mode } => {
+                let tried = command.of(commands::TRY_ROW, txn).row(row).keys(keys);
+                tried.mode(mode as u32)
+            }
             Try::RowPath {
                 row,
                 keys,
                 mode,
                 keep,
-            } => Command::try_row_path(txn, row, keys, mode as u32, keep.as_number()),
-        }
+            } => {
+                let tried = command.of(commands::TRY_ROW_PATH, txn).row(row).keys(keys);
+                tried.mode(mode as u32).keep(keep.as_number())
+            }
+        };
+        command
     }
 }
 
@@ -244,8 +254,8 @@ pub struct Session<'t> {
     has_ended: bool,
     /// The deadline of each of its waits.
     deadline: Option<Instant>,
-    /// What it has from the transaction before it.
-    kept: Kept,
+    /// How many locks it has from the transaction before it.
+    kept: u32,
 }
 
 /// How a session has its table: borrowed, or as one of its owners.
@@ -279,11 +289,11 @@ impl<'t> Session<'t> {
     }
 
     fn over(table: Handle<'t>, txn: Txn) -> Session<'t> {
-        Session::with_kept(table, txn, Kept::NOTHING)
+        Session::with_kept(table, txn, 0)
     }
 
-    /// With what the transaction before it has kept.
-    pub(crate) fn with_kept(table: Handle<'t>, txn: Txn, kept: Kept) -> Session<'t> {
+    /// With so many locks that the transaction before it has kept.
+    pub(crate) fn with_kept(table: Handle<'t>, txn: Txn, kept: u32) -> Session<'t> {
         Session {
             table,
             txn,
@@ -766,12 +776,12 @@ impl<'t> Session<'t> {
     /// # Ok::<(), burlapslate::Refusal>(())
     /// ```
     pub fn try_first(&mut self, tries: &[Try<'_>]) -> Result<Option<Taken>, Refusal> {
-        let mut commands = Vec::new();
-        let room = commands.try_reserve_exact(tries.len());
+        let mut list = Vec::new();
+        let room = list.try_reserve_exact(tries.len());
         room.map_err(|_refused| Refusal::NoMemory)?;
-        commands.extend(tries.iter().map(|each| each.command(self.txn)));
-        let place = shared::try_first(&self.call(), &mut commands);
-        let Some(Command { reply, .. }) = commands.get(place) else {
+        list.extend(tries.iter().map(|each| each.command(self.txn)));
+        let place = commands::try_first(&self.call(), &mut list);
+        let Some(Command { reply, .. }) = list.get(place) else {
             return Ok(None);
         };
         match RowLocked::of(reply) {
@@ -941,14 +951,20 @@ impl<'t> Session<'t> {
     /// # Ok::<(), Stop>(())
     /// ```
     pub fn rest(mut self, most: usize) -> Result<Resting<'t>, Refusal> {
-        let mut kept = Kept {
-            txn: self.txn,
-            most: u32::try_from(most).unwrap_or(u32::MAX),
-            ..self.kept
-        };
+        let mut kept = self.keeping(most);
         accepted(shared::session_commit(&self.call(), &mut kept))?;
         self.has_ended = true;
         Ok(Resting::of(self.table.clone(), kept))
+    }
+
+    /// For a commit that keeps so many locks.
+    fn keeping(&self, most: usize) -> Kept {
+        Kept {
+            txn: self.txn,
+            most: u32::try_from(most).unwrap_or(u32::MAX),
+            count: self.kept,
+            ..Kept::NOTHING
+        }
     }
 
     /// Aborts. A session that is dropped does the same.
@@ -985,3 +1001,8 @@ impl fmt::Debug for Session<'_> {
 pub(crate) fn deadline(time: Duration) -> Option<Instant> {
     Instant::now().checked_add(time)
 }
+
+mod lists;
+
+pub(crate) use lists::run_whole;
+pub use lists::Unfinished;

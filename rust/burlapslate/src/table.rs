@@ -462,4 +462,5 @@ impl fmt::Debug for Table {
 
 mod asks;
 mod begins;
+mod lists;
 mod running;

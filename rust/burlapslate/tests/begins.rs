@@ -213,7 +213,7 @@ fn a_waker_drops_a_future() {
         let holder = table.begin().unwrap();
         let own = Arc::clone(&table);
         let mut dropped: Pin<Box<dyn Future<Output = ()> + Send>> = Box::pin(async move {
-            own.begin_shared_async().await.unwrap();
+            drop(own.begin_shared_async().await.unwrap());
         });
         let drops = Arc::new(Drops(Mutex::new(None)));
         let mut first = Box::pin(table.begin_async());

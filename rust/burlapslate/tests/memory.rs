@@ -10,8 +10,8 @@ mod common;
 mod tasks;
 
 use burlapslate::{
-    Detect, Keep, Manager, Mode, Node, Notice, Refusal, Row, RowAsked, RowLocked, Session, Stop,
-    Table, Taken, Tried, Try, Txn, SLOTS,
+    Answers, Detect, Do, Done, Halt, Keep, Manager, Mode, Node, Notice, Refusal, Row, RowAsked,
+    RowLocked, Session, Stop, Table, Taken, Tried, Try, Txn, SLOTS,
 };
 use common::{at_block, begin, grant, manager, store, wait};
 use std::cell::Cell;
@@ -197,6 +197,70 @@ fn a_list_that_is_not_made() {
     let locked = RowLocked::Own(mode);
     let taken = session.try_first(&tries);
     assert_eq!(taken, Ok(Some(Taken { place: 0, locked })));
+}
+
+/// A list of commands takes all its memory before the first of them, and none for one that is no longer than another
+/// before it.
+#[test]
+fn a_list_takes_its_memory_first() {
+    let table = Table::new(Detect::AtBlock, SLOTS).unwrap();
+    let node = table.add_inner(&[]).unwrap();
+    let mut session = table.begin().unwrap();
+    let parents = [node.into()];
+    let list = [
+        Do::Unlock(node.into()),
+        Do::Lock(node.into(), Mode::S),
+        Do::AddInner(&parents),
+    ];
+    let mut answers = Answers::new();
+    for n in 1..=3 {
+        session.lock(node, Mode::S).unwrap();
+        let (halt, left) = refusing(Refused::Nth(n), || session.run(&list, &mut answers));
+        assert_eq!(halt, Err(Halt::from(Refusal::NoMemory)));
+        assert_eq!((answers.len(), left), (0, Refused::None));
+        assert_eq!(table.with(|m| (m.group(node), m.len())), (Ok(Mode::S), 1));
+        answers = Answers::new();
+    }
+    assert_eq!(session.run(&list, &mut answers), Ok(()));
+    let shorter = [Do::Lock(node.into(), Mode::X), Do::Unlock(node.into())];
+    let stops = [
+        Do::Lock(node.into(), Mode::S),
+        Do::Delete(node.into()),
+        list[2],
+    ];
+    for _ in 0..2 {
+        let halt = without_memory(|| session.run(&stops, &mut answers));
+        assert_eq!(halt, Err(Halt::from(Refusal::BadParents))); // Before what names parents.
+    }
+    let end = without_memory(|| session.run(&shorter, &mut answers));
+    assert_eq!(end, Ok(()));
+    assert_eq!(*answers, [Done::Locked(Mode::X), Done::Accepted]);
+    let end = without_memory(|| session.run_and_commit(&shorter[..0], &mut answers).is_ok());
+    assert!(end);
+}
+
+/// A whole transaction for whose list there is no memory does not begin, and what rests before it rests on.
+#[test]
+fn a_whole_list_that_is_not_made() {
+    let table = Table::new(Detect::AtBlock, SLOTS).unwrap();
+    let node = table.add_inner(&[]).unwrap();
+    let mut session = table.begin().unwrap();
+    session.lock(node, Mode::IX).unwrap();
+    let mut resting = session.rest(16).unwrap();
+    let mut answers = Answers::new();
+    let list = [Do::Lock(node.into(), Mode::IX)];
+    for _ in 0..2 {
+        let ran = without_memory(|| resting.run(&list, &mut answers).map(drop));
+        assert_eq!(ran, Err(Refusal::NoMemory));
+        let ran = without_memory(|| table.run(&list, &mut answers).map(drop));
+        assert_eq!(ran, Err(Refusal::NoMemory));
+        assert_eq!(table.with(|m| m.group(node)), Ok(Mode::IX));
+        assert_eq!(table.with(|m| m.transactions().count()), 1);
+    }
+    assert!(resting.run(&list, &mut answers).unwrap().is_ok());
+    let ran = without_memory(|| resting.run(&list, &mut answers).map(|ran| ran.is_ok()));
+    assert_eq!(ran, Ok(true));
+    assert_eq!(table.with(|m| m.group(node)), Ok(Mode::IX));
 }
 
 /// Watchers that are made or not leave nothing behind.

@@ -53,11 +53,11 @@ fn a_savepoint_keeps_what_was_had() {
     let root = m.add_inner(&[]).unwrap();
     let [first, second] = [(); 2].map(|()| m.add_file(&[root]).unwrap());
     let (a, b) = (m.begin().unwrap(), m.begin().unwrap());
-    m.lock_path(a, first, Mode::S).unwrap();
+    let _ = m.lock_path(a, first, Mode::S).unwrap();
     let mark = m.mark(a).unwrap();
-    m.lock_path(a, second, Mode::X).unwrap();
-    m.lock_path(a, first, Mode::X).unwrap();
-    m.lock_path(b, second, Mode::S).unwrap();
+    let _ = m.lock_path(a, second, Mode::X).unwrap();
+    let _ = m.lock_path(a, first, Mode::X).unwrap();
+    let _ = m.lock_path(b, second, Mode::S).unwrap();
     let (released, told) = m.release_since(a, mark).unwrap();
     assert_eq!(released, 1);
     let granted = Notice::Granted {
@@ -70,7 +70,7 @@ fn a_savepoint_keeps_what_was_had() {
     assert_eq!(m.held(a, root), Ok(Mode::IX));
     let (released, told) = m.release_since(a, mark).unwrap();
     assert!(released == 0 && told.is_empty());
-    m.commit(b).unwrap();
+    assert!(m.commit(b).unwrap().is_empty());
     assert_eq!(m.mark(b).unwrap_err(), Refusal::NoSuchTxn);
     assert_eq!(
         m.release_since(b, mark).map(|(n, _)| n),

@@ -134,7 +134,7 @@ fn is_victim_to(m: &mut Manager, root: Node, victim: Txn, stays: Txn) {
         mode: Mode::X,
     };
     tells(m.abort(victim).unwrap(), &[granted]);
-    m.commit(stays).unwrap();
+    nobody(m.commit(stays).unwrap());
 }
 
 /// Who falls is the one whose work began last; of one begin the younger falls.
@@ -142,7 +142,7 @@ fn is_victim_to(m: &mut Manager, root: Node, victim: Txn, stays: Txn) {
 fn a_victim_keeps_its_turn() {
     let (mut m, root) = at_block();
     let [first] = begin(&mut m);
-    m.abort(first).unwrap();
+    nobody(m.abort(first).unwrap());
     for since in [first.age(), 0] {
         let [other] = begin(&mut m);
         let again = m.begin_again(since).unwrap();

@@ -35,6 +35,14 @@ unsafe extern "C" {
         until: Until<'_>,
         word: usize,
     ) -> Reply;
+    safe fn bs_table_ask_await(
+        table: &Shared,
+        txn: Txn,
+        node: Node,
+        mode: u32,
+        until: Until<'_>,
+        word: usize,
+    ) -> Reply;
     safe fn bs_table_ask_path(
         table: &Shared,
         txn: Txn,
@@ -91,6 +99,8 @@ pub(crate) enum Sought<'k> {
     Row(Row, &'k [u64], u32),
     /// A row, with its keys and what must be held above it.
     RowPath(Row, &'k [u64], u32),
+    /// What a list requested and left waiting for this node.
+    Left(Node, u32),
 }
 
 impl Waits {
@@ -123,6 +133,7 @@ impl Waits {
         let reply = match sought {
             Sought::Node(node, mode) => bs_table_ask(table, txn, node, mode, until, word),
             Sought::Path(node, mode) => bs_table_ask_path(table, txn, node, mode, until, word),
+            Sought::Left(node, mode) => bs_table_ask_await(table, txn, node, mode, until, word),
             Sought::Row(row, keys, mode) | Sought::RowPath(row, keys, mode) => {
                 let (Row { file, number }, start) = (row, numbers(keys));
                 let ask = match sought {

@@ -1,5 +1,6 @@
 //! The calls with a table that threads share, as `include/burlapslate_shared.h`, `include/burlapslate_rows.h` and
-//! `include/burlapslate_session.h` declare them. The asks are in [`awaited`](super::awaited).
+//! `include/burlapslate_session.h` declare them. The asks are in [`awaited`](super::awaited), and the lists in
+//! [`commands`](super::commands).
 //!
 //! Any thread may make any call with a table, so these take it by `&`. A [`Table`] is freed when its owner drops it, and
 //! no thread is in a call then, because each call borrows it.
@@ -15,11 +16,10 @@ use crate::refusal::{accepted, Refusal};
 use crate::session::Ended;
 use crate::SLOTS;
 use std::cell::UnsafeCell;
-use std::marker::PhantomData;
 use std::mem::ManuallyDrop;
 use std::ops::Deref;
 use std::panic::{RefUnwindSafe, UnwindSafe};
-use std::ptr::{null, null_mut, NonNull};
+use std::ptr::{null_mut, NonNull};
 use std::sync::{Arc, OnceLock};
 use std::task::{Poll, Waker};
 use std::thread;
@@ -30,11 +30,6 @@ pub(crate) const INSTANT: u32 = 256;
 /// What a failed try of a path keeps.
 pub(crate) const KEEP_NOTHING: u32 = 0;
 pub(crate) const KEEP_WAY: u32 = 1;
-
-const DO_TRY: u32 = 4;
-const DO_TRY_PATH: u32 = 26;
-const DO_TRY_ROW: u32 = 27;
-const DO_TRY_ROW_PATH: u32 = 32;
 
 /// `bs_table`, which callers know by its address alone.
 #[repr(C)]
@@ -53,97 +48,9 @@ pub(crate) struct Time {
     pub(crate) nanoseconds: i64,
 }
 
-/// `bs_command`, of those that are tries. The keys of a row outlive it.
-#[repr(C)]
-pub(crate) struct Command<'k> {
-    kind: u32,
-    mode: u32,
-    txn: Txn,
-    node: Node,
-    file: Node,
-    index: Node,
-    number: u64,
-    key: u64,
-    keys: *const u64,
-    key_count: usize,
-    parents: *const Node,
-    parent_count: usize,
-    bounds: *const u64,
-    bound_count: usize,
-    told: *mut Notices,
-    keep: u32,
-    pub(crate) reply: Reply,
-    _keys: PhantomData<&'k [u64]>,
-}
-
-impl<'k> Command<'k> {
-    /// With all other fields zero.
-    fn new(kind: u32, txn: Txn, mode: u32) -> Command<'k> {
-        Command {
-            kind,
-            mode,
-            txn,
-            node: Node::NONE,
-            file: Node::NONE,
-            index: Node::NONE,
-            number: 0,
-            key: 0,
-            keys: null(),
-            key_count: 0,
-            parents: null(),
-            parent_count: 0,
-            bounds: null(),
-            bound_count: 0,
-            told: null_mut(),
-            keep: KEEP_NOTHING,
-            reply: Reply::with_status(DONE),
-            _keys: PhantomData,
-        }
-    }
-
-    pub(crate) fn try_node(txn: Txn, node: Node, mode: u32) -> Command<'k> {
-        Command {
-            node,
-            ..Command::new(DO_TRY, txn, mode)
-        }
-    }
-
-    pub(crate) fn try_path(txn: Txn, node: Node, mode: u32, keep: u32) -> Command<'k> {
-        Command {
-            node,
-            keep,
-            ..Command::new(DO_TRY_PATH, txn, mode)
-        }
-    }
-
-    pub(crate) fn try_row(txn: Txn, row: Row, keys: &'k [u64], mode: u32) -> Command<'k> {
-        Command {
-            file: row.file,
-            number: row.number,
-            keys: numbers(keys),
-            key_count: keys.len(),
-            ..Command::new(DO_TRY_ROW, txn, mode)
-        }
-    }
-
-    pub(crate) fn try_row_path(
-        txn: Txn,
-        row: Row,
-        keys: &'k [u64],
-        mode: u32,
-        keep: u32,
-    ) -> Command<'k> {
-        Command {
-            kind: DO_TRY_ROW_PATH,
-            keep,
-            ..Command::try_row(txn, row, keys, mode)
-        }
-    }
-}
-
 /// `bs_session`, within a call.
 #[repr(C)]
-struct SessionPlace<'t> {
+pub(super) struct SessionPlace<'t> {
     table: &'t Shared,
     kept: Kept,
 }
@@ -166,6 +73,14 @@ impl Kept {
         most: 0,
         count: 0,
     };
+
+    /// Nothing, for a session that keeps as much.
+    pub(crate) fn most_alone(&self) -> Kept {
+        Kept {
+            most: self.most,
+            ..Kept::NOTHING
+        }
+    }
 }
 
 /// Where a call writes whom it notified; `None` if its caller does not ask.
@@ -220,6 +135,13 @@ unsafe extern "C" {
         mode: u32,
         until: Until<'_>,
     ) -> Reply;
+    pub(crate) safe fn bs_table_await(
+        table: &Shared,
+        txn: Txn,
+        node: Node,
+        mode: u32,
+        until: Until<'_>,
+    ) -> Reply;
     pub(crate) safe fn bs_table_try(table: &Shared, txn: Txn, node: Node, mode: u32) -> Reply;
     pub(crate) safe fn bs_table_try_path(
         table: &Shared,
@@ -228,7 +150,6 @@ unsafe extern "C" {
         mode: u32,
         keep: u32,
     ) -> Reply;
-    fn bs_table_try_first(table: &Shared, commands: *mut Command<'_>, count: usize) -> usize;
     pub(crate) safe fn bs_table_unlock(
         table: &Shared,
         txn: Txn,
@@ -581,13 +502,7 @@ pub(crate) fn insert(table: &Shared, txn: Txn, file: Node, keys: &[u64]) -> Repl
     unsafe { bs_table_insert(table, txn, file, numbers(keys), keys.len()) }
 }
 
-pub(crate) fn insert_path(
-    table: &Shared,
-    txn: Txn,
-    file: Node,
-    keys: &[u64],
-    keep: u32,
-) -> Reply {
+pub(crate) fn insert_path(table: &Shared, txn: Txn, file: Node, keys: &[u64], keep: u32) -> Reply {
     // SAFETY: the count is the list's own.
     unsafe { bs_table_insert_path(table, txn, file, numbers(keys), keys.len(), keep) }
 }
@@ -648,15 +563,15 @@ pub(crate) fn try_row_path(
 }
 
 /// Makes a call of a session.
-fn in_session(
+pub(super) fn in_session<T>(
     table: &Shared,
     kept: &mut Kept,
-    call: impl FnOnce(&mut SessionPlace<'_>) -> Reply,
-) -> Reply {
+    call: impl FnOnce(&mut SessionPlace<'_>) -> T,
+) -> T {
     let mut place = SessionPlace { table, kept: *kept };
-    let reply = call(&mut place);
+    let answer = call(&mut place);
     *kept = place.kept;
-    reply
+    answer
 }
 
 /// Begins the next transaction of a session.
@@ -674,12 +589,6 @@ pub(crate) fn session_end(table: &Shared, kept: &mut Kept) -> Reply {
     in_session(table, kept, |session| bs_session_end(session))
 }
 
-/// The place of the first try that is not passed over, or how many there are.
-pub(crate) fn try_first(table: &Shared, tries: &mut [Command<'_>]) -> usize {
-    // SAFETY: the count is the list's own, and so is that of the keys of each, which outlive it.
-    unsafe { bs_table_try_first(table, tries.as_mut_ptr(), tries.len()) }
-}
-
 /// The layouts of the header's types, by a C compiler for machines of 64 bits.
 #[cfg(all(test, target_pointer_width = "64"))]
 mod layouts {
@@ -692,19 +601,5 @@ mod layouts {
         assert_eq!(size_of::<Time>(), 16);
         assert_eq!(offset_of!(Time, nanoseconds), 8);
         assert_eq!(size_of::<Option<&Time>>(), 8);
-    }
-
-    #[test]
-    fn commands() {
-        assert_eq!((size_of::<Command>(), align_of::<Command>()), (216, 8));
-        assert_eq!(offset_of!(Command, txn), 8);
-        assert_eq!(offset_of!(Command, node), 24);
-        assert_eq!(offset_of!(Command, file), 40);
-        assert_eq!(offset_of!(Command, number), 72);
-        assert_eq!(offset_of!(Command, keys), 88);
-        assert_eq!(offset_of!(Command, key_count), 96);
-        assert_eq!(offset_of!(Command, told), 136);
-        assert_eq!(offset_of!(Command, keep), 144);
-        assert_eq!(offset_of!(Command, reply), 152);
     }
 }

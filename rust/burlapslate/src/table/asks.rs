@@ -1,6 +1,7 @@
 //! Locks that may wait: for them a thread sleeps, or a task is woken.
 
 use super::Table;
+use crate::manager::Wait;
 use crate::mode::Mode;
 use crate::names::{Node, Row, Txn};
 use crate::session::{ended, Ended, Stop};
@@ -35,6 +36,10 @@ impl<'k> Sought<'k> {
 
     pub(crate) fn row_path(row: Row, keys: &'k [u64], mode: Mode) -> Sought<'k> {
         Sought::RowPath(row, keys, mode as u32)
+    }
+
+    pub(crate) fn left(wait: Wait) -> Sought<'static> {
+        Sought::Left(wait.node, wait.mode as u32)
     }
 }
 
@@ -126,6 +131,7 @@ impl Table {
         ended(&match sought {
             Sought::Node(node, mode) => shared::bs_table_lock(table, txn, node, mode, until),
             Sought::Path(node, mode) => shared::bs_table_lock_path(table, txn, node, mode, until),
+            Sought::Left(node, mode) => shared::bs_table_await(table, txn, node, mode, until),
             Sought::Row(row, keys, mode) => shared::lock_row(table, txn, row, keys, mode, until),
             Sought::RowPath(row, keys, mode) => {
                 shared::lock_row_path(table, txn, row, keys, mode, until)
