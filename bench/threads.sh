@@ -23,11 +23,9 @@
 #   and below the one interval of its index; each is locked by bs_table_lock_path. Under its lock the row is read, and
 #   written if that is drawn. A victim of a deadlock undoes its writes, aborts, and begins the same transaction again,
 #   whose time runs on. At the end each write must be there. In a session the intentions above the rows are kept.
-# - By numbers: the same by bs_table_lock_row, after a lock of the interval by its path, and for a writer one of the
-#   file.
+# - By numbers: the same by bs_table_lock_row_path, after a lock of the file by its path.
 # - By calls each command is a call. In lists a short transaction is one bs_table_run. Of the others the begin and the
-#   first path are one; by numbers, what is above a row and the row are one, with the begin if it is the first. The
-#   commit is alone, since an engine reads its rows before.
+#   first path are one, by numbers with the first row. The commit is alone, since an engine reads its rows before.
 # - Berkeley DB's records have an intention on the file and on a page of a hundred rows above them; with it a begin is
 #   counted as a command too. In lists a row's three locks, or the four of a short transaction, are one lock_vec. It has
 #   DB_THREAD, a locker for each thread, DB_LOCK_YOUNGEST, and one partition or its default number: the one that makes

@@ -4,6 +4,7 @@
 #include "threads.h"
 #include "ours.h"
 
+#include "burlapslate_rows.h"
 #include "burlapslate_session.h"
 
 static bs_table *table;
@@ -226,51 +227,46 @@ static bool nodes_in_lists(struct worker *worker, const struct touch *touches) {
   return committed(worker, txn);
 }
 
-/* What is above a row is locked by paths: a reader needs one path to it, a writer all. */
+/* A row with what must be held above it: after the first row of its kind that is held already, so the row is all. */
 static bool lock_number(struct worker *worker, bs_txn txn, const struct touch *touch) {
-  bs_mode above = intention_of(touch);
   uint64_t row = touch->row;
-  if (touch->writes) {
-    worker->commands++;
-    if (!is_granted(bs_table_lock_path(table, txn, path[2], above, NULL))) return false;
+  worker->commands++;
+  return is_granted(bs_table_lock_row_path(table, txn, path[2], row, &row, 1, mode_of(touch), NULL));
+}
+
+/* Whether all rows from this one on were touched; otherwise the transaction was a victim, and has ended. */
+static bool touched_numbers(struct worker *worker, bs_txn txn, const struct touch *touches, size_t from) {
+  size_t i;
+  for (i = from; i < TOUCHES; i++) {
+    if (!lock_number(worker, txn, &touches[i])) return ended_as_victim(worker, txn, touches, i);
+    touch_row(&touches[i]);
   }
-  worker->commands += 2;
-  return is_granted(bs_table_lock_path(table, txn, interval, above, NULL)) &&
-         is_granted(bs_table_lock_row(table, txn, path[2], row, &row, 1, mode_of(touch), NULL));
+  return true;
 }
 
 static bool numbers_by_calls(struct worker *worker, const struct touch *touches) {
   bs_txn txn = DONE(bs_table_begin(table)).txn;
-  size_t i;
-  worker->commands++;
-  for (i = 0; i < TOUCHES; i++) {
-    if (!lock_number(worker, txn, &touches[i])) return ended_as_victim(worker, txn, touches, i);
-    touch_row(&touches[i]);
+  worker->commands += 2;
+  if (!is_granted(bs_table_lock_path(table, txn, path[2], intention_of(&touches[0]), NULL))) {
+    return ended_as_victim(worker, txn, touches, 0);
   }
-  return committed(worker, txn);
+  return touched_numbers(worker, txn, touches, 0) && committed(worker, txn);
 }
 
+/* The begin, the path to the file and the first row in one list. */
 static bool numbers_in_lists(struct worker *worker, const struct touch *touches) {
+  const struct touch *first = &touches[0];
+  uint64_t row = first->row;
   bs_txn txn = bs_begun();
-  size_t i;
-  for (i = 0; i < TOUCHES; i++) {
-    const struct touch *touch = &touches[i];
-    bs_command list[4];
-    uint64_t row = touch->row;
-    size_t count = 0;
-    if (i == 0) list[count++] = bs_do(BS_DO_BEGIN, txn);
-    if (touch->writes) list[count++] = bs_do_at(BS_DO_LOCK_PATH, txn, path[2], BS_IX);
-    list[count++] = bs_do_at(BS_DO_LOCK_PATH, txn, interval, intention_of(touch));
-    list[count] = bs_do(BS_DO_LOCK_ROW, txn);
-    list[count].file = path[2];
-    list[count].number = row;
-    list[count].keys = &row;
-    list[count].key_count = 1;
-    list[count++].mode = mode_of(touch);
-    if (!run_through(worker, list, count, &txn)) return ended_as_victim(worker, txn, touches, i);
-    touch_row(touch);
-  }
-  return committed(worker, txn);
+  bs_command list[3] = {
+    { .kind = BS_DO_BEGIN },
+    { .kind = BS_DO_LOCK_PATH, .txn = txn, .node = path[2], .mode = intention_of(first) },
+    { .kind = BS_DO_LOCK_ROW_PATH, .txn = txn, .file = path[2], .number = row, .keys = &row, .key_count = 1,
+      .mode = mode_of(first) },
+  };
+  if (!run_through(worker, list, 3, &txn)) return ended_as_victim(worker, txn, touches, 0);
+  touch_row(first);
+  return touched_numbers(worker, txn, touches, 1) && committed(worker, txn);
 }
 
 static try_one *play(const struct scene *scene) {
