@@ -2124,6 +2124,7 @@ static size_t table_run_in_session(bs_table *table, bs_session *session, bs_comm
       table_run_next(table, commands, done, session->txn);
     }
     if (next->reply.status != BS_DONE) break;
+    if (is_own && next->kind == BS_DO_RENEW) session->txn = next->reply.txn;
   }
   return done;
 }

@@ -60,9 +60,10 @@ bs_reply bs_session_commit(bs_session *session, bs_notices *told);
 
 /* Makes a list of commands in one critical section, as bs_table_run, for the session's transaction; if it has none, its
  * next one begins first, at once. A command whose `txn` is bs_begun() is of that transaction, and a BS_DO_COMMIT of it
- * is bs_session_commit. So a whole transaction is one call, if none of its locks waits. If one does, or a command is
- * refused, the transaction lives: await it, and run the rest, or abort it. If none can begin, the first command is
- * answered so, and none is made: BS_TOO_MANY_TXNS, if no slot is free, or others wait for one. */
+ * is bs_session_commit; after a BS_DO_RENEW of it the session's is the one that this began. So a whole transaction is one
+ * call, if none of its locks waits. If one does, or a command is refused, the transaction lives: await it, and run the
+ * rest, or abort it. If none can begin, the first command is answered so, and none is made: BS_TOO_MANY_TXNS, if no slot
+ * is free, or others wait for one. */
 size_t bs_session_run(bs_session *session, bs_command *commands, size_t count);
 
 /* Releases what the session keeps. Refused with BS_IN_USE if its transaction lives and does not rest: commit or abort it

@@ -358,6 +358,8 @@ work-begins-again-as-new	/^bs_reply bs_session_begin_again(/,/^}/s/table_begin_o
 a-session-s-commit-wakes-nobody	/^bs_reply bs_session_commit(/,/^}/s/^  table_hand_on(table);//
 a-session-s-list-keeps-nothing	/ table_run_in_session(/,/^}/s/is_own \&\& next->kind == BS_DO_COMMIT/false/
 a-session-s-list-keeps-for-others	/ table_run_in_session(/,/^}/s/is_own \&\& next->kind == BS_DO_COMMIT/next->kind == BS_DO_COMMIT/
+a-session-s-list-loses-what-it-renewed	/ table_run_in_session(/,/^}/s/^    if (is_own \&\& next->kind == BS_DO_RENEW) .*//
+a-session-s-list-has-what-others-renewed	/ table_run_in_session(/,/^}/s/^    if (is_own \&\& next->kind == BS_DO_RENEW) /    if (next->kind == BS_DO_RENEW) /
 a-session-s-list-takes-nothing-up	/ table_session_goes_on(/,/^}/s/^  if (table_session_wakes(table, session)) .*//
 a-session-s-list-begins-another	/ table_session_goes_on(/,/^}/s/  if (!table_lives(table, session->txn)) return/  return/
 a-session-s-list-wakes-nobody	/ table_session_commit(/,/^}/s/^  table_wake(.*//

@@ -486,6 +486,28 @@ static void a_commit_in_a_list(void) {
   close_table();
 }
 
+/* The transaction that a list renews is the session's, and another's is not. */
+static void a_list_renews_its_transaction(void) {
+  bs_txn first, other;
+  set_up(BS_AT_BLOCK);
+  session = rest_after_write();
+  other = begin_writer();
+  list[0] = bs_do_at(BS_DO_LOCK_PATH, bs_begun(), file, BS_IX);
+  list[1] = bs_do(BS_DO_RENEW, bs_begun());
+  list[1].number = UINT64_MAX;
+  list[2] = list[1];
+  list[2].txn = other;
+  WANT(bs_session_run(&session, list, 3) == 3);
+  first = list[0].reply.txn;
+  WANT(same_txn(session.txn, list[1].reply.txn) && !same_txn(session.txn, first));
+  ANSWERS(BS_NO_SUCH_TXN, bs_table_mark(table, other));
+  DONE(bs_table_commit(table, list[2].reply.txn, NULL));
+  write_low();
+  WANT(bs_session_run(&session, list, 2) == 2 && list[1].reply.count == ABOVE);
+  is_kept(&session);
+  close_table();
+}
+
 /* A lock that waits stops the list; the transaction goes on after its wait. */
 static void a_list_of_a_session_waits(void) {
   struct heard h;
@@ -941,6 +963,7 @@ int main(int count, char **words) {
   TELL(a_slot_is_handed_on);
   TELL(a_transaction_is_a_list);
   TELL(a_commit_in_a_list);
+  TELL(a_list_renews_its_transaction);
   TELL(a_list_of_a_session_waits);
   TELL(a_list_finds_no_slot);
   TELL(lists_of_no_session);
