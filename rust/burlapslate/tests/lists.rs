@@ -348,7 +348,7 @@ fn a_list_names_rows_and_indexes() {
 }
 
 /// A name of its own place, of a later one, or of a command without a node names none: it is refused, and so is all
-/// behind it left out.
+/// after it left out.
 #[test]
 fn a_list_names_nothing() {
     let store = store();
@@ -812,7 +812,7 @@ fn a_path_for_an_instant_is_had_once() {
     let mut later = Answers::new();
     let reads = [path(store.file, Mode::S)];
     let halt = next.run(&reads, &mut later);
-    assert_eq!(halt, Err(waiting(store.file, Mode::S))); // In the queue behind the other.
+    assert_eq!(halt, Err(waiting(store.file, Mode::S))); // It is queued after the other.
     holder.commit().unwrap();
     next.resume_to_end(&reads, &mut later).unwrap();
     session.await_lock(&mut answers).unwrap();
@@ -849,7 +849,7 @@ fn a_row_waits_and_looks_at_its_keys() {
     }
 }
 
-/// Whoever rests is not waited for: that ends within the list, which continues.
+/// No lock waits for a transaction that rests: the list ends that one, and continues.
 #[test]
 fn a_wait_ends_within_the_list() {
     let store = store();
