@@ -19,6 +19,7 @@ bs_reply bs_call_add_index(bs_manager *manager, const bs_node *parents, size_t c
                            const uint64_t *bounds, size_t bound_count);
 bs_reply bs_call_begin(bs_manager *manager);
 bs_reply bs_call_begin_again(bs_manager *manager, uint64_t since);
+bs_reply bs_call_join(bs_manager *manager, uint32_t slot, uint64_t since);
 bs_reply bs_call_renew(bs_manager *manager, bs_txn txn, uint64_t since);
 bs_reply bs_call_commit_keeping(bs_manager *manager, bs_txn txn, size_t keep, uint64_t since, bs_notices *told);
 bs_reply bs_call_commit_and_rest(bs_manager *manager, bs_txn txn, size_t known, size_t most, uint64_t since,

@@ -1,10 +1,10 @@
 /*
- * Stories of a few transactions over a manager, with every answer that is wanted: work that begins again, the last
- * deadlock, what is counted, paths, adopted rows, a schema that changes, rows by number, limits and watchers. Each is a
- * function that ends the program with status 1 at the first answer that is not as wanted, and else prints its name.
+ * Stories of a few transactions over a manager, with every answer that is wanted: work that begins again or joins, the
+ * last deadlock, what is counted, paths, adopted rows, a schema that changes, rows by number, limits and watchers. Each
+ * is a function that ends the program with status 1 at the first answer that is not as wanted, and else prints its name.
  * What scripts can ask is in tests/scripts.
  */
-#include "burlapslate.h"
+#include "burlapslate_parts.h"
 #include "memory.h"
 #include "same.h"
 
@@ -197,6 +197,54 @@ static void of_work_of_one_begin_the_younger_is_the_victim(void) {
 static void a_later_number_counts_as_its_own(void) {
   begin_after_a_deadlock(UINT64_MAX);
   waiter_is_victim(b, a);
+}
+
+/* ------------------------------------------------------------------------------------------------
+ * Work that joins: several managers that work as one have the same slots, and the same numbers for victims.
+ */
+
+static bs_txn join(uint32_t slot, uint64_t since) {
+  return DONE(bs_join(m, slot, since)).txn;
+}
+
+static void work_that_joins_has_its_slot_and_its_number(void) {
+  open_manager(BS_AT_BLOCK);
+  WANT(is_transaction(begin(), 0, 1));
+  WANT(is_transaction(join(2, 9), 2, 9));
+  WANT(is_transaction(begin(), 1, 10));
+  WANT(is_transaction(join(3, 4), 3, 11));
+  end_manager();
+}
+
+static void work_joins_no_slot_but_a_free_one(void) {
+  open_manager(BS_AT_BLOCK);
+  a = join(2, 9);
+  ANSWERS(BS_TOO_MANY_TXNS, bs_join(m, 2, 20));
+  ANSWERS(BS_TOO_MANY_TXNS, bs_join(m, 4, 20));
+  ANSWERS(BS_TOO_MANY_TXNS, bs_join(m, UINT32_MAX, 20));
+  QUIET(BS_DONE, bs_commit(m, a, &told));
+  WANT(is_transaction(join(2, 0), 2, 10));
+  end_manager();
+}
+
+/* Of two that joined the victim is that of the later number, whichever joined first. */
+static void work_that_joins_is_as_old_as_its_number(void) {
+  open_manager(BS_AT_BLOCK);
+  a = join(0, 5);
+  b = join(1, 2);
+  WANT(is_transaction(a, 0, 5) && is_transaction(b, 1, 6));
+  LOCKS(a, db, BS_S);
+  LOCKS(b, db, BS_S);
+  waiter_is_victim(a, b);
+}
+
+static void no_work_joins_after_the_last_age(void) {
+  open_manager(BS_AT_BLOCK);
+  WANT(is_transaction(join(0, UINT64_MAX), 0, UINT64_MAX));
+  ANSWERS(BS_WORN_OUT, bs_join(m, 1, 1));
+  ANSWERS(BS_WORN_OUT, bs_join(m, 0, 1));
+  ANSWERS(BS_WORN_OUT, bs_begin(m));
+  end_manager();
 }
 
 /* ------------------------------------------------------------------------------------------------
@@ -1217,6 +1265,10 @@ static void tell_of_waits(void) {
   TELL(work_since_no_begin_is_the_oldest);
   TELL(of_work_of_one_begin_the_younger_is_the_victim);
   TELL(a_later_number_counts_as_its_own);
+  TELL(work_that_joins_has_its_slot_and_its_number);
+  TELL(work_joins_no_slot_but_a_free_one);
+  TELL(work_that_joins_is_as_old_as_its_number);
+  TELL(no_work_joins_after_the_last_age);
   TELL(a_deadlock_is_kept_until_the_next);
   TELL(a_settled_deadlock_is_kept);
   TELL(a_ring_of_three_is_kept);

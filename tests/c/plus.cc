@@ -1,6 +1,7 @@
 // The headers as C++: calls of each, and sessions that sleep.
 #include "burlapslate.h"
 #include "burlapslate_dump.h"
+#include "burlapslate_parts.h"
 #include "burlapslate_rows.h"
 #include "burlapslate_running.h"
 #include "burlapslate_session.h"
@@ -115,6 +116,7 @@ static bool keeps() {
   root = bs_table_add_inner(table, NULL, 0).node;
   if (bs_table_ask_begin(table, NULL, NULL).status != BS_NULL_POINTER) return false;
   if (bs_table_ask_begin_again(table, 1, NULL, NULL).status != BS_NULL_POINTER) return false;
+  if (bs_join(NULL, 0, 1).status != BS_NULL_POINTER) return false;
   if (bs_table_cancel_begin(table, NULL).status != BS_NOT_WAITING) return false;
   bs_session session = bs_session_of(table, 1);
   bs_txn first = bs_session_begin(&session, NULL).txn;

@@ -5,7 +5,7 @@
  * It is linked with the calls for memory of memory.h, to see that a refused allocation changes nothing, and that each
  * manager frees what it took.
  */
-#include "burlapslate.h"
+#include "burlapslate_parts.h"
 #include "memory.h"
 #include "same.h"
 
@@ -1407,7 +1407,7 @@ static void places_without_a_manager(void) {
   bs_node root = begin_manager(&m, BS_AT_BLOCK);
   bs_txn a = begin(&m);
   WANT(bs_begin(&never).status == BS_NO_MANAGER && bs_len(&never).status == BS_NO_MANAGER);
-  WANT(bs_begin_again(&never, 1).status == BS_NO_MANAGER);
+  WANT(bs_begin_again(&never, 1).status == BS_NO_MANAGER && bs_join(&never, 0, 1).status == BS_NO_MANAGER);
   WANT(bs_end(&never).status == BS_NO_MANAGER);
   WANT(make_manager(&m, BS_AT_BLOCK, 1).status == BS_IN_USE);
   DONE(bs_lock(&m, a, root, BS_X, &told));
@@ -1456,7 +1456,7 @@ static void null_pointers(void) {
   bs_txn a = begin(&m);
   WANT(bs_make(NULL, NULL).status == BS_NULL_POINTER && bs_end(NULL).status == BS_NULL_POINTER);
   WANT(bs_begin(NULL).status == BS_NULL_POINTER && bs_len(NULL).status == BS_NULL_POINTER);
-  WANT(bs_begin_again(NULL, 1).status == BS_NULL_POINTER);
+  WANT(bs_begin_again(NULL, 1).status == BS_NULL_POINTER && bs_join(NULL, 0, 1).status == BS_NULL_POINTER);
   WANT(bs_lock(&m, a, root, BS_X, NULL).status == BS_NULL_POINTER);
   WANT(bs_lock_path(&m, a, root, BS_X, NULL).status == BS_NULL_POINTER);
   WANT(bs_held(&m, a, root).mode == BS_NL);

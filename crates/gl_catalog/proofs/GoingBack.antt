@@ -297,7 +297,7 @@ module _ (t : TxnId) (since : ℕ) (s : State) (acting : IsActing s t) where
 last_follows : (t : TxnId) (since : ℕ) (s : State) (next : Option TxnId) (s' : State) → RenewsOrEnds t since s next s' → (u : ℕ) → t.slot ≢ u → WaitsWell s u
     → Follows s s' u
 last_follows t since s (Some x) s' h u apart well =
-    subst (λ z. Follows s z u) (sym h.2) (begun_follows s t.slot (min since (s.begins + 1)) u apart well)
+    subst (λ z. Follows s z u) (sym h.2) (begun_follows s t.slot (s.begins + 1) (min since (s.begins + 1)) u apart well)
 last_follows t since s None s' h u apart well = subst (λ z. Follows s z u) (sym h.1) (released_follows s t.slot u apart well)
 
 module _ (m m' : ManagerView) (t : TxnId) (keep since k : ℕ) (next : Option TxnId) (law : IsLawful (state_of m))

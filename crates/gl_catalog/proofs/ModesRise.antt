@@ -134,7 +134,7 @@ module _ (s : State) (law : IsLawful s) (a : Answer) (next : State) where
   changed : Change s a next → KeepsModes s next
   changed (change.Regraphed g is) = same_is _ is (λ u n. refl)
   changed (change.Born u x g active birth is) = made_is _ is (keeps s _ (grows_new s g x u.slot))
-  changed (change.Begun u since is) = same_is _ is (λ v n. refl)
+  changed (change.Begun u age since is) = same_is _ is (λ v n. refl)
   changed (change.Locked u q mode free locks is) = locked u q mode free locks
   changed (change.Granted u q mode free is) =
       made_is _ is (keeps s _ (grows_granted s u.slot q (wanted s u.slot q mode) (supremum-above (s.held u.slot q) mode)))

@@ -6,7 +6,7 @@ use Rattle.gl_fairness.proofs.Words.{Option, or_elim, or_left, or_right, refl, r
 use Rattle.gl_fairness.proofs.Words.{Step, steps_keep_law, subst, sym, tests_of, Told, true, Txn, TxnId, Waiting, waits_for, wanted, ℕ}
 use Rattle.gl_modes.proofs.Words.{other_number}
 use Rattle.gl_graph.proofs.Unrefused.{or_no}
-use Rattle.gl_model.specs.Calls.{no_txn}
+use Rattle.gl_model.specs.Calls.{joining_age, no_txn}
 use Rattle.gl_model.specs.State.{waits_at}
 use Rattle.gl_model.proofs.law.Edges.{is_step, step_is}
 use Rattle.gl_model.proofs.law.Keeps.{apart}
@@ -14,7 +14,7 @@ use Rattle.gl_model.proofs.telling.Follows.{Follows, follows_trans, lawful_waits
 use Rattle.gl_steps.specs.declared.command.Answer.TheVariants as answer
 use Rattle.gl_steps.specs.declared.command.Command.TheVariants as command
 use Rattle.gl_steps.specs.Promises.{is_of_rows, names, same_txn}
-use Rattle.gl_steps.proofs.GrantCommands.{free_differs}
+use Rattle.gl_steps.proofs.GrantCommands.{free_differs, joining_differs}
 use Rattle.gl_steps.proofs.Keeps.{Keeps, ToldGrant}
 use Rattle.gl_steps.proofs.NotRefused.{differ, txn_lives}
 use Rattle.gl_steps.proofs.OneStep.{all_none, AllNone, step_keeps}
@@ -91,12 +91,14 @@ module _ (s : State) (law : IsLawful s) (t : TxnId) (active : IsActive s t) (a :
 
   -- one that begins has a free slot
   begins : (since : ℕ) → Begins since s a list next → Stays next
-  begins since acc = unmoved _ acc.4 (begun_other s acc.0 since t.slot (free_differs s t active.0 acc.0 acc.1))
+  begins since acc = unmoved _ acc.4 (begun_other s acc.0 (s.begins + 1) since t.slot (free_differs s t active.0 acc.0 acc.1))
 
   -- the last case is that of commands that make a node
   accepted : (c : Command) → names t c ≡ false → AllNone (tests_of s c) → Accepts s c a list next → Stays next
   accepted command.Begin free passed acc = begins (s.begins + 1) acc
   accepted (command.BeginAgain since) free passed acc = begins (min since (s.begins + 1)) acc
+  accepted (command.Join u since) free passed acc =
+      unmoved _ acc.2 (begun_other s u (joining_age s since) since t.slot (joining_differs s t active.0 u passed.1.1.0))
   accepted (command.Lock u q w) free passed acc = (lock_follows s law next u.slot t.slot q w (other_slot u free passed.1.0) acc.0).active active.1
   accepted (command.Try u q w) free passed acc = unmoved _ acc.2 refl
   accepted (command.Unlock u q) free passed acc = is _ acc.2 ((unlocked_follows s u.slot t.slot q (other_slot u free passed.1.0) well).active active.1)
@@ -104,7 +106,7 @@ module _ (s : State) (law : IsLawful s) (t : TxnId) (active : IsActive s t) (a :
   accepted (command.Cancel u) free passed acc = is _ acc.2 ((cancelled_follows s u.slot t.slot (other_slot u free passed.1.0) well).active active.1)
   accepted (command.Commit u) free passed acc = is _ acc.2 ((released_follows s u.slot t.slot (other_slot u free passed.1.0) well).active active.1)
   accepted (command.Renew u since) free passed acc =
-      unmoved _ acc.2 (begun_other s u.slot (min since (s.begins + 1)) t.slot (other_slot u free passed.1.0))
+      unmoved _ acc.2 (begun_other s u.slot (s.begins + 1) (min since (s.begins + 1)) t.slot (other_slot u free passed.1.0))
   accepted (command.Abort u) free passed acc = is _ acc.2 ((released_follows s u.slot t.slot (other_slot u free passed.1.0) well).active active.1)
   accepted (command.Settle u) free passed acc = (settled_follows s.victims s u.slot next t.slot acc.2 well).active active.1
   accepted (command.Delete u r) free passed acc = is _ acc.2 (freed_active (λ q. same_node q r) (s.txns t.slot) active.1)

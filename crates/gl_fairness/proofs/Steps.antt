@@ -136,7 +136,7 @@ module _ (s : State) (law : IsLawful s) (t : TxnId) (n : NodeId) (m : Mode) (wai
   changed : Change s a next → Kept
   changed (change.Regraphed g is) = made_is _ is (λ _. before_same s _ t.slot n (λ v. refl) refl refl)
   changed (change.Born u x g active birth is) = made_is _ is (λ _. before_new s law t.slot n m waits g x birth u.slot)
-  changed (change.Begun u since is) = made_is _ is (λ _. before_same s _ t.slot n (λ v. refl) refl refl)
+  changed (change.Begun u age since is) = made_is _ is (λ _. before_same s _ t.slot n (λ v. refl) refl refl)
   changed (change.Locked u q mode free locks is) = locked u q mode free locks
   changed (change.Granted u q mode free is) =
       let passed = all_none (tests_of s (command.Try u q mode)) free in

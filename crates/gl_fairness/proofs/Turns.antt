@@ -1,5 +1,5 @@
--- Over a step each transaction that lives on keeps its age and its `since`; a new one has the next age.
-use Rattle.std.specs.Prelude.{◌≡◌, ◌⊎◌, ℕ, ◌+◌, ◌≤◌, Bool, true, false, min, nat_lt, ◌&&◌, ◌||◌, ◌==◌, List, Option, Some, None, if◌then◌else◌, is_some}
+-- Over a step each transaction that lives on keeps its age and its `since`; a new one has an age above all that were given.
+use Rattle.std.specs.Prelude.{◌≡◌, ◌⊎◌, ℕ, ◌+◌, ◌<◌, ◌≤◌, Bool, true, false, min, nat_lt, ◌&&◌, ◌||◌, ◌==◌, List, Option, Some, None, if◌then◌else◌, is_some}
 use Rattle.std.specs.List.{filter, list_any}
 use Rattle.std.proofs.lemmas.Bool.Decides.{nat_tests}
 use Rattle.std.proofs.Common.{refl, sym, ap, arith, inl, inr, subst, ⊎_elim, ◌∙◌}
@@ -10,18 +10,19 @@ use Rattle.gl_modes.specs.declared.node.NodeId.{NodeId}
 use Rattle.gl_modes.specs.Nodes.{same_node}
 use Rattle.gl_graph.specs.Changes.{rekeyed_parents}
 use Rattle.gl_graph.specs.Graph.{nodes}
+use Rattle.gl_graph.proofs.Unrefused.{none_refused}
 use Rattle.gl_header.specs.Header.{Waiter, holds, is_among_waiters}
 use Rattle.gl_model.specs.declared.txn.Status.TheVariants.{Active, Waiting}
 use Rattle.gl_model.specs.declared.txn.TxnId.{TxnId}
-use Rattle.gl_model.specs.Calls.{Locks, begun_since, enqueued, enters_at, goes_with, hinders_at, is_covered, raised, released, stays, wanted}
+use Rattle.gl_model.specs.Calls.{Locks, begun_at, enqueued, enters_at, goes_with, hinders_at, is_covered, joining_age, raised, released, stays, wanted}
 use Rattle.gl_model.specs.State.{State, Txn, age_in, granted_at, is_waiting_at, members, restatus, since_in, status_of, with_grant, woken}
 use Rattle.gl_model.specs.Tellings.{stripped, Told}
-use Rattle.gl_model.proofs.law.Lock.{free_slot}
+use Rattle.gl_model.proofs.law.Lock.{free_slot, joining_slot}
 use Rattle.gl_steps.specs.declared.command.Answer.{Answer}
 use Rattle.gl_steps.specs.declared.command.Command.{Command}
 use Rattle.gl_steps.specs.declared.command.Command.TheVariants as command
 use Rattle.gl_steps.specs.Step.{Accepts, Step}
-use Rattle.gl_steps.specs.Tests.{refusal_of}
+use Rattle.gl_steps.specs.Tests.{refusal_of, tests_of}
 use Rattle.gl_steps.proofs.LockCommands.{may_renew}
 use Rattle.gl_fairness.specs.Turns.{begins_ahead}
 use Rattle.gl_steps.proofs.Beginning.{Begins}
@@ -36,12 +37,12 @@ pub record IsResting (s : State) (v : ℕ) : Type 0 where
   pub active : status_of s v ≡ Some Active
   pub rests : list_any (hinders_at s v) (nodes s.graph) ≡ false
 
--- by a step a transaction begins in a free slot, or in that of one that rests, with the next age; its `since` is not before a number unless it begins
--- for work from before that
+-- by a step a transaction begins in a free slot, or in that of one that rests, with an age above all that were given; its `since` is not before a number
+-- unless it begins for work from before that
 pub record IsNew (s : State) (v : ℕ) (c : Command) (y : Option Txn) : Type 0 where
   pub place : (is_some (s.txns v) ≡ false) ⊎ IsResting s v
-  pub age : age_in y ≡ s.begins + 1
-  pub low : since_in y ≤ s.begins + 1
+  pub age : s.begins < age_in y
+  pub low : since_in y ≤ age_in y
   pub behind : (bound : ℕ) → bound ≤ s.begins → begins_ahead bound c ≡ false → bound ≤ since_in y
 
 -- each that is there after a step was there before it, or begins by it
@@ -86,25 +87,25 @@ module _ (s : State) (v : ℕ) (a : Answer) (list : Told) (next : State) where
       x : State
       x = enqueued s u q (wanted s u q w)
 
-  begins_in : (c : Command) (u since : ℕ) → (v ≡ u → (is_some (s.txns v) ≡ false) ⊎ IsResting s v) → since ≤ s.begins + 1
-      → ((bound : ℕ) → bound ≤ s.begins → begins_ahead bound c ≡ false → bound ≤ since) → next ≡ begun_since s u since → HasTurn s v c (next.txns v)
-  begins_in c u since place low behind made k = split (v == u)
+  begins_in : (c : Command) (u age since : ℕ) → (v ≡ u → (is_some (s.txns v) ≡ false) ⊎ IsResting s v) → s.begins < age → since ≤ age
+      → ((bound : ℕ) → bound ≤ s.begins → begins_ahead bound c ≡ false → bound ≤ since) → next ≡ begun_at s u age since → HasTurn s v c (next.txns v)
+  begins_in c u age since place later low behind made k = split (v == u)
       (λ e. let is : next.txns v ≡ new = ap (λ (x : State). x.txns v) made ∙ ap (λ b. if b then new else s.txns v) e in
       inr (record {
         place = place (same_number v u e);
-        age = ap age_in is;
-        low = subst (λ z. z ≤ s.begins + 1) (sym (ap since_in is)) low;
+        age = subst (λ y. s.begins < age_in y) (sym is) later;
+        low = subst (λ y. since_in y ≤ age_in y) (sym is) low;
         behind = λ bound few h. subst (λ z. bound ≤ z) (sym (ap since_in is)) (behind bound few h);
       }))
       (λ e. inl (unmoved _ made (ap (λ b. if b then new else s.txns v) e) k))
     where
       new : Option Txn
-      new = Some (record { age = s.begins + 1; since = since; status = Active })
+      new = Some (record { age = age; since = since; status = Active })
 
   begins : (c : Command) (since : ℕ) → since ≤ s.begins + 1 → ((bound : ℕ) → bound ≤ s.begins → begins_ahead bound c ≡ false → bound ≤ since)
       → Begins since s a list next → HasTurn s v c (next.txns v)
   begins c since low behind acc =
-      begins_in c acc.0 since (λ e. inl (ap (λ z. is_some (s.txns z)) e ∙ (free_slot s acc.0 0 s.most acc.1).0)) low behind acc.4
+      begins_in c acc.0 (s.begins + 1) since (λ e. inl (ap (λ z. is_some (s.txns z)) e ∙ (free_slot s acc.0 0 s.most acc.1).0)) (omega arith) low behind acc.4
 
   renews : (u : TxnId) (n : ℕ) → refusal_of s (command.Renew u n) ≡ None → v ≡ u.slot → IsResting s v
   renews u n free e =
@@ -113,13 +114,13 @@ module _ (s : State) (v : ℕ) (a : Answer) (list : Told) (next : State) where
 
   -- a change by which none begins
   abbrev KeptIf : Change s a next → Type 0
-  KeptIf (change.Begun u since is) = Unit {0}
+  KeptIf (change.Begun u age since is) = Unit {0}
   KeptIf x = Kept
 
   changed : (x : Change s a next) → KeptIf x
   changed (change.Regraphed g is) = unmoved _ is refl
   changed (change.Born u q g active birth is) = unmoved _ is refl
-  changed (change.Begun u since is) = tt
+  changed (change.Begun u age since is) = tt
   changed (change.Locked u q w free locks is) = locked_case u.slot q w locks
   changed (change.Granted u q w free is) = unmoved _ is refl
   changed (change.Unlocked u q free is) = on _ is (pumped_goes_on (with_grant s u.slot q NL) (same_node q) v)
@@ -135,8 +136,12 @@ module _ (s : State) (v : ℕ) (a : Answer) (list : Told) (next : State) where
   accepted : (c : Command) → refusal_of s c ≡ None → Accepts s c a list next → HasTurn s v c (next.txns v)
   accepted command.Begin free acc = begins command.Begin (s.begins + 1) (omega arith) (λ bound few h. omega arith) acc
   accepted (command.BeginAgain n) free acc = begins (command.BeginAgain n) (min n (s.begins + 1)) (omega arith) (again_behind s.begins n) acc
+  accepted (command.Join u n) free acc =
+      begins_in (command.Join u n) u (joining_age s n) n
+      (λ e. inl (ap (λ z. is_some (s.txns z)) e ∙ (joining_slot s u (none_refused (tests_of s (command.Join u n)) free 2)).0))
+      (omega arith) (omega arith) (λ bound few h. grind (arith, nat_tests)) acc.2
   accepted (command.Renew u n) free acc =
-      begins_in (command.Renew u n) u.slot (min n (s.begins + 1)) (λ e. inr (renews u n free e)) (omega arith)
+      begins_in (command.Renew u n) u.slot (s.begins + 1) (min n (s.begins + 1)) (λ e. inr (renews u n free e)) (omega arith) (omega arith)
       (again_behind s.begins n) acc.2
   accepted (command.Group q) free acc = absurd acc
   accepted (command.Held u q) free acc = absurd acc

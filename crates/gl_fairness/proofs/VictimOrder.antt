@@ -20,7 +20,7 @@ use Rattle.gl_model.specs.declared.answers.Detect.TheVariants.{AtBlock, ByWatche
 use Rattle.gl_model.specs.declared.txn.Status.{Status}
 use Rattle.gl_model.specs.declared.txn.Status.TheVariants.{Active, Condemned, Waiting}
 use Rattle.gl_model.specs.declared.txn.TxnId.{TxnId}
-use Rattle.gl_model.specs.Calls.{Locks, WaitSettles, begun_since, enqueued, enters_at, freed, freed_among, freed_unless, goes_with, none_among, released}
+use Rattle.gl_model.specs.Calls.{Locks, WaitSettles, begun_at, enqueued, enters_at, freed, freed_among, freed_unless, goes_with, none_among, released}
 use Rattle.gl_model.specs.Calls.{stays, wanted}
 use Rattle.gl_model.specs.Lawful.{IsLawful}
 use Rattle.gl_model.specs.State.{SettledWithin, State, Txn, age_of, condemned, granted_at, is_waiting_at, restatus, since_of, status_in, status_of, waits_for}
@@ -173,18 +173,18 @@ module _ (s : State) (law : IsLawful s) (young : s.victims ≡ Youngest) (v : �
       (wait_settles_victim s.detect x next u.slot v (waiting-lawful s law u q w (may_lock s u q w (worn s) [] free).0 e)
       (subst (λ c. WaitSettles s.detect c x u.slot next) young (locks.waits e)) h))
 
-  begins_in : (u since : ℕ) → next ≡ begun_since s u since → Well
-  begins_in u since is = calm _ is (λ h. split (v == u)
+  begins_in : (u age since : ℕ) → next ≡ begun_at s u age since → Well
+  begins_in u age since is = calm _ is (λ h. split (v == u)
       (λ e. absurd (cc (sym (ap (λ b. status_in (if b then new else s.txns v)) e) ∙ h)))
       (λ e. sym (ap (λ b. status_in (if b then new else s.txns v)) e) ∙ h))
     where
       new : Option Txn
-      new = Some (record { age = s.begins + 1; since = since; status = Active })
+      new = Some (record { age = age; since = since; status = Active })
 
   changed : Change s a next → Well
   changed (change.Regraphed g is) = unmoved _ is refl
   changed (change.Born u q g active birth is) = unmoved _ is refl
-  changed (change.Begun u since is) = begins_in u since is
+  changed (change.Begun u age since is) = begins_in u age since is
   changed (change.Locked u q w free locks is) = locked_case u q w free locks
   changed (change.Granted u q w free is) = unmoved _ is refl
   changed (change.Unlocked u q free is) = calm _ is (woken_calm _ v (s.txns v))

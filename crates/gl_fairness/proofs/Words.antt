@@ -17,7 +17,7 @@ pub use Rattle.gl_steps.proofs.EachStep.{each_step}
 pub use Rattle.gl_steps.proofs.LivesOn.{SameTurn}
 pub use Rattle.gl_steps.proofs.StepsKeepLaw.{steps_keep_law}
 pub use Rattle.gl_steps.proofs.Words.{◌&&◌, ◌+◌, ◌==◌, [], ◌||◌, ◌∙◌, ◌∷◌, ◌≡◌, ◌≢◌, ◌≤◌, ◌⊎◌, ⊎_elim, Accepts, age_in, age_of, and_both, ap, arith}
-pub use Rattle.gl_steps.proofs.Words.{begun_since, Bool, both, clash, condemned, enqueued, enters_at, false, filter, freed, freed_among, freed_unless}
+pub use Rattle.gl_steps.proofs.Words.{Bool, both, clash, condemned, enqueued, enters_at, false, filter, freed, freed_among, freed_unless}
 pub use Rattle.gl_steps.proofs.Words.{goes_with, granted_at, holds, if◌then◌else◌, inl, inr, is_among_waiters, is_at_least, is_covered, is_some, is_waiting_at}
 pub use Rattle.gl_steps.proofs.Words.{IsLawful, List, list_all, list_any, Locks, members, min, nat_lt, nat_tests, nodes, None, none_among, not, Option, or_elim}
 pub use Rattle.gl_steps.proofs.Words.{or_left, or_right, raised, range_with_len, refl, refusal_of, rekeyed_parents, released, restatus, same_mode, same_node}

@@ -49,9 +49,10 @@ VictimAfterALiving =
 abbrev pub count_before : State → ℕ → ℕ
 count_before s v = count_by (λ u. is_some (s.txns u) && comes_before s u v) (slots s)
 
--- a transaction begins again, or renews, for work from before this number
+-- a transaction begins again, joins or renews for work from before this number
 abbrev pub begins_ahead : ℕ → Command → Bool
 begins_ahead since (command.BeginAgain n) = nat_lt n since
+begins_ahead since (command.Join t n) = nat_lt n since
 begins_ahead since (command.Renew t n) = nat_lt n since
 begins_ahead since c = false
 
@@ -66,7 +67,7 @@ NoMoreComeBefore =
 abbrev pub ComesFirst : State → ℕ → Type 0
 ComesFirst s v = (u : ℕ) → is_some (s.txns u) ≡ true → comes_before s u v ≡ false
 
--- a run along which the transaction in slot v lives, and none begins again for earlier work
+-- a run along which the transaction in slot v lives, and none begins for earlier work
 abbrev pub LivesThrough : ℕ → State → List Command → List (Answer × Told) → State → Type 0
 LivesThrough v s [] [] s' = (is_some (s.txns v) ≡ true) × (s' ≡ s)
 LivesThrough v s (c ∷ cs) (r ∷ rs) s' =

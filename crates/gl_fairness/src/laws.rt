@@ -46,7 +46,7 @@ pub fn waits_end()
 /// `since`, or by the same one and a lower age. By `Youngest`, one on the cycle that comes before
 /// the victim stays, so none is condemned unless a living transaction comes before it. (By `Fewest`
 /// the first may be condemned, if no other frees the slot.) No step adds to the number of those
-/// that come before one that lives on, unless a transaction begins again for earlier work. So along
+/// that come before one that lives on, unless a transaction begins for earlier work. So along
 /// a run without such, the first is never a victim.
 pub fn keeps_its_turn()
     ensures others { VictimAfterOthers }

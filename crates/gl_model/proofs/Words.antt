@@ -79,7 +79,7 @@ pub use Rattle.gl_header.specs.Header.{after_grants, AreBelow, enters, fits, fro
 pub use Rattle.gl_header.specs.Header.{IsWithin, Members, placed, pumped_queue, Waiter, with_mode, without_waiter}
 pub use Rattle.gl_header.specs.Sound.{is_distinct}
 pub use Rattle.gl_header.specs.State.{HeaderState, IsLawfulHeader, slot_limit}
-pub use Rattle.gl_model.specs.Calls.{active_on, asked_by_escalation, bad_mode, begun_since, child_held, condemned_test, deleted, enqueued, enters_at}
+pub use Rattle.gl_model.specs.Calls.{active_on, asked_by_escalation, bad_mode, begun_at, child_held, condemned_test, deleted, enqueued, enters_at}
 pub use Rattle.gl_model.specs.Calls.{first_not_ix, first_of_all, freed, freed_unless, granted, held_child, holds_x, holds_x_on_all, is_covered, is_idle, Locks}
 pub use Rattle.gl_model.specs.Calls.{moved_to, need_exclusive, need_new_parents, need_parents, no_txn, raised, released, rule_refusal, shed, some_given, stays}
 pub use Rattle.gl_model.specs.Calls.{unlocked, waiting_test, WaitSettles, wanted}

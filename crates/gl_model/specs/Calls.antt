@@ -1,6 +1,6 @@
 -- What each call of the table leaves, why it is refused, and what it answers.
 use Rattle.std.specs.Prelude.{ℕ, Bool, not, ◌&&◌, ◌||◌, ◌≡◌, ◌+◌, true, false, ◌==◌, List, [], Option, Some, None, if◌then◌else◌, is_none, ◌∷◌, ◌++◌, is_some}
-use Rattle.std.specs.Prelude.{drop, length, min, take}
+use Rattle.std.specs.Prelude.{drop, length, max, min, nat_lt, take}
 use Rattle.std.specs.Prelude.{IsOk, IfErr, OnErr, OnOk, Result, Ok, Err, ◌⊎◌}
 use Rattle.std.specs.List.{list_any, list_all, count_by, filter, find}
 use Rattle.gl_modes.specs.declared.node.NodeId.{NodeId}
@@ -97,9 +97,13 @@ asked_by_escalation s t n = if list_any (λ c. is_child s.graph n c && is_write 
 abbrev pub accepted_once : State → State
 accepted_once s = record s { accepted = s.accepted + 1 }
 
--- a transaction begins in this slot, with this `since`
+-- a transaction begins in this slot, with this age, which is then the greatest that was given, and this `since`
+abbrev pub begun_at : State → ℕ → ℕ → ℕ → State
+begun_at s t age since = record (with_txn s t (Some (record { age = age; since = since; status = Active }))) { begins = age }
+
+-- a transaction begins in this slot, with the next age and this `since`
 abbrev pub begun_since : State → ℕ → ℕ → State
-begun_since s t since = record (with_txn s t (Some (record { age = s.begins + 1; since = since; status = Active }))) { begins = s.begins + 1 }
+begun_since s t since = begun_at s t (s.begins + 1) since
 
 -- a transaction begins in this slot, for new work
 abbrev pub begun : State → ℕ → State
@@ -108,6 +112,14 @@ begun s t = begun_since s t (s.begins + 1)
 -- a transaction begins in this slot, for work of an earlier begin; its `since` is at most its age
 abbrev pub begun_again : State → ℕ → ℕ → State
 begun_again s t since = begun_since s t (min since (s.begins + 1))
+
+-- the age of a transaction that joins for work from this number on: the next one, or the number itself if it is greater
+abbrev pub joining_age : State → ℕ → ℕ
+joining_age s since = max (s.begins + 1) since
+
+-- a transaction joins in this slot, for work that began elsewhere: its `since` is this number, whatever ages were given here
+abbrev pub joined : State → ℕ → ℕ → State
+joined s t since = begun_at s t (joining_age s since) since
 
 -- t waits on n for m
 abbrev pub enqueued : State → ℕ → NodeId → Mode → State
@@ -210,6 +222,10 @@ pub record Locks (s : State) (t : ℕ) (n : NodeId) (m : Mode) (s' : State) : Ty
 abbrev pub worn_begins : State → Option Refusal
 worn_begins s = where_true (s.begins == max_count) no.WornOut
 
+-- the age of a transaction that joins would be too great
+abbrev pub worn_join : State → ℕ → Option Refusal
+worn_join s since = where_true (nat_lt max_count (joining_age s since)) no.WornOut
+
 -- the name is of no living transaction
 abbrev pub no_txn : State → TxnId → Option Refusal
 no_txn s t = where_true (not (lives s t)) no.NoSuchTxn
@@ -280,6 +296,10 @@ would_block s t n m = where_true (not (enters_at s t n m)) no.WouldBlock
 abbrev pub too_many_txns : State → Option Refusal
 too_many_txns s = where_true (list_all (λ t. is_some (s.txns t)) (slots s)) no.TooManyTxns
 
+-- the slot is not free, or is none of those that transactions may have
+abbrev pub taken_slot : State → ℕ → Option Refusal
+taken_slot s t = where_true (not (nat_lt t s.most && is_none (s.txns t))) no.TooManyTxns
+
 -- X on all of these
 abbrev pub holds_x_on_all : State → ℕ → List NodeId → Bool
 holds_x_on_all s t ns = list_all (λ p. same_mode (s.held t p) X) ns
@@ -317,6 +337,10 @@ need_release s t = where_true (list_any (hinders_at s t) (nodes s.graph)) no.Nee
 -- begin
 abbrev pub begin_tests : State → List (Option Refusal)
 begin_tests s = worn_begins s ∷ too_many_txns s ∷ []
+
+-- join
+abbrev pub join_tests : State → ℕ → ℕ → List (Option Refusal)
+join_tests s t since = worn_join s since ∷ taken_slot s t ∷ []
 
 -- lock
 abbrev pub lock_tests : State → TxnId → NodeId → Mode → List (Option Refusal)

@@ -45,7 +45,7 @@ AreKnown s = (t : ℕ) → is_some (s.txns t) ≡ true → since_of s t ≤ age_
 -- a waiter is in one queue, once, with its wanted mode, and nobody else is in any
 -- in each queue those that hold the node are ahead of those that do not
 -- no first waiter fits: what can be granted is granted
--- slots are below the limit, ages from 1 to the count of begins, and no two equal; no `since` is above its transaction's age
+-- slots are below the limit, ages from 1 to the last that was given, and no two equal; no `since` is above its transaction's age
 pub record IsLawful (s : State) : Type 0 where
   pub graph : IsLawfulGraph s.graph
   pub grants_live : (t : ℕ) (n : NodeId) → holds (members s n) t ≡ true → (is_some (s.txns t) ≡ true) × (is_live s.graph n ≡ true)

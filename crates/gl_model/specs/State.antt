@@ -17,7 +17,7 @@ use Rattle.gl_model.specs.declared.txn.Status.{Status}
 use Rattle.gl_model.specs.declared.answers.Detect.{Detect}
 use Rattle.gl_model.specs.declared.txn.Status.TheVariants.{Active, Waiting, Condemned}
 
--- a living transaction: its age (the count of begins at its own), its `since` (its age, or that of an earlier begin of its work), and its status
+-- a living transaction: its age (above all that were given before), its `since` (its age, or a number from an earlier begin of its work), and its status
 pub record Txn : Type 0 where
   pub age : ℕ
   pub since : ℕ
@@ -32,7 +32,7 @@ pub record State : Type 0 where
   pub detect : Detect
   pub victims : Victims  -- how victims are chosen
   pub most : ℕ  -- how many transactions may live at once
-  pub begins : ℕ
+  pub begins : ℕ  -- the last age that was given
   pub accepted : ℕ
 
 -- the mode of each slot on one node

@@ -3,8 +3,8 @@
 use gl_modes::{Mode, NodeId};
 use gl_slots::Slot;
 
-/// A transaction's name: its slot, and its age, which is the count of begins at its own. No two
-/// transactions have one age, so the name of one that has ended names nothing.
+/// A transaction's name: its slot, and its age, which is above the ages of all that began before it.
+/// No two transactions have one age, so the name of one that has ended names nothing.
 #[derive(Clone, Copy, PartialEq, Eq, Hash, Debug, Default)]
 pub struct TxnId {
     pub slot: Slot,

@@ -10,7 +10,7 @@ use Rattle.gl_graph.specs.Refusals.{worn_births}
 use Rattle.gl_graph.proofs.Unrefused.{not_refused}
 use Rattle.gl_model.specs.declared.txn.Status.TheVariants.{Active}
 use Rattle.gl_model.specs.declared.txn.TxnId.{TxnId}
-use Rattle.gl_model.specs.Calls.{Locks, begun_since, cancelled, departed, goes_with, granted, moved_to, raised, released, shed, unlocked}
+use Rattle.gl_model.specs.Calls.{Locks, begun_at, cancelled, departed, goes_with, granted, joining_age, moved_to, raised, released, shed, unlocked}
 use Rattle.gl_model.specs.State.{Settled, State, status_of, with_grant, with_graph}
 use Rattle.gl_model.specs.Tellings.{Told}
 use Rattle.gl_model.proofs.law.Tests.{active_after}
@@ -26,7 +26,7 @@ pub data Change (s : State) (a : Answer) (next : State) : Type 0 where
   Regraphed : (g : Graph) → next ≡ with_graph s g → Change s a next
   Born : (t : TxnId) (n : NodeId) (g : Graph) → status_of s t.slot ≡ Some Active → n.birth ≡ s.graph.births + 1
       → next ≡ with_grant (with_graph s g) t.slot n X → Change s a next
-  Begun : (u since : ℕ) → next ≡ begun_since s u since → Change s a next
+  Begun : (u age since : ℕ) → next ≡ begun_at s u age since → Change s a next
   Locked : (t : TxnId) (n : NodeId) (m : Mode) → refusal_of s (command.Lock t n m) ≡ None → Locks s t.slot n m next
       → a ≡ lock_answer (next.held t.slot n) (status_of next t.slot) → Change s a next
   Granted : (t : TxnId) (n : NodeId) (m : Mode) → refusal_of s (command.Try t n m) ≡ None → next ≡ granted s t.slot n m → Change s a next
@@ -43,15 +43,16 @@ abbrev pub change_of : (s : State) (c : Command) (a : Answer) (told : Told) (nex
 change_of s (command.Inner ps) a told next free acc = Regraphed next.graph acc.4
 change_of s (command.File ps) a told next free acc = Regraphed next.graph acc.4
 change_of s (command.Index ps f bs) a told next free acc = Regraphed next.graph acc.4
-change_of s command.Begin a told next free acc = Begun acc.0 (s.begins + 1) acc.4
-change_of s (command.BeginAgain since) a told next free acc = Begun acc.0 (min since (s.begins + 1)) acc.4
+change_of s command.Begin a told next free acc = Begun acc.0 (s.begins + 1) (s.begins + 1) acc.4
+change_of s (command.BeginAgain since) a told next free acc = Begun acc.0 (s.begins + 1) (min since (s.begins + 1)) acc.4
+change_of s (command.Join t since) a told next free acc = Begun t (joining_age s since) since acc.2
 change_of s (command.Lock t n m) a told next free acc = Locked t n m free acc.0 acc.1
 change_of s (command.Try t n m) a told next free acc = Granted t n m free acc.2
 change_of s (command.Unlock t n) a told next free acc = Unlocked t n free acc.2
 change_of s (command.Escalate t n) a told next free acc = Shed t n free acc.2
 change_of s (command.Cancel t) a told next free acc = Cancelled t acc.2
 change_of s (command.Commit t) a told next free acc = Released t acc.2
-change_of s (command.Renew t since) a told next free acc = Begun t.slot (min since (s.begins + 1)) acc.2
+change_of s (command.Renew t since) a told next free acc = Begun t.slot (s.begins + 1) (min since (s.begins + 1)) acc.2
 change_of s (command.Abort t) a told next free acc = Released t acc.2
 change_of s (command.Settle t) a told next free acc = Settles t acc.2
 change_of s (command.Insert t f keys) a told next free acc =

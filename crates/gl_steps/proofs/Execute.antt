@@ -6,7 +6,7 @@ use Rattle.gl_steps.proofs.Words.{range_with_len, Rec, record_parents, Refusal, 
 use Rattle.gl_steps.proofs.Words.{status_of, suc, Told, told, told_but, wanted, with_grant, with_graph, with_parents, without_node, X, zero, ℕ}
 use Rattle.gl_steps.specs.declared.command.Answer.TheVariants as answer
 use Rattle.gl_steps.specs.declared.command.Command.TheVariants as command
-use Rattle.gl_model.specs.Calls.{begun_again, cancelled, covered_children, held_children, unlocked}
+use Rattle.gl_model.specs.Calls.{begun_again, cancelled, covered_children, held_children, joined, joining_age, unlocked}
 use Rattle.gl_model.proofs.law.Settle.{locked, settled}
 use Rattle.gl_steps.proofs.Made.{adopted, made, next_id}
 
@@ -69,6 +69,7 @@ go s (command.Index ps f bs) = (
 )
 go s command.Begin = begins s (s.begins + 1)
 go s (command.BeginAgain since) = begins s (min since (s.begins + 1))
+go s (command.Join t since) = (answer.Begun (record { slot = t; age = joining_age s since }), [], joined s t since)
 go s (command.Lock t n m) =
     let s' : State = locked s t.slot n m in
     (lock_answer (s'.held t.slot n) (status_of s' t.slot), told_but t.slot s s', s')

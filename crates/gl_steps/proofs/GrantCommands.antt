@@ -1,14 +1,16 @@
 -- Commands that leave the graph: each keeps a transaction that it does not name.
-use Rattle.gl_steps.proofs.Words.{[], ◌∙◌, ◌∷◌, ◌≡◌, ◌≢◌, accepted_once, Accepts, Active, Answer, ap, begun_since, Bool, enqueued, enters_at, false, find}
-use Rattle.gl_steps.proofs.Words.{Follows, follows_trans, free_slot, GrantedTo, if◌then◌else◌, is_live, is_none, IsLawful, List, list_any, live_by, lives, Mode}
-use Rattle.gl_steps.proofs.Words.{NodeId, None, none_some, Option, refl, released, slots, Some, some_is, split, State, status_in, subst, sym, Told, told}
-use Rattle.gl_steps.proofs.Words.{told_but, true, true≢false, Txn, TxnId, Waiting, WaitsWell, wanted, ℕ}
+use Rattle.gl_steps.proofs.Words.{◌+◌, [], ◌∙◌, ◌∷◌, ◌≡◌, ◌≢◌, accepted_once, Accepts, Active, Answer, ap, begun_at, Bool, clash, enqueued, enters_at, false}
+use Rattle.gl_steps.proofs.Words.{find, Follows, follows_trans, free_slot, GrantedTo, if◌then◌else◌, is_live, is_none, is_some, IsLawful, List, list_any}
+use Rattle.gl_steps.proofs.Words.{live_by, lives, Mode, NodeId, None, none_some, Option, refl, released, slots, Some, some_is, split, State, status_in, subst}
+use Rattle.gl_steps.proofs.Words.{sym, Told, told, told_but, true, true≢false, Txn, TxnId, Waiting, WaitsWell, wanted, ℕ}
 use Rattle.gl_steps.specs.declared.command.Command.TheVariants as command
 use Rattle.gl_steps.proofs.Beginning.{Begins}
 use Rattle.gl_model.proofs.telling.Follows.{follows_refl, follows_same, lawful_waits}
 use Rattle.gl_steps.proofs.OtherChanges.{begun_follows, begun_other, cancelled_follows, enqueued_follows, escalated_follows, released_follows, settled_follows}
 use Rattle.gl_steps.proofs.OtherChanges.{unlocked_follows, wait_settles_follows, with_grant_follows}
-use Rattle.gl_steps.proofs.ToldGrants.{tells, told_but_of_grant, told_of_grant}
+use Rattle.gl_steps.proofs.ToldGrants.{tells, told_but_of_grant, told_of_grant, txn_there}
+use Rattle.gl_model.specs.Calls.{taken_slot}
+use Rattle.gl_model.proofs.law.Lock.{joining_slot}
 use Rattle.gl_steps.proofs.Keeps.{Keeps, keeps_follows}
 
 accepted_follows : (s next : State) (t : ℕ) → Follows s next t → Follows s (accepted_once next) t
@@ -39,6 +41,11 @@ none_dead age (Some x) h k = true≢false (sym h)
 pub free_differs : (s : State) (t : TxnId) → lives s t ≡ true → (u : ℕ) → free_slot s ≡ Some u → u ≢ t.slot
 free_differs s t alive u free e = none_dead t.age (s.txns t.slot)
     (ap (λ x. is_none (s.txns x)) (sym e) ∙ found_passes (λ v. is_none (s.txns v)) (slots s) u free) alive
+
+-- nor is one in which a transaction may join
+pub joining_differs : (s : State) (t : TxnId) → lives s t ≡ true → (u : ℕ) → taken_slot s u ≡ None → u ≢ t.slot
+joining_differs s t alive u passed e =
+    clash (txn_there t.age (s.txns t.slot) alive) (ap (λ x. is_some (s.txns x)) (sym e) ∙ (joining_slot s u passed).0)
 
 module _ (s : State) (law : IsLawful s) (t : TxnId) (alive : lives s t ≡ true) (next : State) where
   abbrev Kept : Told → Type 0
@@ -94,16 +101,14 @@ module _ (s : State) (law : IsLawful s) (t : TxnId) (alive : lives s t ≡ true)
   pub settle_keeps : (u : TxnId) (a : Answer) (told' : Told) → Accepts s (command.Settle u) a told' next → Kept told'
   settle_keeps u a told' acc = kept_told told' acc.1 (settled_follows s.victims s u.slot next t.slot acc.2 well)
 
-  pub begin_keeps : (since : ℕ) (a : Answer) (told' : Told) → Begins since s a told' next → Kept told'
-  begin_keeps since a told' acc =
-      let ne = free_differs s t alive acc.0 acc.1 in
-      kept_quiet told' (ap (λ x. x.txns t.slot) acc.4 ∙ begun_other s acc.0 since t.slot ne)
-      (follows_is _ acc.4 (begun_follows s acc.0 since t.slot ne well))
+  -- another begins, in a slot that is free, or its own
+  pub begun_keeps : (u age since : ℕ) (told' : Told) → u ≢ t.slot → next ≡ begun_at s u age since → Kept told'
+  begun_keeps u age since told' ne is =
+      kept_quiet told' (ap (λ x. x.txns t.slot) is ∙ begun_other s u age since t.slot ne)
+      (follows_is _ is (begun_follows s u age since t.slot ne well))
 
-  pub renew_keeps : (u : TxnId) (since : ℕ) (told' : Told) → u.slot ≢ t.slot → next ≡ begun_since s u.slot since → Kept told'
-  renew_keeps u since told' ne is =
-      kept_quiet told' (ap (λ x. x.txns t.slot) is ∙ begun_other s u.slot since t.slot ne)
-      (follows_is _ is (begun_follows s u.slot since t.slot ne well))
+  pub begin_keeps : (since : ℕ) (a : Answer) (told' : Told) → Begins since s a told' next → Kept told'
+  begin_keeps since a told' acc = begun_keeps acc.0 (s.begins + 1) since told' (free_differs s t alive acc.0 acc.1) acc.4
 
   pub same_keeps : (told' : Told) → (s' : State) → s' ≡ s → {rows : Bool} → Keeps s s' t told' rows
   same_keeps told' s' e {rows} =

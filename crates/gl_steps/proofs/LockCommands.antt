@@ -1,14 +1,14 @@
 -- Each command on locks and transactions keeps the law of a state.
-use Rattle.gl_steps.proofs.Words.{◌+◌, [], ◌∷◌, ◌≡◌, ◌≤◌, Active, Answer, ap, arith, false, is_wait, IsLawful, list_any, lives, may_lock, min, Mode, NodeId}
-use Rattle.gl_steps.proofs.Words.{nodes, None, none_refused, not_false, not_refused, raised, refusal_of, shed, Some, State, status_of, subst, sym, test_fails}
-use Rattle.gl_steps.proofs.Words.{tests_of, Told, true, TxnId, worn, ℕ}
+use Rattle.gl_steps.proofs.Words.{◌+◌, [], ◌∷◌, ◌≡◌, ◌≤◌, Active, Answer, ap, arith, false, is_wait, IsLawful, joining_age, list_any, lives, may_lock, min}
+use Rattle.gl_steps.proofs.Words.{Mode, NodeId, nodes, None, none_refused, not_false, not_refused, raised, refusal_of, shed, Some, State, status_of, subst, sym}
+use Rattle.gl_steps.proofs.Words.{test_fails, tests_of, Told, true, TxnId, worn, ℕ}
 use Rattle.gl_steps.specs.declared.command.Command.TheVariants as command
 use Rattle.gl_model.specs.Calls.{hinders_at, would_block}
 use Rattle.gl_steps.proofs.Beginning.{Begins}
 use Rattle.gl_steps.proofs.KeepsLaw.{KeepsLaw}
 use Rattle.gl_model.proofs.law.Takes.{begun-lawful, free_quiet, released-lawful, settled-lawful, without_wait-lawful}
 use Rattle.gl_model.proofs.law.Tests.{active_after, active_in, raised-lawful, shed-lawful}
-use Rattle.gl_model.proofs.law.Lock.{free_slot, granted-lawful, locks-lawful, unlocked-lawful}
+use Rattle.gl_model.proofs.law.Lock.{free_slot, granted-lawful, joining_slot, locks-lawful, unlocked-lawful}
 use Rattle.gl_model.proofs.law.Keeps.{txn_there}
 
 -- an escalation that is not refused raises the grant of an active transaction
@@ -27,13 +27,19 @@ escalated-lawful s law t n h = let up = escalation_raises s law t n h in shed-la
 begins_lawful : (since : ℕ) (s s' : State) (a : Answer) (told : Told) → since ≤ s.begins + 1 → IsLawful s → Begins since s a told s' → IsLawful s'
 begins_lawful since s s' a told low law acc =
     let at = free_slot s acc.0 0 s.most acc.1 in let below = at.1 in
-    subst IsLawful (sym acc.4) (begun-lawful s law acc.0 (free_quiet s acc.0 at.0) (omega arith) since low)
+    subst IsLawful (sym acc.4) (begun-lawful s law acc.0 (free_quiet s acc.0 at.0) (omega arith) (s.begins + 1) since (omega arith) low)
 
 pub begin_keeps : KeepsLaw command.Begin
 begin_keeps s s' a told law h acc = begins_lawful (s.begins + 1) s s' a told (omega arith) law acc
 
 pub begin_again_keeps : (since : ℕ) → KeepsLaw (command.BeginAgain since)
 begin_again_keeps since s s' a told law h acc = begins_lawful (min since (s.begins + 1)) s s' a told (omega arith) law acc
+
+-- its age is above all others, and its `since` is not above its age
+pub join_keeps : (t since : ℕ) → KeepsLaw (command.Join t since)
+join_keeps t since s s' a told law h acc =
+    let slot = joining_slot s t (none_refused (tests_of s (command.Join t since)) h 2) in
+    subst IsLawful (sym acc.2) (begun-lawful s law t (free_quiet s t slot.0) slot.1 (joining_age s since) since (omega arith) (omega arith))
 
 pub lock_keeps : (t : TxnId) (n : NodeId) (m : Mode) → KeepsLaw (command.Lock t n m)
 lock_keeps t n m s s' a told law h acc = locks-lawful s s' law t n m (may_lock s t n m (worn s) [] h).0 acc.0
@@ -72,8 +78,8 @@ pub renew_keeps : (t : TxnId) (since : ℕ) → KeepsLaw (command.Renew t since)
 renew_keeps t since s s' a told law h acc =
     let may = may_renew s t since h in
     subst IsLawful (sym acc.2)
-    (begun-lawful s law t.slot (ap is_wait may.active) (law.slots_below t.slot (txn_there (s.txns t.slot) _ may.active)) (min since (s.begins + 1))
-    (omega arith))
+    (begun-lawful s law t.slot (ap is_wait may.active) (law.slots_below t.slot (txn_there (s.txns t.slot) _ may.active)) (s.begins + 1)
+    (min since (s.begins + 1)) (omega arith) (omega arith))
 
 pub abort_keeps : (t : TxnId) → KeepsLaw (command.Abort t)
 abort_keeps t s s' a told law h acc = subst IsLawful (sym acc.2) (released-lawful s law t.slot)

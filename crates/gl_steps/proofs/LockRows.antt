@@ -116,6 +116,29 @@ row_lowest_slot : Rows AtBlock 64 (
     ∷ begins (txn 5 65) ∷ [])
 row_lowest_slot = computed refl
 
+-- one that joins has the slot that it names, and an age of at least its `since`; the next begin has the next age
+row_joins : Rows AtBlock 4 (
+    begins a
+    ∷ says (command.Join 2 9) (answer.Begun (txn 2 9))
+    ∷ begins (txn 1 10)
+    ∷ says (command.Join 3 4) (answer.Begun (txn 3 11))
+    ∷ refuses (command.Join 2 9) no.TooManyTxns
+    ∷ refuses (command.Join 4 9) no.TooManyTxns
+    ∷ done (command.Commit (txn 3 11)) ∷ [])
+row_joins = computed refl
+
+-- and victims are chosen by that number: here the one that joined last began first
+row_victim_by_what_joined : Rows AtBlock 3 (
+    roots db
+    ∷ says (command.Join 0 5) (answer.Begun (txn 0 5))
+    ∷ says (command.Join 1 2) (answer.Begun (txn 1 6))
+    ∷ locks (txn 0 5) S db
+    ∷ locks (txn 1 6) S db
+    ∷ waits (txn 0 5) X db
+    ∷ (command.Lock (txn 1 6) db X, answer.Waiting, (txn 0 5, notice.Victim) ∷ [])
+    ∷ tells (command.Abort (txn 0 5)) (txn 1 6) (notice.Granted db X) ∷ [])
+row_victim_by_what_joined = computed refl
+
 -- a try does not wait, and a wait can be cancelled
 row_try_and_cancel : Rows AtBlock 2 (
     roots db ∷ begins a ∷ begins b

@@ -35,6 +35,7 @@ same_accepted : (s : State) → IsLawful s → (c : Command) (s₁ s₂ : State)
     → Accepts s c a₁ told₁ s₁ → Accepts s c a₂ told₂ s₂ → Same s s₁ s₂ a₁ a₂ told₁ told₂
 same_accepted s law command.Begin s₁ s₂ a₁ a₂ told₁ told₂ none free x y = begins_one (s.begins + 1) s s₁ s₂ a₁ a₂ told₁ told₂ x y
 same_accepted s law (command.BeginAgain since) s₁ s₂ a₁ a₂ told₁ told₂ none free x y = begins_one (min since (s.begins + 1)) s s₁ s₂ a₁ a₂ told₁ told₂ x y
+same_accepted s law (command.Join t since) s₁ s₂ a₁ a₂ told₁ told₂ none free x y = (x.0 ∙ sym y.0, x.1 ∙ sym y.1, x.2 ∙ sym y.2)
 same_accepted s law (command.Lock t n m) s₁ s₂ a₁ a₂ told₁ told₂ none free x y =
     let may : MayLock s t n m = (may_lock s t n m (worn s) [] free).0 in
     let e : s₁ ≡ s₂ =

@@ -1,14 +1,14 @@
 -- One step of a command that does not name t keeps t.
 use Rattle.gl_steps.proofs.Words.{◌+◌, [], ◌∷◌, ◌≡◌, ◌≢◌, accepted_once, and_both, Answer, Answers, Bool, Command, false, first_refusal, Goes, inl, inr}
-use Rattle.gl_steps.proofs.Words.{is_of_rows, IsLawful, List, lives, min, names, no_txn, None, not_false, Option, or_no, query_answer, refl, Refusal}
-use Rattle.gl_steps.proofs.Words.{refusal_of, same_txn, shape_of, Some, State, Step, subst, sym, test_fails, tests_of, Told, true, TxnId}
+use Rattle.gl_steps.proofs.Words.{is_of_rows, IsLawful, joining_age, List, lives, min, names, no_txn, None, not_false, Option, or_no, query_answer, refl}
+use Rattle.gl_steps.proofs.Words.{Refusal, refusal_of, same_txn, shape_of, Some, State, Step, subst, sym, test_fails, tests_of, Told, true, TxnId}
 use Rattle.gl_modes.specs.declared.refusal.Refusal.TheVariants as no
 use Rattle.gl_steps.specs.declared.command.Command.TheVariants as command
 use Rattle.gl_steps.proofs.Keeps.{Keeps}
 use Rattle.gl_steps.proofs.Made.{adopted_is, indexed_by_is, indexed_is, inserted_is, made_is}
 use Rattle.gl_steps.proofs.NotRefused.{differ, exclusive, nodes_live, txn_lives}
-use Rattle.gl_steps.proofs.GrantCommands.{begin_keeps, cancel_keeps, escalate_keeps, lock_keeps, release_keeps, renew_keeps, same_keeps, settle_keeps}
-use Rattle.gl_steps.proofs.GrantCommands.{try_keeps, unlock_keeps}
+use Rattle.gl_steps.proofs.GrantCommands.{begin_keeps, begun_keeps, cancel_keeps, escalate_keeps, joining_differs, lock_keeps, release_keeps, same_keeps}
+use Rattle.gl_steps.proofs.GrantCommands.{settle_keeps, try_keeps, unlock_keeps}
 use Rattle.gl_steps.proofs.GraphCommands.{delete_keeps, file_keeps, index_keeps, inner_keeps, insert_keeps, move_keeps, rekey_keeps}
 use Rattle.gl_steps.proofs.SchemaKeeps.{itself_locked}
 use Rattle.gl_steps.proofs.SchemaSteps.{drop_keeps, index_by_keeps}
@@ -47,6 +47,8 @@ module _ (s : State) (law : IsLawful s) (t : TxnId) (alive : lives s t ≡ true)
       finish ans.0 ans.2 (λ l. index_keeps s law t alive ans.0 l _ ans.1.0.key ps.now f bs.now ans.1.1.interval_keys (indexed_is s ans.0 ans.1.1 ans.1.4))
   accepted command.Begin apart passed ans = finish ans.0 ans.2 (λ l. begin_keeps s law t alive ans.0 (s.begins + 1) a told' ans.1)
   accepted (command.BeginAgain since) apart passed ans = finish ans.0 ans.2 (λ l. begin_keeps s law t alive ans.0 (min since (s.begins + 1)) a told' ans.1)
+  accepted (command.Join u since) apart passed ans =
+      finish ans.0 ans.2 (λ l. begun_keeps s law t alive ans.0 u (joining_age s since) since told' (joining_differs s t alive u passed.1.1.0) ans.1.2)
   accepted (command.Lock u n m) apart passed ans = finish ans.0 ans.2 (λ l. lock_keeps s law t alive ans.0 u n m a told' (other_slot u apart passed.1.0) ans.1)
   accepted (command.Try u n m) apart passed ans = finish ans.0 ans.2 (λ l. try_keeps s law t alive ans.0 u n m a told' (other_slot u apart passed.1.0) ans.1)
   accepted (command.Unlock u n) apart passed ans = finish ans.0 ans.2 (λ l. unlock_keeps s law t alive ans.0 u n a told' (other_slot u apart passed.1.0) ans.1)
@@ -56,7 +58,7 @@ module _ (s : State) (law : IsLawful s) (t : TxnId) (alive : lives s t ≡ true)
   accepted (command.Commit u) apart passed ans =
       finish ans.0 ans.2 (λ l. release_keeps s law t alive ans.0 u told' (other_slot u apart passed.1.0) ans.1.1 ans.1.2)
   accepted (command.Renew u since) apart passed ans =
-      finish ans.0 ans.2 (λ l. renew_keeps s law t alive ans.0 u (min since (s.begins + 1)) told' (other_slot u apart passed.1.0) ans.1.2)
+      finish ans.0 ans.2 (λ l. begun_keeps s law t alive ans.0 u.slot (s.begins + 1) (min since (s.begins + 1)) told' (other_slot u apart passed.1.0) ans.1.2)
   accepted (command.Abort u) apart passed ans =
       finish ans.0 ans.2 (λ l. release_keeps s law t alive ans.0 u told' (other_slot u apart passed.1.0) ans.1.1 ans.1.2)
   accepted (command.Settle u) apart passed ans = finish ans.0 ans.2 (λ l. settle_keeps s law t alive ans.0 u a told' ans.1)

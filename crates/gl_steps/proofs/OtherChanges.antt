@@ -1,5 +1,5 @@
 -- How another transaction's command changes grants, queues and slots, and what it leaves to a slot t that it does not name.
-use Rattle.gl_steps.proofs.Words.{◌&&◌, ◌+◌, ◌==◌, [], ◌||◌, ◌∙◌, ◌∷◌, ◌≡◌, ◌≢◌, Active, and_both, ap, arith, AtBlock, begun_since, Bool, ByWatcher, Condemned}
+use Rattle.gl_steps.proofs.Words.{◌&&◌, ◌+◌, ◌==◌, [], ◌||◌, ◌∙◌, ◌∷◌, ◌≡◌, ◌≢◌, Active, and_both, ap, arith, AtBlock, begun_at, Bool, ByWatcher, Condemned}
 use Rattle.gl_steps.proofs.Words.{condemned, Detect, enqueued, false, Follows, follows_trans, holds, if◌then◌else◌, inl, is_covered, is_waiting_at, List}
 use Rattle.gl_steps.proofs.Words.{live_by, members, Mode, nat_tests, NL, NodeId, None, Option, pumped, raised, refl, released, restatus, same_node}
 use Rattle.gl_steps.proofs.Words.{same_node-equal, same_number, SameGrants, Settled, SettledWithin, shed, Some, split, State, Status, status_in, status_of}
@@ -24,11 +24,11 @@ pub with_grant_follows : (s : State) (u t : ℕ) (n : NodeId) (m : Mode) → u �
 with_grant_follows s u t n m ne well = follows_same s (with_grant s u n m) t well refl refl (with_grant_same s u t n m ne) (λ q. refl)
 
 -- another begins
-pub begun_other : (s : State) (u since t : ℕ) → u ≢ t → (begun_since s u since).txns t ≡ s.txns t
-begun_other s u since t ne = ap (λ b. if b then Some (record { age = s.begins + 1; since = since; status = Active }) else s.txns t) (other u t ne)
+pub begun_other : (s : State) (u age since t : ℕ) → u ≢ t → (begun_at s u age since).txns t ≡ s.txns t
+begun_other s u age since t ne = ap (λ b. if b then Some (record { age = age; since = since; status = Active }) else s.txns t) (other u t ne)
 
-pub begun_follows : (s : State) (u since t : ℕ) → u ≢ t → WaitsWell s t → Follows s (begun_since s u since) t
-begun_follows s u since t ne well = follows_same s (begun_since s u since) t well refl (begun_other s u since t ne) (λ q. refl) (λ q. refl)
+pub begun_follows : (s : State) (u age since t : ℕ) → u ≢ t → WaitsWell s t → Follows s (begun_at s u age since) t
+begun_follows s u age since t ne well = follows_same s (begun_at s u age since) t well refl (begun_other s u age since t ne) (λ q. refl) (λ q. refl)
 
 -- another waits
 pub enqueued_follows : (s : State) (u t : ℕ) (n : NodeId) (m : Mode) → u ≢ t → WaitsWell s t → Follows s (enqueued s u n m) t

@@ -49,7 +49,7 @@ escalated-no_cycle s law t n h none =
 changes-no_cycle : (s : State) (a : Answer) (s' : State) → s.detect ≡ AtBlock → IsLawful s → HasNoCycle s → Change s a s' → HasNoCycle s'
 changes-no_cycle s a s' at law none (change.Regraphed g is) = subst HasNoCycle (sym is) none
 changes-no_cycle s a s' at law none (change.Born t n g active birth is) = subst HasNoCycle (sym is) (granted-no_cycle (with_graph s g) t.slot n X active none)
-changes-no_cycle s a s' at law none (change.Begun u since is) = subst HasNoCycle (sym is) (begun-no_cycle s u since none)
+changes-no_cycle s a s' at law none (change.Begun u age since is) = subst HasNoCycle (sym is) (begun-no_cycle s u age since none)
 changes-no_cycle s a s' at law none (change.Locked t n m free locks is) = locks-no_cycle s s' at law t n m (may_lock s t n m (worn s) [] free).0 locks none
 changes-no_cycle s a s' at law none (change.Granted t n m free is) =
     subst HasNoCycle (sym is) (granted-no_cycle s t.slot n (wanted s t.slot n m) (active_after s t n (worn s) _ free).0 none)

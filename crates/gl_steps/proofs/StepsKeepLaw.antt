@@ -5,8 +5,8 @@ use Rattle.gl_steps.specs.Promises.{RunsKeepLaw, StepsKeepLaw}
 use Rattle.gl_steps.proofs.Counting.{lawful_counting}
 use Rattle.gl_steps.proofs.EachStep.{each_step}
 use Rattle.gl_steps.proofs.KeepsLaw.{KeepsLaw}
-use Rattle.gl_steps.proofs.LockCommands.{abort_keeps, begin_again_keeps, begin_keeps, cancel_keeps, commit_keeps, escalate_keeps, lock_keeps, renew_keeps}
-use Rattle.gl_steps.proofs.LockCommands.{settle_keeps, try_keeps, unlock_keeps}
+use Rattle.gl_steps.proofs.LockCommands.{abort_keeps, begin_again_keeps, begin_keeps, cancel_keeps, commit_keeps, escalate_keeps, join_keeps, lock_keeps}
+use Rattle.gl_steps.proofs.LockCommands.{renew_keeps, settle_keeps, try_keeps, unlock_keeps}
 use Rattle.gl_steps.proofs.MakeKeeps.{file_keeps, index_keeps, inner_keeps, insert_keeps}
 use Rattle.gl_steps.proofs.DeleteKeeps.{delete_keeps}
 use Rattle.gl_steps.proofs.MoveCommands.{move_keeps, rekey_keeps}
@@ -20,6 +20,7 @@ accepted_keeps (command.File ps) = file_keeps ps
 accepted_keeps (command.Index ps f bs) = index_keeps ps f bs
 accepted_keeps command.Begin = begin_keeps
 accepted_keeps (command.BeginAgain since) = begin_again_keeps since
+accepted_keeps (command.Join t since) = join_keeps t since
 accepted_keeps (command.Lock t n m) = lock_keeps t n m
 accepted_keeps (command.Try t n m) = try_keeps t n m
 accepted_keeps (command.Unlock t n) = unlock_keeps t n

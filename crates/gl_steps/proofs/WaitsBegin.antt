@@ -13,7 +13,7 @@ use Rattle.gl_header.specs.Header.{holds, is_among_waiters}
 use Rattle.gl_model.specs.declared.txn.Status.{Status}
 use Rattle.gl_model.specs.declared.txn.Status.TheVariants.{Active, Waiting, Condemned}
 use Rattle.gl_model.specs.declared.txn.TxnId.{TxnId}
-use Rattle.gl_model.specs.Calls.{Locks, begun_since, enqueued, enters_at, raised, stays, wanted, is_covered}
+use Rattle.gl_model.specs.Calls.{Locks, begun_at, enqueued, enters_at, raised, stays, wanted, is_covered}
 use Rattle.gl_model.specs.State.{granted_at, is_waiting_at, woken, State, Txn, members, restatus, status_in, status_of, with_grant, is_wait}
 use Rattle.gl_model.specs.Tellings.{stripped, Told}
 use Rattle.gl_steps.specs.declared.command.Answer.{Answer}
@@ -65,9 +65,9 @@ module _ (s : State) (t : ℕ) (n : NodeId) (m : Mode) (a : Answer) where
         let before : x.txns t ≡ s.txns t = ap (λ b. if b then restatus (Waiting q (wanted s u.slot q w)) (s.txns u.slot) else s.txns t) e in
         inl (ap status_in (sym before) ∙ (wait_settles_goes_on s.detect s.victims x next u.slot t (locks.waits queued)).waits n m waits)))
 
-    begins_in : (u since : ℕ) → next ≡ begun_since s u since → Began next
-    begins_in u since is =
-        let new : Option Txn = Some (record { age = s.begins + 1; since = since; status = Active }) in
+    begins_in : (u age since : ℕ) → next ≡ begun_at s u age since → Began next
+    begins_in u age since is =
+        let new : Option Txn = Some (record { age = age; since = since; status = Active }) in
         split (t == u)
         (λ e. other_status (Some Active) (λ h. cc h)
         (ap (λ (x : State). status_of x t) is ∙ ap (λ b. status_in (if b then new else s.txns t)) e))
@@ -76,7 +76,7 @@ module _ (s : State) (t : ℕ) (n : NodeId) (m : Mode) (a : Answer) where
     changed : Change s a next → Began next
     changed (change.Regraphed g is) = same _ is refl
     changed (change.Born u q g active birth is) = same _ is refl
-    changed (change.Begun u since is) = begins_in u since is
+    changed (change.Begun u age since is) = begins_in u age since is
     changed (change.Locked u q w free locks is) = locked_case u q w locks is
     changed (change.Granted u q w free is) = same _ is refl
     changed (change.Unlocked u q free is) = on _ is (pumped_goes_on (with_grant s u.slot q NL) (same_node q) t)

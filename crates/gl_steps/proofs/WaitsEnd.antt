@@ -7,7 +7,7 @@ use Rattle.gl_steps.proofs.Words.{Node, NodeId, None, none_among, none_some, not
 use Rattle.gl_steps.proofs.Words.{refl, rekeyed_parents, released, restatus, same_mode, same_node, same_node-equal, same_node-refl, same_txn, Some, split}
 use Rattle.gl_steps.proofs.Words.{State, Status, status_in, status_of, stays, Step, stripped, subst, sym, tests_of, Told, told, told_but, told_from, true}
 use Rattle.gl_steps.proofs.Words.{true≢false, Txn, TxnId, Waiting, waiting_test, waits_at, WaitsWell, wanted, with_grant, with_key, without_branch}
-use Rattle.gl_steps.proofs.Words.{without_node, woken, ℕ}
+use Rattle.gl_steps.proofs.Words.{joining_age, without_node, woken, ℕ}
 use Rattle.gl_modes.proofs.Words.{number_same}
 use Rattle.gl_modes.proofs.NodeLemmas.{same_node-sym}
 use Rattle.gl_model.specs.declared.answers.Notice.TheVariants as notice
@@ -16,7 +16,7 @@ use Rattle.gl_steps.specs.declared.command.Command.TheVariants as command
 use Rattle.gl_steps.specs.Promises.{ends_wait_of, EndsWaits, is_told, is_told_that, IsToldEnd, moves_node, same_notice, waits_on}
 use Rattle.gl_steps.proofs.Beginning.{Begins}
 use Rattle.gl_steps.proofs.EachStep.{each_step}
-use Rattle.gl_steps.proofs.GrantCommands.{free_differs}
+use Rattle.gl_steps.proofs.GrantCommands.{free_differs, joining_differs}
 use Rattle.gl_steps.proofs.LivesOn.{freed_among_on, freed_on, GoesOn, lives_on_same, lives_on_trans, LivesOn, over_goes_on, pumped_goes_on, settled_goes_on}
 use Rattle.gl_steps.proofs.LivesOn.{unless_on, wait_settles_goes_on, woken_on}
 use Rattle.gl_steps.proofs.NotRefused.{differ, txn_lives}
@@ -254,11 +254,13 @@ module _ (s : State) (law : IsLawful s) (t : TxnId) (alive : lives s t ≡ true)
         (wait_settles_goes_on s.detect s.victims x next u.slot t.slot (locks.waits e)))
 
     begins : (c : Command) (since : ℕ) → Begins since s a list next → Ended c
-    begins c since acc = unmoved _ acc.4 (begun_other s acc.0 since t.slot (free_differs s t alive acc.0 acc.1)) c
+    begins c since acc = unmoved _ acc.4 (begun_other s acc.0 (s.begins + 1) since t.slot (free_differs s t alive acc.0 acc.1)) c
 
     accepted : (c : Command) → AllNone (tests_of s c) → Accepts s c a list next → Ended c
     accepted command.Begin passed acc = begins command.Begin (s.begins + 1) acc
     accepted (command.BeginAgain since) passed acc = begins (command.BeginAgain since) (min since (s.begins + 1)) acc
+    accepted (command.Join u since) passed acc =
+        unmoved _ acc.2 (begun_other s u (joining_age s since) since t.slot (joining_differs s t alive u passed.1.1.0)) (command.Join u since)
     accepted (command.Lock u q w) passed acc =
         let ne = other_active u passed.1.1.0 in let on = locked_on u q w ne acc.0 in
         others_told (command.Lock u q w) u.slot ne acc.2 on (granted_by (lock_follows u q w ne acc.0) on (command.Lock u q w))
@@ -282,7 +284,7 @@ module _ (s : State) (law : IsLawful s) (t : TxnId) (alive : lives s t ≡ true)
         let ne = other_active u passed.1.1.0 in let on = on_is _ acc.2 (released_on u.slot ne) in
         all_told (command.Commit u) acc.1 on (granted_by (follows_is _ acc.2 (released_follows s u.slot t.slot ne well)) on (command.Commit u))
     accepted (command.Renew u since) passed acc =
-        unmoved _ acc.2 (begun_other s u.slot (min since (s.begins + 1)) t.slot (other_active u passed.1.1.0)) (command.Renew u since)
+        unmoved _ acc.2 (begun_other s u.slot (s.begins + 1) (min since (s.begins + 1)) t.slot (other_active u passed.1.1.0)) (command.Renew u since)
     accepted (command.Abort u) passed acc =
         split (same_txn t u) (λ e. named (command.Abort u) e)
         (λ e. let ne = other_slot u e passed.1.0 in let on = on_is _ acc.2 (released_on u.slot ne) in

@@ -14,7 +14,7 @@ pub use Rattle.gl_graph.proofs.Words.{◌-◌, born_index, born_node, cases_eq, 
 pub use Rattle.gl_graph.specs.Changes.{rekeyed_node, reparented}
 pub use Rattle.gl_graph.specs.Routes.{IsBelow}
 pub use Rattle.gl_model.proofs.Words.{◌&&◌, ◌+◌, ◌++◌, ◌<◌, ◌==◌, [], ◌||◌, ◌∙◌, ◌∷◌, ◌≡◌, ◌≢◌, ◌≤◌, ◌⊎◌, ⊎_elim, addressed, age_in, age_of, and_both, ap, ap₂}
-pub use Rattle.gl_model.proofs.Words.{arith, asked_by_escalation, at_least-refl, begun_since, Bool, born_nodes, both, clash, condemned, condemned_test, deleted}
+pub use Rattle.gl_model.proofs.Words.{arith, asked_by_escalation, at_least-refl, begun_at, Bool, born_nodes, both, clash, condemned, condemned_test, deleted}
 pub use Rattle.gl_model.proofs.Words.{eff_s, eff_x, effective, EffX, empty_state, enqueued, enters_at, false, File, filter, find, first_in, first_not_ix}
 pub use Rattle.gl_model.proofs.Words.{first_parent, first_refusal, freed, freed_unless, fun_ext, granted, granted_at, Graph, HasNoCycle, holds, holds_x}
 pub use Rattle.gl_model.proofs.Words.{holds_x_on_all, if◌then◌else◌, Index, inl, Inner, inr, Interval, interval_nodes, is_among_waiters, is_at_least, is_child}
@@ -33,7 +33,7 @@ pub use Rattle.gl_model.proofs.law.Lock.{may_lock}
 pub use Rattle.gl_model.proofs.law.Searches.{GraphStep}
 pub use Rattle.gl_model.proofs.law.Takes.{empty-lawful}
 pub use Rattle.gl_model.proofs.telling.Follows.{Follows, follows_trans, GrantedTo, SameGrants, WaitsWell}
-pub use Rattle.gl_model.specs.Calls.{accepted_once, dropped, free_slot, freed_among, goes_with, Locks, none_among}
+pub use Rattle.gl_model.specs.Calls.{accepted_once, begun_since, dropped, free_slot, freed_among, goes_with, joining_age, Locks, none_among}
 pub use Rattle.gl_model.specs.Lawful.{EffS, is_at_least_effect}
 pub use Rattle.gl_model.specs.State.{lives}
 pub use Rattle.gl_model.specs.declared.answers.Detect.{Detect}

@@ -19,7 +19,7 @@ use Rattle.gl_graph.specs.Graph.{record_parents}
 use Rattle.gl_graph.specs.Shapes.{File, Inner, Rec}
 use Rattle.gl_header.specs.Header.{group_of}
 use Rattle.gl_model.specs.Calls.{Locks, accepted_once, begun, begun_again, cancelled, deleted, dropped, free_slot, granted, moved_to, raised, released}
-use Rattle.gl_model.specs.Calls.{shed, unlocked, wanted}
+use Rattle.gl_model.specs.Calls.{joined, joining_age, shed, unlocked, wanted}
 use Rattle.gl_model.specs.Calls.{covered_children, held_children}
 use Rattle.gl_model.specs.Lawful.{effective}
 use Rattle.gl_model.specs.State.{State, members, status_of, with_grant, with_graph, Settled}
@@ -47,6 +47,8 @@ Accepts s command.Begin a told' s' =
     (t : ℕ) × (free_slot s ≡ Some t) × (a ≡ answer.Begun (record { slot = t; age = s.begins + 1 })) × (told' ≡ []) × (s' ≡ begun s t)
 Accepts s (command.BeginAgain since) a told' s' =
     (t : ℕ) × (free_slot s ≡ Some t) × (a ≡ answer.Begun (record { slot = t; age = s.begins + 1 })) × (told' ≡ []) × (s' ≡ begun_again s t since)
+Accepts s (command.Join t since) a told' s' =
+    (a ≡ answer.Begun (record { slot = t; age = joining_age s since })) × (told' ≡ []) × (s' ≡ joined s t since)
 Accepts s (command.Lock t n m) a told' s' = Locks s t.slot n m s' × (a ≡ lock_answer (s'.held t.slot n) (status_of s' t.slot)) × (told' ≡ told_but t.slot s s')
 Accepts s (command.Try t n m) a told' s' = (a ≡ answer.Granted (wanted s t.slot n m)) × (told' ≡ []) × (s' ≡ granted s t.slot n m)
 Accepts s (command.Unlock t n) a told' s' = (a ≡ answer.Done) × (told' ≡ told s s') × (s' ≡ unlocked s t.slot n)

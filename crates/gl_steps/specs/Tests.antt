@@ -13,7 +13,7 @@ use Rattle.gl_graph.specs.Refusals.{too_many_nodes, where_true, worn_births}
 use Rattle.gl_graph.specs.Shapes.{is_file_shape, is_index_of_shape, is_movable_shape, is_record_shape, least_parents}
 use Rattle.gl_header.specs.Header.{holds}
 use Rattle.gl_model.specs.Calls.{enters_at}
-use Rattle.gl_model.specs.Calls.{active_on, begin_tests, cancel_tests, commit_tests, drop_tests, index_by_tests, escalation_blocks, first_not_ix}
+use Rattle.gl_model.specs.Calls.{active_on, begin_tests, cancel_tests, commit_tests, drop_tests, index_by_tests, escalation_blocks, first_not_ix, join_tests}
 use Rattle.gl_model.specs.Calls.{forget_tests, group_tests}
 use Rattle.gl_model.specs.Calls.{held_tests, holds_x, living_tests, lock_tests, need_exclusive, need_new_parents, not_held, some_given, try_tests}
 use Rattle.gl_model.specs.Calls.{renew_tests, unlock_tests}
@@ -74,6 +74,7 @@ tests_of s (command.File ps) = worn s ∷ file_refusal s.graph ps.now ∷ []
 tests_of s (command.Index ps f bs) = worn s ∷ index_refusal s.graph ps.now f bs.now ∷ []
 tests_of s command.Begin = worn s ∷ begin_tests s
 tests_of s (command.BeginAgain since) = worn s ∷ begin_tests s
+tests_of s (command.Join t since) = worn s ∷ join_tests s t since
 tests_of s (command.Lock t n m) = worn s ∷ lock_tests s t n m
 tests_of s (command.Try t n m) = worn s ∷ try_tests s t n m
 tests_of s (command.Unlock t n) = worn s ∷ unlock_tests s t n

@@ -76,6 +76,15 @@ pub enum Command<'a> {
     BeginAgain {
         since: u64,
     },
+    /// A new transaction in this slot, for work that began in another manager: its `since` is this
+    /// number, also if it is above the next age. Its age is then that number too, else the next one.
+    /// So managers that work as one have the same slots, and choose the same victims. Refused, in
+    /// this order, with `WornOut` if `u64::MAX` was given as an age, and `TooManyTxns` if the slot
+    /// is taken, or is not below the limit of transactions.
+    Join {
+        slot: usize,
+        since: u64,
+    },
     /// Request a lock, and wait if it cannot be granted at once.
     Lock {
         txn: TxnId,

@@ -94,7 +94,7 @@ pub use Rattle.gl_model.proofs.queues.Walks.{same}
 pub use Rattle.gl_model.proofs.telling.Between.{active_untold, nobody_told}
 pub use Rattle.gl_model.proofs.telling.Fronts.{front_stands, in_no_queue, stands_other, stands_there, waiters_below, waits_there, well_granted, woken_front}
 pub use Rattle.gl_model.proofs.telling.Lists.{told_is}
-pub use Rattle.gl_model.specs.Calls.{answered, asked_at, bad_mode, begin_tests, begun_again, begun_since, cancelled, child_held, commit_tests, covered_children}
+pub use Rattle.gl_model.specs.Calls.{answered, asked_at, bad_mode, begin_tests, begun_again, begun_at, cancelled, child_held, commit_tests, covered_children}
 pub use Rattle.gl_model.specs.Calls.{deleted, departed, enqueued, enters_at, first_not_ix, first_of_all, free_slot, freed, freed_among, freed_unless, goes_with}
 pub use Rattle.gl_model.specs.Calls.{GoesBack, granted, held_child, held_children, hinders_at, holds_child, is_covered, is_idle, lock_tests, locked_as}
 pub use Rattle.gl_model.specs.Calls.{moved_to, need_exclusive, need_new_parents, need_parents, none_among, none_but, not_held, RefusesOnly, released}

@@ -27,7 +27,7 @@ use Rattle.gl_model.specs.declared.txn.Status.TheVariants.{Waiting}
 use Rattle.gl_model.specs.declared.txn.TxnId.{TxnId}
 use Rattle.gl_model.specs.declared.answers.Detect.TheVariants.{ByWatcher}
 
--- a table: graph, headers by node, transactions by slot with their lists, detection, choice of victims, number of begins, and last deadlock
+-- a table: graph, headers by node, transactions by slot with their lists, detection, choice of victims, last age, and last deadlock
 pub record TableView : Type 0 where
   pub graph : View
   pub headers : Entries

@@ -4,7 +4,7 @@ ghost use Rattle.gl_slots.specs.Limit.{most_slots};
 ghost use Rattle.std.specs.Prelude.{◌≡◌, ◌<◌, ◌≤◌, ◌==◌, ℕ, IfOk, None, Some, if◌then◌else◌, length, position, replicate, slice_set};
 ghost use Rattle.gl_slots.specs.Slots.{has_slot};
 ghost use Rattle.gl_model.specs.State.{age_in, is_wait, restatus};
-ghost use Rattle.gl_table.specs.inside.TxnEntries.{is_free, lives_at, txn_in, txns_of, waits_at};
+ghost use Rattle.gl_table.specs.inside.TxnEntries.{is_free, is_free_at, lives_at, txn_in, txns_of, waits_at};
 
 use crate::txn_entry::TxnEntry;
 use gl_model::Status;
@@ -77,6 +77,16 @@ impl TxnEntries {
         ensures { result ≡ position is_free self.now.items }
     {
         self.free.lowest()
+    }
+
+    /// The slot of this number, if there is one and it is free.
+    pub(crate) fn free_slot(&self, number: usize) -> Option<Slot>
+        ensures { result ≡ (if is_free_at self.now.items number then Some number else None) }
+    {
+        match self.list.get(number) {
+            Some(None) => Some(number as Slot),
+            _ => None,
+        }
     }
 
     /// The slots with a transaction.

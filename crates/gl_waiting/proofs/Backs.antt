@@ -137,7 +137,7 @@ module _ (g v : RegistryView) (t : TxnId) (mark k : ℕ) (list : Told) (h : Goes
 -- every other transaction lives on while t is renewed or ends
 last_goes_on : (t : TxnId) (since : ℕ) (s s' : State) (u : ℕ) → t.slot ≢ u → (next : Option TxnId) → RenewsOrEnds t since s next s' → GoesOn s s' u
 last_goes_on t since s s' u apart (Some x) h =
-    lives_on_same (s.txns u) (s'.txns u) (ap (λ (z : State). z.txns u) h.2 ∙ begun_other s t.slot (min since (s.begins + 1)) u apart)
+    lives_on_same (s.txns u) (s'.txns u) (ap (λ (z : State). z.txns u) h.2 ∙ begun_other s t.slot (s.begins + 1) (min since (s.begins + 1)) u apart)
 last_goes_on t since s s' u apart None h =
     let gone : State = stripped s t.slot in
     subst (λ z. GoesOn s z u) (sym h.1)

@@ -426,6 +426,7 @@ pub fn acting_slot(command: &Command<'_>) -> Option<Slot>
         | Command::Index { .. }
         | Command::Begin
         | Command::BeginAgain { .. }
+        | Command::Join { .. }
         | Command::Settle { .. }
         | Command::Group { .. }
         | Command::Held { .. }

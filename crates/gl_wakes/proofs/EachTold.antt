@@ -21,6 +21,7 @@ module _ (Holds : Told → Type 0) (s : State) (none : Holds []) (all : (now : S
   accepted (command.Insert t f keys) a list s' acc = subst Holds (sym acc.3) none
   accepted command.Begin a list s' acc = subst Holds (sym acc.3) none
   accepted (command.BeginAgain since) a list s' acc = subst Holds (sym acc.3) none
+  accepted (command.Join t since) a list s' acc = subst Holds (sym acc.1) none
   accepted (command.Lock t n m) a list s' acc = subst Holds (sym acc.2) (but t.slot s')
   accepted (command.Try t n m) a list s' acc = subst Holds (sym acc.1) none
   accepted (command.Cancel t) a list s' acc = subst Holds (sym acc.1) (but t.slot s')

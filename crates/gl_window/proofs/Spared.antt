@@ -1,5 +1,5 @@
 -- Commands that change no wait if nobody is told. For watchers that are told only if waits may have changed.
-use Rattle.gl_window.proofs.Words.{◌&&◌, ◌+◌, ◌==◌, [], ◌||◌, ◌∙◌, ◌∷◌, ◌≡◌, ◌≤◌, ⊎_elim, accepted_once, Active, age_in, age_of, Answer, ap, arith, begun_since}
+use Rattle.gl_window.proofs.Words.{◌&&◌, ◌+◌, ◌==◌, [], ◌||◌, ◌∙◌, ◌∷◌, ◌≡◌, ◌≤◌, ⊎_elim, accepted_once, Active, age_in, age_of, Answer, ap, arith, begun_at}
 use Rattle.gl_window.proofs.Words.{Bool, clash, Command, enters_at, false, grants, Graph, has_none, has_slot, HasParties, holds, if◌then◌else◌, inl, is_empty}
 use Rattle.gl_window.proofs.Words.{is_some, is_wait, is_waiting_at, IsLawful, lawful_orderly, leaves_waiting, leaves_waits, members, Mode, most_slots, NL, no}
 use Rattle.gl_window.proofs.Words.{NodeId, None, none_some, not, not-true, number_same, Option, refl, Refusal, same_node, Slots, Some, spares_waits, split}
@@ -11,10 +11,10 @@ use Rattle.gl_modes.specs.declared.mode.Mode.TheVariants.{X}
 use Rattle.gl_modes.specs.declared.refusal.Refusal.TheVariants as no
 use Rattle.gl_graph.proofs.Unrefused.{not_false, test_fails}
 use Rattle.gl_header.specs.Header.{without_waiter}
-use Rattle.gl_model.proofs.law.Lock.{free_slot as first_free}
+use Rattle.gl_model.proofs.law.Lock.{free_slot as first_free, joining_slot}
 use Rattle.gl_model.proofs.queues.Edits.{without_none}
 use Rattle.gl_model.proofs.telling.Fronts.{in_no_queue}
-use Rattle.gl_model.specs.Calls.{granted, released, would_block}
+use Rattle.gl_model.specs.Calls.{granted, joining_age, released, would_block}
 use Rattle.gl_model.specs.State.{live_by, lives}
 use Rattle.gl_steps.proofs.NotRefused.{active_is}
 use Rattle.gl_steps.proofs.OneStep.{all_none, AllNone}
@@ -119,28 +119,30 @@ module _ (set : Slots) (s : State) (law : IsLawful s) (few : s.most ≤ most_slo
   graph_case : (next : State) (g : Graph) → next ≡ with_graph s g → Spares set s next
   graph_case next g e = subst (Spares set s) (sym e) (regraphed set s s g (spared_itself set s has))
 
-  begun_case : (since t : ℕ) (next : State) → is_some (s.txns t) ≡ false → next ≡ begun_since s t since → Spares set s next
-  begun_case since t next gone e =
-      subst (Spares set s) (sym e) (begun_spares set s law has t since (free_idle s t gone) (λ u n at. free_holds s law t gone n))
+  begun_case : (t age since : ℕ) (next : State) → is_some (s.txns t) ≡ false → next ≡ begun_at s t age since → Spares set s next
+  begun_case t age since next gone e =
+      subst (Spares set s) (sym e) (begun_spares set s law has t age since (free_idle s t gone) (λ u n at. free_holds s law t gone n))
 
-  renewed_case : (since t : ℕ) (next : State) → not (has_slot set t) ≡ true → next ≡ begun_since s t since → Spares set s next
-  renewed_case since t next spared e =
-      let party = has t (not-true _ spared) in subst (Spares set s) (sym e) (begun_spares set s law has t since party.0 party.1)
+  renewed_case : (t age since : ℕ) (next : State) → not (has_slot set t) ≡ true → next ≡ begun_at s t age since → Spares set s next
+  renewed_case t age since next spared e =
+      let party = has t (not-true _ spared) in subst (Spares set s) (sym e) (begun_spares set s law has t age since party.0 party.1)
 
   accepted : (c : Command) (next : State) → Step s c a told s' → s' ≡ accepted_once next → AllNone (tests_of s c) → spares_waits set c a ≡ true
       → Accepts s c a told next → Spares set s next
   accepted (command.Inner ps) next step is passed spared acc = graph_case next _ acc.4
   accepted (command.File ps) next step is passed spared acc = graph_case next _ acc.4
   accepted (command.Index ps f bs) next step is passed spared acc = graph_case next _ acc.4
-  accepted command.Begin next step is passed spared acc = begun_case (s.begins + 1) acc.0 next (first_free s acc.0 0 s.most acc.1).0 acc.4
+  accepted command.Begin next step is passed spared acc = begun_case acc.0 (s.begins + 1) (s.begins + 1) next (first_free s acc.0 0 s.most acc.1).0 acc.4
   accepted (command.BeginAgain since) next step is passed spared acc =
-      begun_case (min since (s.begins + 1)) acc.0 next (first_free s acc.0 0 s.most acc.1).0 acc.4
+      begun_case acc.0 (s.begins + 1) (min since (s.begins + 1)) next (first_free s acc.0 0 s.most acc.1).0 acc.4
+  accepted (command.Join t since) next step is passed spared acc =
+      begun_case t (joining_age s since) since next (joining_slot s t passed.1.1.0).0 acc.2
   accepted (command.Lock t n m) next step is passed spared acc =
       lock_case t n m next step is (active_is s t passed.1.0 passed.1.1.0 passed.1.1.1.0) spared acc
   accepted (command.Try t n m) next step is passed spared acc = try_case t n m next passed.1.1.1.1.1.1.1.0 spared acc.2
   accepted (command.Unlock t n) next step is passed spared acc = unlock_case t n next step is spared acc.2
   accepted (command.Commit t) next step is passed spared acc = end_case (command.Commit t) t next step is (λ u apart. refl) spared acc.2
-  accepted (command.Renew t since) next step is passed spared acc = renewed_case (min since (s.begins + 1)) t.slot next spared acc.2
+  accepted (command.Renew t since) next step is passed spared acc = renewed_case t.slot (s.begins + 1) (min since (s.begins + 1)) next spared acc.2
   accepted (command.Abort t) next step is passed spared acc = end_case (command.Abort t) t next step is (abort_names t) spared acc.2
   accepted (command.Insert t f keys) next step is passed spared acc = born_case t acc.0 next acc.1.birth acc.4
   accepted (command.Adopt f keys) next step is passed spared acc = graph_case next _ acc.4

@@ -1,6 +1,6 @@
 -- Changes that keep all waits, so that a snapshot of the waits before shows those after: grants to and releases of a transaction that is no party to a wait.
 use Rattle.gl_window.proofs.Words.{◌&&◌, ◌+◌, ◌<◌, ◌==◌, [], ◌||◌, ◌∙◌, ◌∷◌, ◌≡◌, ◌≤◌, ◌⊎◌, ⊎_elim, accepted_once, Active, age_in, age_of, Answer, ap}
-use Rattle.gl_window.proofs.Words.{are_compatible, AtBlock, begun_since, blocks, Board, Bool, clash, Condemned, Detect, enters_at, false, grants, Graph}
+use Rattle.gl_window.proofs.Words.{are_compatible, AtBlock, begun_at, blocks, Board, Bool, clash, Condemned, Detect, enters_at, false, grants, Graph}
 use Rattle.gl_window.proofs.Words.{has_none, has_slot, HasParties, holds, if◌then◌else◌, inl, is_empty, is_some, is_wait, is_waiting_at, IsLawful}
 use Rattle.gl_window.proofs.Words.{lawful_orderly, length, List, members, Mode, NL, no, NobodyWaits, NodeId, None, none_some, not, not-true, number_same}
 use Rattle.gl_window.proofs.Words.{Option, refl, same_node, ShowsWaits, Slots, Some, split, State, Status, status_in, status_of, subst, suc, sym, true}
@@ -197,13 +197,13 @@ unawaited s law t idle apart x =
     (λ e. e)
 
 -- in a slot that waits for nothing, and holds no node for which somebody waits
-module _ (set : Slots) (s : State) (law : IsLawful s) (has : HasParties s set) (t since : ℕ) (idle_there : is_wait (status_of s t) ≡ false)
+module _ (set : Slots) (s : State) (law : IsLawful s) (has : HasParties s set) (t age since : ℕ) (idle_there : is_wait (status_of s t) ≡ false)
     (apart : (u : ℕ) (n : NodeId) → is_waiting_at s u n ≡ true → holds (members s n) t ≡ false) where
   abbrev next : State
-  next = begun_since s t since
+  next = begun_at s t age since
 
   abbrev new : Option Txn
-  new = Some (record { age = s.begins + 1; since = since; status = Active })
+  new = Some (record { age = age; since = since; status = Active })
 
   not_there : (x : ℕ) → (x == t) ≡ true → is_wait (status_of s x) ≡ false
   not_there x e = ap (λ u. is_wait (status_of s u)) (same_number x t e) ∙ idle_there
@@ -232,7 +232,7 @@ module _ (set : Slots) (s : State) (law : IsLawful s) (has : HasParties s set) (
     );
   }
 
-  pub begun_spares : Spares set s (begun_since s t since)
+  pub begun_spares : Spares set s (begun_at s t age since)
   begun_spares = record {
     same = begun_same;
     parties = λ v out. (

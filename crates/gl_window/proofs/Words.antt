@@ -16,7 +16,7 @@ pub use Rattle.gl_steps.specs.Step.{Step}
 pub use Rattle.gl_steps.specs.declared.command.Answer.{Answer}
 pub use Rattle.gl_steps.specs.declared.command.Command.{Command}
 pub use Rattle.gl_table.proofs.Words.{◌&&◌, ◌+◌, ◌++◌, ◌<◌, ◌==◌, [], ◌||◌, ◌∙◌, ◌∷◌, ◌≡◌, ◌≤◌, ◌⊎◌, ⊎_elim, Active, age_in, age_of, ap, are_compatible, arith}
-pub use Rattle.gl_table.proofs.Words.{AtBlock, begun_since, blocks, Board, board_of, Bool, clash, Condemned, Detect, enters_at, false, Graph, has_slot, holds}
+pub use Rattle.gl_table.proofs.Words.{AtBlock, begun_at, blocks, Board, board_of, Bool, clash, Condemned, Detect, enters_at, false, Graph, has_slot, holds}
 pub use Rattle.gl_table.proofs.Words.{if◌then◌else◌, inl, is_empty, is_some, is_wait, is_waiting_at, IsLawful, length, List, members, Mode, nat_tests, NL, no}
 pub use Rattle.gl_table.proofs.Words.{NodeId, None, none_some, not, not-true, number_same, Option, refl, Refusal, rules, same_node, Slots, Some, split, State}
 pub use Rattle.gl_table.proofs.Words.{Status, status_in, status_of, subst, suc, sym, Told, true, Txn, TxnId, unlocked, Waiting, waits_at, waits_for, wanted}

@@ -25,6 +25,7 @@ spares_waits parties (command.File ps) a = true
 spares_waits parties (command.Index ps f bs) a = true
 spares_waits parties command.Begin a = true
 spares_waits parties (command.BeginAgain since) a = true
+spares_waits parties (command.Join t since) a = true
 spares_waits parties (command.Lock t n m) a = grants a && not (has_slot parties t.slot)
 spares_waits parties (command.Try t n m) a = not (has_slot parties t.slot)
 spares_waits parties (command.Unlock t n) a = not (has_slot parties t.slot)

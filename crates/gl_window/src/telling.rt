@@ -75,6 +75,7 @@ fn spares_waits(parties: Slots, command: &Command<'_>, answer: &Answer) -> bool
         | Command::Index { .. }
         | Command::Begin
         | Command::BeginAgain { .. }
+        | Command::Join { .. }
         | Command::Insert { .. }
         | Command::Adopt { .. }
         | Command::Forget { .. }

@@ -384,6 +384,29 @@ impl Manager {
         accepted(sys::bs_call_begin_again(self.pinned.place_mut(), since)).map(|reply| reply.txn)
     }
 
+    /// A new transaction in the slot of this number, for work that began in another manager: so a transaction has
+    /// one slot in several managers that work as one, and one `since`, by which each of them chooses the same
+    /// victims. The number is as in [`begin_again`](Manager::begin_again), but is kept also if it is above the
+    /// next age. Then it is the transaction's age too, and the next transaction has the age after it. Slots are
+    /// numbered from 0, and there are as many as transactions may live at once.
+    ///
+    /// Refused with [`WornOut`](Refusal::WornOut), also if `u64::MAX` was given as an age, and with
+    /// [`TooManyTxns`](Refusal::TooManyTxns) if the slot is taken, or there is no such slot.
+    ///
+    /// ```
+    /// # use burlapslate::{Detect, Manager, Refusal, SLOTS};
+    /// let mut m = Manager::new(Detect::AtBlock, SLOTS)?;
+    /// let part = m.join(5, 40)?;
+    /// assert_eq!((part.slot(), part.age()), (5, 40));
+    /// assert_eq!(m.begin()?.age(), 41);
+    /// assert_eq!(m.join(5, 50), Err(Refusal::TooManyTxns));
+    /// # Ok::<(), burlapslate::Refusal>(())
+    /// ```
+    pub fn join(&mut self, slot: usize, since: u64) -> Result<Txn, Refusal> {
+        let slot = u32::try_from(slot).unwrap_or(u32::MAX);
+        accepted(sys::bs_call_join(self.pinned.place_mut(), slot, since)).map(|reply| reply.txn)
+    }
+
     /// Ends a transaction and begins another in its slot, which holds what it held: intentions alone, on nodes for
     /// which nobody waits. `since` is as in [`begin_again`](Manager::begin_again), and `u64::MAX` for new work.
     ///

@@ -329,6 +329,7 @@ unsafe extern "C" {
 
     pub(crate) safe fn bs_call_begin(manager: &mut Place) -> Reply;
     pub(crate) safe fn bs_call_begin_again(manager: &mut Place, since: u64) -> Reply;
+    pub(crate) safe fn bs_call_join(manager: &mut Place, slot: u32, since: u64) -> Reply;
     pub(crate) safe fn bs_call_renew(manager: &mut Place, txn: Txn, since: u64) -> Reply;
     pub(crate) safe fn bs_call_lock(
         manager: &mut Place,

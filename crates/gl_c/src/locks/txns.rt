@@ -34,6 +34,16 @@ pub extern "C" fn bs_call_begin_again(manager: &mut Handle, since: u64) -> Reply
     manager.ask(Command::BeginAgain { since })
 }
 
+/// Begins a transaction in the slot of this number, for work that began in another manager: its `since`
+/// is this number, also if it is above the next age.
+#[unsafe(no_mangle)]
+pub extern "C" fn bs_call_join(manager: &mut Handle, slot: u32, since: u64) -> Reply
+    ensures { Asks (guarded_in manager.old) (command_call (command.Join slot since)) result (guarded_in manager.new) }
+{
+    let slot = slot as usize;
+    manager.ask(Command::Join { slot, since })
+}
+
 /// Ends a transaction that holds intentions alone, on nodes for which nobody waits, and begins anew in
 /// its slot with all its locks; `since` is as for `bs_call_begin_again`.
 #[unsafe(no_mangle)]

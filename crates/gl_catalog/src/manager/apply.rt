@@ -96,6 +96,7 @@ impl Manager {
             } => node_answer(self.add_index(parents, file, bounds)),
             Command::Begin => begun_answer(self.begin()),
             Command::BeginAgain { since } => begun_answer(self.begin_again(since)),
+            Command::Join { slot, since } => begun_answer(self.join(slot, since)),
             Command::Lock { txn, node, mode } => lock_answer(self.lock_telling(
                 txn, node, mode, told,
             )),

@@ -44,6 +44,23 @@ impl Manager {
         Ok(txn)
     }
 
+    /// Begins a transaction in the slot of this number, for work that began in another manager: its
+    /// `since` is this number, also if it is above the next age. Its age is the greater of the two.
+    /// So managers that work as one have the same slots, and choose the same victims. Refused, in
+    /// this order, with `WornOut`, also if `u64::MAX` was given as an age, and `TooManyTxns` if the
+    /// slot is taken, or is none of the manager's. Allocates no memory.
+    pub fn join(&mut self, slot: usize, since: u64) -> Result<TxnId, Refusal>
+        ensures step { CallSteps (state_of self.old) (command.Join slot since) began result (state_of self.new) }
+        ensures completes { IfOk result (λ x. Completes (command.Join slot since) self.old (began x) self.new) }
+        ensures err { OnErr result (self.new ≡ self.old) }
+    {
+        self.check_count()?;
+        let txn = self.table.join(slot, since)?;
+        self.table.law();
+        self.accepted += 1;
+        Ok(txn)
+    }
+
     /// Ends a transaction that holds intentions alone, on nodes for which nobody waits, and begins
     /// anew in its slot with all its locks. `since` is as in `begin_again`; for new work it is
     /// `u64::MAX`. Refused, in this order, with `WornOut`, `NoSuchTxn`, `TxnWaiting`,

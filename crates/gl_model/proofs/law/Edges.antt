@@ -1,6 +1,6 @@
 -- Who waits for whom after each change. For cycles and snapshots.
 use Rattle.gl_model.proofs.Words.{◌&&◌, ◌+◌, ◌++◌, ◌==◌, [], ◌||◌, ◌∙◌, ◌∷◌, ◌≡◌, ◌≢◌, ◌⊎◌, ⊎_elim, Active, and_both, ap, append-nil, ap₂, are_compatible}
-use Rattle.gl_model.proofs.Words.{arith, begun_since, blocks, Bool, clash, Condemned, differ-false, drop, enqueued, false, filter, granted_at, holds}
+use Rattle.gl_model.proofs.Words.{arith, begun_at, blocks, Bool, clash, Condemned, differ-false, drop, enqueued, false, filter, granted_at, holds}
 use Rattle.gl_model.proofs.Words.{if◌then◌else◌, inr, is_ahead, is_among_waiters, is_waiter, IsLawful, length, List, Members, members, Mode, nat_tests}
 use Rattle.gl_model.proofs.Words.{NL-compatible, NodeId, None, not, not-true, number_other, Option, or_elim, or_left, or_right, placed, pumped, refl, restatus}
 use Rattle.gl_model.proofs.Words.{same_node, same_node-equal, Some, split, State, Status, status_in, status_of, sym, true, Txn, Waiter, Waiting, waits_for}
@@ -159,12 +159,12 @@ granted_steps s t n m x y h nx ny =
     })
 
 -- a new transaction t
-pub begun_steps : (s : State) (t since : ℕ) (x y : ℕ) → waits_for (begun_since s t since) x y ≡ true → x ≢ t → y ≢ t → waits_for s x y ≡ true
-begun_steps s t since x y h nx ny =
-    let st = step_is (begun_since s t since) x y h in
+pub begun_steps : (s : State) (t age since : ℕ) (x y : ℕ) → waits_for (begun_at s t age since) x y ≡ true → x ≢ t → y ≢ t → waits_for s x y ≡ true
+begun_steps s t age since x y h nx ny =
+    let st = step_is (begun_at s t age since) x y h in
     is_step s x y st.0 st.1 (record {
       differ = st.2.differ;
-      waits = ap (λ b. status_in (if b then Some (record { age = s.begins + 1; since = since; status = Active }) else s.txns x))
+      waits = ap (λ b. status_in (if b then Some (record { age = age; since = since; status = Active }) else s.txns x))
           (sym (number_other x t nx)) ∙ st.2.waits;
       blocked = st.2.blocked;
     })

@@ -1,12 +1,15 @@
 -- A lock and an unlock keep the law, and no command on locks leaves a cycle. For the table's law.
 use Rattle.gl_model.proofs.Words.{◌&&◌, ◌+◌, ◌++◌, ◌<◌, ◌==◌, [], ◌∙◌, ◌∷◌, ◌≡◌, Active, active_on, and_both, ap, arith, at_one-no_cycle, AtBlock, bad_mode}
-use Rattle.gl_model.proofs.Words.{begun_since, Bool, ByWatcher, choosing, Condemned, condemned, Detect, empty_state, EmptyHasNoCycle, enqueued, enters_at}
+use Rattle.gl_model.proofs.Words.{begun_at, Bool, ByWatcher, choosing, Condemned, condemned, Detect, empty_state, EmptyHasNoCycle, enqueued, enters_at}
 use Rattle.gl_model.proofs.Words.{false, find, first_refusal, HasNoCycle, held_child, if◌then◌else◌, intends, is_child, is_covered, is_live, is_none, is_some}
 use Rattle.gl_model.proofs.Words.{is_waiting_at, IsLawful, IsOnNoCycle, less-no_cycle, List, Locks, Mode, nat_tests, need_parents, NL, no_step-no_cycle, NodeId}
 use Rattle.gl_model.proofs.Words.{None, not_refused, not_true, number_same, Option, parents_of, pumped, range_with_len, refl, Refusal, released, restatus}
 use Rattle.gl_model.proofs.Words.{same_node, same_node-equal, same_node-sym, Settled, SettledWithin, SettlingFrees, shed, Some, split, State, Status, status_in}
 use Rattle.gl_model.proofs.Words.{status_of, subst, suc, supremum-above, sym, true, Txn, TxnId, Victims, Waiter, waits_for, WaitSettles, wanted, with_grant}
 use Rattle.gl_model.proofs.Words.{without_wait, without_waiter, zero, ℕ}
+use Rattle.gl_modes.specs.declared.refusal.Refusal.TheVariants as no
+use Rattle.gl_model.specs.Calls.{taken_slot}
+use Rattle.gl_graph.proofs.Unrefused.{not_false, test_fails}
 use Rattle.gl_model.proofs.law.Edges.{begun_steps, enqueued_steps, granted_steps, idle_no_step, less_steps, pumped_steps}
 use Rattle.gl_model.proofs.law.Keeps.{apart, IsLess, less-lawful, pumped-lawful, with_grant-lawful}
 use Rattle.gl_model.proofs.law.Takes.{at_all, condemned-lawful, enqueued-lawful, IsQuiet, released-less, settled-lawful, taken-less, without_wait-less}
@@ -78,6 +81,16 @@ pub free_slot : (s : State) (t : ℕ) (k len : ℕ) → find (λ u. is_none (s.t
 free_slot s t k zero h = absurd (cc)
 free_slot s t k (suc len) h = grind (arith, nat_tests, is_none (s.txns k), free_slot s t (k + 1) len)
 
+-- a slot in which a transaction may join
+pub joining_slot : (s : State) (t : ℕ) → taken_slot s t ≡ None → (is_some (s.txns t) ≡ false) × (t < s.most)
+joining_slot s t h =
+    let b = and_both _ _ (not_false _ (test_fails _ no.TooManyTxns h)) in
+    let low = b.0 in (vacant (s.txns t) b.1, grind (arith, nat_tests))
+  where
+    vacant : (o : Option Txn) → is_none o ≡ true → is_some o ≡ false
+    vacant None e = refl
+    vacant (Some x) e = cc
+
 -- With detection at each block, no command on locks leaves a cycle.
 
 -- taking, and then granting from the fronts, adds no step
@@ -136,9 +149,9 @@ granted-no_cycle s t n m active none =
     (no_step-no_cycle (waits_for (with_grant s t n m)) t (active_idle (with_grant s t n m) t active))
 
 -- a transaction that begins waits for nobody
-pub begun-no_cycle : (s : State) (t since : ℕ) → HasNoCycle s → HasNoCycle (begun_since s t since)
-begun-no_cycle s t since none = at_one-no_cycle (waits_for s) (waits_for (begun_since s t since)) t (begun_steps s t since) none
-    (no_step-no_cycle (waits_for (begun_since s t since)) t (active_idle (begun_since s t since) t (ap status_in (if-true _ (number_same t t refl)))))
+pub begun-no_cycle : (s : State) (t age since : ℕ) → HasNoCycle s → HasNoCycle (begun_at s t age since)
+begun-no_cycle s t age since none = at_one-no_cycle (waits_for s) (waits_for (begun_at s t age since)) t (begun_steps s t age since) none
+    (no_step-no_cycle (waits_for (begun_at s t age since)) t (active_idle (begun_at s t age since) t (ap status_in (if-true _ (number_same t t refl)))))
 
 -- a lock that waits, once it is settled
 pub waiting-no_cycle : (c : Victims) (s s' : State) → IsLawful s → (t : TxnId) (n : NodeId) (m : Mode) → MayLock s t n m → enters_at s t.slot n m ≡ false

@@ -1,6 +1,6 @@
 -- Removed grants and waits, a wait that begins, and the empty state: the law is kept. For releases, locks and new tables.
 use Rattle.gl_model.proofs.Words.{◌&&◌, ◌+◌, ◌<◌, ◌==◌, [], ◌^◌, ◌||◌, ◌∙◌, ◌∷◌, ◌≡◌, ◌≢◌, ◌≤◌, ◌⊎◌, ⊎_elim, Active, age_in, age_of, and_both, ap, ap₂, arith}
-use Rattle.gl_model.proofs.Words.{begun_since, Bool, choosing, clash, Condemned, condemned, Detect, empty_state, enqueued, enters, false, filter, front, holds}
+use Rattle.gl_model.proofs.Words.{begun_at, Bool, choosing, clash, Condemned, condemned, Detect, empty_state, enqueued, enters, false, filter, front, holds}
 use Rattle.gl_model.proofs.Words.{if◌then◌else◌, inl, inr, intends, is_ahead, is_among_waiters, is_at_least, is_child, is_live, is_some, is_wait, is_waiter}
 use Rattle.gl_model.proofs.Words.{is_waiting_at, IsLawful, members, Mode, ModeFitsKind, nat_tests, NL, no, NodeId, None, none_some, not, number_other}
 use Rattle.gl_model.proofs.Words.{number_same, Option, or_no, other_number, placed, pumped, refl, released, restatus, same_mode, same_node, same_node-equal}
@@ -255,19 +255,19 @@ free_quiet s t free = by (s.txns t) free
 
 -- A transaction begins in a slot in which nobody waits: in a free one, or in its own.
 
-module _ (s : State) (law : IsLawful s) (t : ℕ) (quiet : is_wait (status_of s t) ≡ false) (below : t < s.most) (since : ℕ)
-    (low : since ≤ s.begins + 1) where
+module _ (s : State) (law : IsLawful s) (t : ℕ) (quiet : is_wait (status_of s t) ≡ false) (below : t < s.most) (age since : ℕ)
+    (later : s.begins < age) (low : since ≤ age) where
   abbrev newcomer : Option Txn
-  newcomer = Some (record { age = s.begins + 1; since = since; status = Active })
+  newcomer = Some (record { age = age; since = since; status = Active })
 
-  begun_case : {C : Type 0} (u : ℕ) → (u ≡ t → (begun_since s t since).txns u ≡ newcomer → C) → (u ≢ t → (begun_since s t since).txns u ≡ s.txns u → C) → C
+  begun_case : {C : Type 0} (u : ℕ) → (u ≡ t → (begun_at s t age since).txns u ≡ newcomer → C) → (u ≢ t → (begun_at s t age since).txns u ≡ s.txns u → C) → C
   begun_case u here there = split (u == t) (λ e. here (same_number u t e) (if-true _ e)) (λ e. there (other_number u t e) (if-false _ e))
 
   age_low : (u : ℕ) → age_of s u ≤ s.begins
   age_low u = split (is_some (s.txns u)) (λ h. (law.ages u h).1) (λ h. let none : age_of s u ≡ 0 = age_none (s.txns u) h in omega arith)
 
   -- the new age is above all others
-  pub begun-lawful : IsLawful (begun_since s t since)
+  pub begun-lawful : IsLawful (begun_at s t age since)
   begun-lawful = record {
     graph = law.graph;
     grants_live = λ u q h. let old = law.grants_live u q h in (begun_case u (λ is e. ap is_some e) (λ ne e. ap is_some e ∙ old.0), old.1, old.2);
@@ -282,19 +282,20 @@ module _ (s : State) (law : IsLawful s) (t : ℕ) (quiet : is_wait (status_of s 
     holders_first = law.holders_first;
     front_waits = law.front_waits;
     slots_below = λ u h. begun_case u (λ is e. subst (λ v. v < s.most) (sym is) below) (λ ne e. law.slots_below u (ap is_some (sym e) ∙ h));
-    ages = λ u h. begun_case u (λ is e. let age : age_of (begun_since s t since) u ≡ s.begins + 1 = ap age_in e in
-        (subst (λ a. 1 ≤ a) (sym age) (omega arith), subst (λ a. a ≤ s.begins + 1) (sym age) (omega arith)))
-        (λ ne e. let age : age_of (begun_since s t since) u ≡ age_of s u = ap age_in e in let old = law.ages u (ap is_some (sym e) ∙ h) in let high = old.1 in
-        (subst (λ a. 1 ≤ a) (sym age) old.0, subst (λ a. a ≤ s.begins + 1) (sym age) (omega arith)));
+    ages = λ u h. begun_case u (λ is e. let is_age : age_of (begun_at s t age since) u ≡ age = ap age_in e in
+        (subst (λ a. 1 ≤ a) (sym is_age) (omega (arith, later)), subst (λ a. a ≤ age) (sym is_age) (omega arith)))
+        (λ ne e. let is_age : age_of (begun_at s t age since) u ≡ age_of s u = ap age_in e in let old = law.ages u (ap is_some (sym e) ∙ h) in
+        let high = old.1 in (subst (λ a. 1 ≤ a) (sym is_age) old.0, subst (λ a. a ≤ age) (sym is_age) (omega (arith, high, later))));
     ages_differ = λ u v h e. begun_case u
-        (λ is f. begun_case v (λ at k. is ∙ sym at) (λ ne k. let low = age_low v in let new : s.begins + 1 ≡ age_of s v = ap age_in (sym f) ∙ e ∙ ap age_in k in
-        absurd (omega arith)))
-        (λ ne f. begun_case v (λ at k. let low = age_low u in let new : age_of s u ≡ s.begins + 1 = ap age_in (sym f) ∙ e ∙ ap age_in k in absurd (omega arith))
+        (λ is f. begun_case v (λ at k. is ∙ sym at) (λ ne k. let old = age_low v in let new : age ≡ age_of s v = ap age_in (sym f) ∙ e ∙ ap age_in k in
+        absurd (omega (arith, later, old, new))))
+        (λ ne f. begun_case v (λ at k. let old = age_low u in let new : age_of s u ≡ age = ap age_in (sym f) ∙ e ∙ ap age_in k in
+        absurd (omega (arith, later, old, new)))
         (λ ne' k. law.ages_differ u v (ap is_some (sym f) ∙ h) (ap age_in (sym f) ∙ e ∙ ap age_in k)));
-    known = λ u h. begun_case u (λ is e. let a : age_of (begun_since s t since) u ≡ s.begins + 1 = ap age_in e in
-        let b : since_of (begun_since s t since) u ≡ since = ap since_in e in omega (arith, low, a, b))
-        (λ ne e. let a : age_of (begun_since s t since) u ≡ age_of s u = ap age_in e in
-        let b : since_of (begun_since s t since) u ≡ since_of s u = ap since_in e in
+    known = λ u h. begun_case u (λ is e. let a : age_of (begun_at s t age since) u ≡ age = ap age_in e in
+        let b : since_of (begun_at s t age since) u ≡ since = ap since_in e in omega (arith, low, a, b))
+        (λ ne e. let a : age_of (begun_at s t age since) u ≡ age_of s u = ap age_in e in
+        let b : since_of (begun_at s t age since) u ≡ since_of s u = ap since_in e in
         let old = law.known u (ap is_some (sym e) ∙ h) in omega (arith, old, a, b));
   }
 

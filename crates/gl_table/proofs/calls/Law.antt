@@ -1,5 +1,5 @@
 -- What holds of a table's fields: of every table, of a new one, with new nodes and with one transaction more.
-use Rattle.gl_table.proofs.Words.{◌+◌, ◌<◌, ◌==◌, [], ◌^◌, ◌||◌, ◌∙◌, ◌∷◌, ◌≡◌, ◌≤◌, Active, ap, AreDistinct, AreNew, arith, begin_tests, begun_since, Bool}
+use Rattle.gl_table.proofs.Words.{◌+◌, ◌<◌, ◌==◌, [], ◌^◌, ◌||◌, ◌∙◌, ◌∷◌, ◌≡◌, ◌≤◌, Active, ap, AreDistinct, AreNew, arith, begin_tests, begun_at, Bool}
 use Rattle.gl_table.proofs.Words.{by_list, children_that, choosing, clash, cond, count_in, counted_by, Detect, empty_state, Entry, entry_of, Err, false, find}
 use Rattle.gl_table.proofs.Words.{first_refusal, free_slot, graph_of, HasNoCycle, held_children, held_of, holds, IfOk, Inside, is_among_waiters, is_free}
 use Rattle.gl_table.proofs.Words.{is_live, is_none, is_some, is_wait, is_waiting_at, IsDistinct, IsLawful, IsSafe, IsSound, keys_of, Ledger, length, length-set}
@@ -232,11 +232,11 @@ free-place i t at =
     )
 
 -- a transaction begins in a slot in which nobody waits
-module _ (i : Inside) (sound : IsSound i) (t since : ℕ) (place : t < length i.locks.ledger.txn_entries.items)
+module _ (i : Inside) (sound : IsSound i) (t age since : ℕ) (place : t < length i.locks.ledger.txn_entries.items)
     (quiet : is_wait (status_of (state_of (view_of i)) t) ≡ false)
     (txn_entries : TxnEntryList)
-    (has_entry : txn_entries.items ≡ slice_set i.locks.ledger.txn_entries.items t (Some (record { age = i.begins + 1; since = since; status = Active })))
-    (low : since ≤ i.begins + 1) where
+    (has_entry : txn_entries.items ≡ slice_set i.locks.ledger.txn_entries.items t (Some (record { age = age; since = since; status = Active })))
+    (later : i.begins < age) (low : since ≤ age) where
   abbrev ledger : Ledger
   ledger = record i.locks.ledger { txn_entries = txn_entries }
 
@@ -244,31 +244,31 @@ module _ (i : Inside) (sound : IsSound i) (t since : ℕ) (place : t < length i.
   first = state_of (view_of i)
 
   abbrev now : State
-  now = record (state_in i.locks.graph ledger) { detect = i.detect; victims = i.victims; begins = i.begins + 1 }
+  now = record (state_in i.locks.graph ledger) { detect = i.detect; victims = i.victims; begins = age }
 
   txn_entries-same : length txn_entries.items ≡ length i.locks.ledger.txn_entries.items
-  txn_entries-same = ap length has_entry ∙ length-set i.locks.ledger.txn_entries.items t (Some (record { age = i.begins + 1; since = since; status = Active }))
+  txn_entries-same = ap length has_entry ∙ length-set i.locks.ledger.txn_entries.items t (Some (record { age = age; since = since; status = Active }))
 
-  pub begun-state : now ≡ begun_since first t since
-  begun-state = λ z. record (begun_since first t since) {
+  pub begun-state : now ≡ begun_at first t age since
+  begun-state = λ z. record (begun_at first t age since) {
     txns = λ u. (ap (λ xs. txns_of xs u) has_entry
-        ∙ txns-set i.locks.ledger.txn_entries.items t (Some (record { age = i.begins + 1; since = since; status = Active })) place u) z;
+        ∙ txns-set i.locks.ledger.txn_entries.items t (Some (record { age = age; since = since; status = Active })) place u) z;
     most = txn_entries-same z;
   }
 
   -- each waiter was there before
-  waited : (u : ℕ) → is_wait (status_in ((begun_since first t since).txns u)) ≡ true → is_wait (status_in (first.txns u)) ≡ true
+  waited : (u : ℕ) → is_wait (status_in ((begun_at first t age since).txns u)) ≡ true → is_wait (status_in (first.txns u)) ≡ true
   waited u = grind (arith, nat_tests)
 
   pub begun-safe : IsSafe now
   begun-safe = record {
-    lawful = subst IsLawful (sym begun-state) (begun-lawful first sound.lawful t quiet place since low);
-    no_cycle = λ e. subst HasNoCycle (sym begun-state) (begun-no_cycle first t since (sound.no_cycle e));
+    lawful = subst IsLawful (sym begun-state) (begun-lawful first sound.lawful t quiet place age since later low);
+    no_cycle = λ e. subst HasNoCycle (sym begun-state) (begun-no_cycle first t age since (sound.no_cycle e));
   }
 
   pub begun-law : IsLaw i.locks.graph ledger
   begun-law = record {
-    orderly = orderly_over (state_in i.locks.graph ledger) i.detect i.victims (i.begins + 1) begun-safe.lawful;
+    orderly = orderly_over (state_in i.locks.graph ledger) i.detect i.victims age begun-safe.lawful;
     sound = record {
       few = subst (λ (k : ℕ). k ≤ most_slots) (sym txn_entries-same) i.locks.sound.few;
       lists = i.locks.sound.lists ∙ sym txn_entries-same;

@@ -1,8 +1,8 @@
 //! Transactions begin.
 
-ghost use Rattle.std.specs.Prelude.{◌≡◌, ◌≢◌, ◌<◌, ◌+◌, false, IfOk, IsOk, None, OnErr, Some, OnOk};
+ghost use Rattle.std.specs.Prelude.{◌≡◌, ◌≢◌, ◌<◌, ◌≤◌, ◌+◌, false, IfOk, IsOk, None, OnErr, Some, OnOk};
 ghost use Rattle.gl_graph.specs.Refusals.{Refuses, first_refusal, max_count};
-ghost use Rattle.gl_model.specs.Calls.{RefusesOnly, begin_tests, begun, begun_again, free_slot, renew_tests};
+ghost use Rattle.gl_model.specs.Calls.{RefusesOnly, begin_tests, begun, begun_again, begun_at, free_slot, join_tests, joined, joining_age, renew_tests};
 ghost use Rattle.gl_model.specs.State.{is_wait, status_of};
 ghost use Rattle.gl_table.specs.Table.{KeepsOrders, state_of};
 
@@ -13,9 +13,9 @@ use gl_modes::Refusal;
 use gl_slots::Slot;
 
 impl Table {
-    /// Begins a transaction, in the lowest free slot. Its age is the count of begins, this one
-    /// included. Refused, in this order, with `WornOut` if `u64::MAX` have begun, and `TooManyTxns`
-    /// if no slot is free. Allocates no memory.
+    /// Begins a transaction, in the lowest free slot, with the next age: the number after the last
+    /// that was given. Refused, in this order, with `WornOut` if that was `u64::MAX`, and
+    /// `TooManyTxns` if no slot is free. Allocates no memory.
     pub fn begin(&mut self) -> Result<TxnId, Refusal>
         ensures begun { IfOk result (λ t. (free_slot (state_of self.old) ≡ Some t.slot)
             × (t.age ≡ (state_of self.old).begins + 1)
@@ -55,7 +55,7 @@ impl Table {
     /// Ends a transaction that holds intentions alone, on nodes for which nobody waits, and begins
     /// anew in its slot with all its locks; `since` is as in `begin_again`. Refused, in this order,
     /// with `NoSuchTxn`, `TxnWaiting`, `TxnCondemned`, `NeedRelease` if it holds more than that, and
-    /// `WornOut` if `u64::MAX` have begun. Allocates no memory. Linear in the locks.
+    /// `WornOut` if no age is left. Allocates no memory. Linear in the locks.
     pub fn renew(&mut self, t: TxnId, since: u64) -> Result<TxnId, Refusal>
         ensures renewed { IfOk result (λ u. (u.slot ≡ t.slot)
             × (u.age ≡ (state_of self.old).begins + 1)
@@ -75,7 +75,31 @@ impl Table {
         Ok(self.start(t.slot, since))
     }
 
-    /// A transaction begins in a slot in which nobody waits: a free one, or its own.
+    /// Begins a transaction in the slot of this number, for work that began elsewhere: its `since`
+    /// is this number, also if it is above the next age. Its age is the greater of the two. Refused,
+    /// in this order, with `WornOut` if no age is left, and `TooManyTxns` if the slot is taken, or is
+    /// none of the table's. Allocates no memory.
+    pub fn join(&mut self, slot: usize, since: u64) -> Result<TxnId, Refusal>
+        ensures joined { IfOk result (λ t. (t.slot ≡ slot)
+            × (t.age ≡ joining_age (state_of self.old) since)
+            × (state_of self.new ≡ joined (state_of self.old) slot since)) }
+        ensures deadlock { self.new.deadlock ≡ self.old.deadlock }
+        ensures orders { OnOk result (KeepsOrders self.old self.new) }
+        ensures refuses { RefusesOnly (first_refusal (join_tests (state_of self.old) slot since)) result }
+        ensures err { OnErr result (self.new ≡ self.old) }
+    {
+        if self.begins == u64::MAX {
+            return Err(Refusal::WornOut);
+        }
+        let Some(slot) = self.locks.ledger.txn_entries.free_slot(slot) else {
+            return Err(Refusal::TooManyTxns);
+        };
+        let age = (self.begins + 1).max(since);
+        Ok(self.start_at(slot, age, since))
+    }
+
+    /// A transaction begins with the next age in a slot in which nobody waits: a free one, or its
+    /// own. A number above its age counts as that.
     #[inline]
     pub(super) fn start(&mut self, slot: Slot, since: u64) -> TxnId
         requires slot { slot < (state_of self.old).most }
@@ -88,16 +112,30 @@ impl Table {
         ensures orders { KeepsOrders self.old self.new }
         ensures lists { self.new.lists ≡ self.old.lists }
     {
-        self.begins += 1;
-        let age = self.begins;
-        self.locks.ledger.txn_entries.take(
-            slot,
-            TxnEntry {
-                age,
-                since: since.min(age),
-                status: Status::Active,
-            },
-        );
+        let age = self.begins + 1;
+        self.start_at(slot, age, since.min(age))
+    }
+
+    /// A transaction begins with an age above all others in a slot in which nobody waits.
+    #[inline]
+    fn start_at(&mut self, slot: Slot, age: u64, since: u64) -> TxnId
+        requires slot { slot < (state_of self.old).most }
+        requires quiet { is_wait (status_of (state_of self.old) slot) ≡ false }
+        requires later { (state_of self.old).begins < age }
+        requires low { since ≤ age }
+        ensures slot { result.slot ≡ slot }
+        ensures age { result.age ≡ age }
+        ensures state { state_of self.new ≡ begun_at (state_of self.old) slot age since }
+        ensures deadlock { self.new.deadlock ≡ self.old.deadlock }
+        ensures orders { KeepsOrders self.old self.new }
+        ensures lists { self.new.lists ≡ self.old.lists }
+    {
+        self.begins = age;
+        let status = Status::Active;
+        self.locks
+            .ledger
+            .txn_entries
+            .take(slot, TxnEntry { age, since, status });
         TxnId { slot, age }
     }
 }

@@ -38,6 +38,12 @@ returns-in-BeginAgain c =
     c.begun_answer-in-BeginAgain.ensures c.in-BeginAgain.is c.begin_again.ensures.err (λ x h. h)
     c.args.told.now c.requires.empty c.begin_again.ensures.step c.begin_again.ensures.completes
 
+pub returns-in-Join : goal.returns-in-Join
+returns-in-Join c =
+    carries_quietly answer.Begun c.args.self.now c.join.new.self _ c.args.command c.join.result c.begun_answer-in-Join.result
+    c.begun_answer-in-Join.ensures c.in-Join.is c.join.ensures.err (λ x h. h)
+    c.args.told.now c.requires.empty c.join.ensures.step c.join.ensures.completes
+
 pub returns-in-Lock : goal.returns-in-Lock
 returns-in-Lock c =
     carries_telling answer_of_lock c.args.self.now c.lock_telling.new.self _ c.args.command c.lock_telling.result c.lock_answer.result
