@@ -74,6 +74,7 @@ lo\x1bk a
 adopt r orders 5
 forget r
 begin c again 1
+begin c join 1 1
 renew a 1
 # a comment
 #""" + 256 * "y" + """
@@ -102,8 +103,9 @@ line 21: it needs the word --trace
 line 22: it needs the word --trace
 line 23: it needs the word --trace
 line 24: it needs the word --trace
-line 26: it has more than 256 bytes
-line 27: b names no transaction
+line 25: it needs the word --trace
+line 27: it has more than 256 bytes
+line 28: b names no transaction
 """
 
 

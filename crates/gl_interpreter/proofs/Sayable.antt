@@ -7,8 +7,8 @@ use Rattle.gl_script.specs.declared.verb.NumberVerb.TheVariants.{Renew}
 use Rattle.gl_script.specs.declared.verb.RemovalVerb.TheVariants.{Delete, Drop}
 use Rattle.gl_script.specs.declared.verb.RequestVerb.TheVariants.{Lock, Try}
 use Rattle.gl_script.specs.declared.verb.TxnVerb.TheVariants.{Abort, Cancel, Commit, Settle}
-use Rattle.gl_script.specs.Grammar.{Adopt, Begin, BeginAgain, File, Forget, Group, Index, IndexBy, Inner, Insert, IsName, Move, OfLock, OfNumber, OfRemoval}
-use Rattle.gl_script.specs.Grammar.{OfRequest, OfTxn, Rekey}
+use Rattle.gl_script.specs.Grammar.{Adopt, Begin, BeginAgain, File, Forget, Group, Index, IndexBy, Inner, Insert, IsName, Join, Move, OfLock, OfNumber}
+use Rattle.gl_script.specs.Grammar.{OfRemoval, OfRequest, OfTxn, Rekey}
 use Rattle.gl_interpreter.specs.declared.request.Request.TheVariants as request
 use Rattle.gl_interpreter.specs.Sayable.{EachIsSaid, HasAllCommands, IsSaid, IsSayable}
 
@@ -20,6 +20,7 @@ each s name (command.Index ps f bs) all is p =
     (Index name p.0.0 p.1.0 bs.now, (is, p.0.1, p.1.1, p.2), tt, (ps, sym p.0.2, (bs, refl, λ i. request.Apply (command.Index ps (file i) bs))))
 each s name command.Begin all is p = (Begin name, is, tt, refl)
 each s name (command.BeginAgain since) all is p = (BeginAgain name since, (is, p), all.trace, refl)
+each s name (command.Join slot since) all is p = (Join name slot since, (is, p), all.trace, refl)
 each s name (command.Lock t n m) all is p =
     let txn = sym p.0.2 in let node = sym p.1.2 in
     (OfRequest Lock p.0.0 m p.1.0, (p.0.1, p.1.1), tt, λ i. request.Apply (command.Lock (txn i) (node i) m))

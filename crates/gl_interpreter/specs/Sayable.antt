@@ -37,6 +37,7 @@ IsSayable s (command.File ps) = AreSomeSaid s ps.now
 IsSayable s (command.Index ps f bs) = AreSomeSaid s ps.now × IsPlainSaid s f × All IsNumber bs.now
 IsSayable s command.Begin = Unit
 IsSayable s (command.BeginAgain since) = IsNumber since
+IsSayable s (command.Join slot since) = IsNumber slot × IsNumber since
 IsSayable s (command.Lock t n m) = IsTxnSaid s t × IsNodeSaid s n
 IsSayable s (command.Try t n m) = IsTxnSaid s t × IsNodeSaid s n
 IsSayable s (command.Unlock t n) = IsTxnSaid s t × IsNodeSaid s n

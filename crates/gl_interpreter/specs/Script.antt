@@ -38,7 +38,7 @@ use Rattle.gl_script.specs.declared.verb.RequestVerb.{RequestVerb}
 use Rattle.gl_script.specs.declared.verb.RequestVerb.TheVariants.{Lock, Try}
 use Rattle.gl_script.specs.declared.verb.TxnVerb.{TxnVerb}
 use Rattle.gl_script.specs.declared.verb.TxnVerb.TheVariants.{Cancel, Commit, Abort, Settle, Mark}
-use Rattle.gl_script.specs.Grammar.{Text, Node, Plain, Interval, Command, Inner, File, Index, IndexBy, Begin, BeginAgain, Insert, Adopt, Forget, Rekey, Move}
+use Rattle.gl_script.specs.Grammar.{Text, Node, Plain, Interval, Command, Inner, File, Index, IndexBy, Begin, BeginAgain, Join, Insert, Adopt, Forget, Rekey, Move}
 use Rattle.gl_script.specs.Grammar.{Group, OfTxn, OfLock, OfRequest, OfRemoval, OfNumber}
 use Rattle.gl_interpreter.specs.declared.request.Request.{Request}
 use Rattle.gl_interpreter.specs.declared.request.Request.TheVariants as request
@@ -142,6 +142,7 @@ Asks s (IndexBy t n ps f bs) k =
     × ((ys : Bor (List ℕ)) × (ys.now ≡ bs) × (k ≡ request.Apply (command.IndexBy (txn_id s.names t) xs (plain_id s.names f) ys)))
 Asks s (Begin t) k = k ≡ request.Apply command.Begin
 Asks s (BeginAgain t since) k = k ≡ request.Apply (command.BeginAgain since)
+Asks s (Join t slot since) k = k ≡ request.Apply (command.Join slot since)
 Asks s (Insert t r f ks) k = (ys : Bor (List ℕ)) × (ys.now ≡ ks) × (k ≡ request.Apply (command.Insert (txn_id s.names t) (plain_id s.names f) ys))
 Asks s (Adopt r f ks) k = (ys : Bor (List ℕ)) × (ys.now ≡ ks) × (k ≡ request.Apply (command.Adopt (plain_id s.names f) ys))
 Asks s (Forget r) k = k ≡ request.Apply (command.Forget (plain_id s.names r))
@@ -173,6 +174,7 @@ does_to_names (Insert t r f ks) = NodeName r
 does_to_names (Adopt r f ks) = NodeName r
 does_to_names (Begin t) = TxnName t
 does_to_names (BeginAgain t k) = TxnName t
+does_to_names (Join t slot k) = TxnName t
 does_to_names (OfNumber Renew t k) = NextTxn t
 does_to_names (OfTxn Commit t) = EndedTxn t
 does_to_names (OfTxn Abort t) = EndedTxn t

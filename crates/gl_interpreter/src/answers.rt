@@ -240,6 +240,7 @@ fn declared_name(form: &Form) -> &[u8]
         Form::Adopt { name, .. } => name.as_slice(),
         Form::Begin { txn } => txn.as_slice(),
         Form::BeginAgain { txn, .. } => txn.as_slice(),
+        Form::Join { txn, .. } => txn.as_slice(),
         Form::OfNumber {
             verb: NumberVerb::Renew,
             txn,
@@ -293,6 +294,7 @@ fn put_first_unused<W: Write>(
         }
         Form::Begin { .. } => {}
         Form::BeginAgain { .. } => {}
+        Form::Join { .. } => {}
         Form::OfTxn { .. } => {}
         Form::OfNumber { .. } => {}
     }

@@ -150,6 +150,10 @@ impl Desk {
             Form::BeginAgain { since, .. } => {
                 Request::Apply(Command::BeginAgain { since: *since })
             }
+            Form::Join { slot, since, .. } => Request::Apply(Command::Join {
+                slot: *slot as usize,
+                since: *since,
+            }),
             Form::Insert { txn, file, .. } => Request::Apply(Command::Insert {
                 txn: self.txn_id(txn),
                 file: self.plain_id(file),

@@ -38,6 +38,7 @@ pub(crate) fn does_to_names(form: &Form) -> Naming<'_>
         Form::Adopt { name, .. } => Naming::Node(name),
         Form::Begin { txn } => Naming::Txn(txn),
         Form::BeginAgain { txn, .. } => Naming::Txn(txn),
+        Form::Join { txn, .. } => Naming::Txn(txn),
         Form::OfNumber {
             verb: NumberVerb::Renew,
             txn,

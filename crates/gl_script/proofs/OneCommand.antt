@@ -5,8 +5,8 @@ use Rattle.std.proofs.lemmas.Fmt.{decimal_injective}
 use Rattle.std.proofs.lemmas.List.Elements.{All-head, All-tail}
 use Rattle.gl_modes.proofs.Spellings.{mode_text-injective}
 use Rattle.gl_script.specs.declared.form.Language.{Language}
-use Rattle.gl_script.specs.Grammar.{Text, Command, Inner, File, Index, IndexBy, Begin, BeginAgain, Insert, Adopt, Forget, Rekey, Move, Group}
-use Rattle.gl_script.specs.Grammar.{OfTxn, OfLock, OfRequest, OfRemoval, OfNumber, Listing, Holders, Queue, Locks, Waits, Txns, Cycle, Line, Orders, Lists}
+use Rattle.gl_script.specs.Grammar.{Text, Command, Inner, File, Index, IndexBy, Begin, BeginAgain, Join, Insert, Adopt, Forget, Rekey, Move}
+use Rattle.gl_script.specs.Grammar.{Group, OfTxn, OfLock, OfRequest, OfRemoval, OfNumber, Listing, Holders, Queue, Locks, Waits, Txns, Cycle, Line, Orders, Lists}
 use Rattle.gl_script.specs.Grammar.{Node, Plain, Interval, IsCommand, IsListing, IsNode, IsNumber, AreSomeNodes, node_text, parents, parts, verb_of}
 use Rattle.gl_script.specs.Grammar.{fields, listing_fields, SaysFields, ListsFields, LineFields, LineSaysOneCommand}
 use Rattle.gl_script.proofs.Splitting.{cut_once, has_byte}
@@ -68,6 +68,9 @@ one_of_parts (IndexBy s m ps g ks) (IndexBy t n qs h bs) p q v e =
     λ i. IndexBy (txn i) (name i) (same.0 i) (same.1 i) (same.2 i)
 one_of_parts (Begin s) (Begin t) p q v e = cc
 one_of_parts (BeginAgain s j) (BeginAgain t k) p q v e = let since : j ≡ k = decimal_injective j k p.1 q.1 (cc) in cc
+one_of_parts (Join s m j) (Join t n k) p q v e =
+    let slot : m ≡ n = decimal_injective m n p.1 q.1 (cc) in
+    let since : j ≡ k = decimal_injective j k p.2 q.2 (cc) in cc
 one_of_parts (Insert s m g js) (Insert t n h ks) p q v e = let keys : js ≡ ks = one_numbers js ks p.3 q.3 (cc) in cc
 one_of_parts (Adopt m g js) (Adopt n h ks) p q v e = let keys : js ≡ ks = one_numbers js ks p.2 q.2 (cc) in cc
 one_of_parts (Forget m) (Forget n) p q v e = cc

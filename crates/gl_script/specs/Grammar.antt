@@ -30,6 +30,7 @@ pub data Command : Type 0 where
   IndexBy : (txn : Text) → (name : Text) → (parents : List Node) → (file : Text) → (bounds : List ℕ) → Command
   Begin : (txn : Text) → Command
   BeginAgain : (txn : Text) → (since : ℕ) → Command
+  Join : (txn : Text) → (slot : ℕ) → (since : ℕ) → Command
   Insert : (txn : Text) → (name : Text) → (file : Text) → (keys : List ℕ) → Command
   Adopt : (name : Text) → (file : Text) → (keys : List ℕ) → Command
   Forget : (rec : Text) → Command
@@ -94,6 +95,7 @@ IsCommand (Index n ps f bs) = IsName n × AreSomeNodes ps × IsName f × All IsN
 IsCommand (IndexBy t n ps f bs) = IsName t × IsName n × AreSomeNodes ps × IsName f × All IsNumber bs
 IsCommand (Begin t) = IsName t
 IsCommand (BeginAgain t k) = IsName t × IsNumber k
+IsCommand (Join t n k) = IsName t × IsNumber n × IsNumber k
 IsCommand (Insert t r f ks) = IsName t × IsName r × IsName f × All IsNumber ks
 IsCommand (Adopt r f ks) = IsName r × IsName f × All IsNumber ks
 IsCommand (Forget r) = IsName r
@@ -123,6 +125,7 @@ verb_of (Index n ps f bs) = verb.Index
 verb_of (IndexBy t n ps f bs) = verb.Index
 verb_of (Begin t) = verb.Begin
 verb_of (BeginAgain t k) = verb.Begin
+verb_of (Join t n k) = verb.Begin
 verb_of (Insert t r f ks) = verb.Insert
 verb_of (Adopt r f ks) = verb.Adopt
 verb_of (Forget r) = verb.Forget
@@ -135,10 +138,11 @@ verb_of (OfRequest v t m n) = verb.OfRequest v
 verb_of (OfRemoval v t n) = verb.OfRemoval v
 verb_of (OfNumber v t k) = verb.OfNumber v
 
--- the language has the command: its verb, and for an index by a transaction schema changes, for work begun again a trace
+-- the language has the command: its verb, and for an index by a transaction schema changes, for work begun again or in a slot a trace
 abbrev pub IsOfLanguage : Language → Command → Type 0
 IsOfLanguage l (IndexBy t n ps f bs) = l.schema ≡ true
 IsOfLanguage l (BeginAgain t k) = l.trace ≡ true
+IsOfLanguage l (Join t n k) = l.trace ≡ true
 IsOfLanguage l c = HasVerb l (verb_of c)
 
 -- the text of a node: its name, or the index, a dot and the interval's number
@@ -159,6 +163,7 @@ parts (Index n ps f bs) = n ∷ parents ps ++ codes "on" ∷ f ∷ codes "at" �
 parts (IndexBy t n ps f bs) = t ∷ n ∷ parents ps ++ codes "on" ∷ f ∷ codes "at" ∷ map decimal bs
 parts (Begin t) = t ∷ []
 parts (BeginAgain t k) = t ∷ codes "again" ∷ decimal k ∷ []
+parts (Join t n k) = t ∷ codes "join" ∷ decimal n ∷ decimal k ∷ []
 parts (Insert t r f ks) = t ∷ r ∷ f ∷ map decimal ks
 parts (Adopt r f ks) = r ∷ f ∷ map decimal ks
 parts (Forget r) = r ∷ []

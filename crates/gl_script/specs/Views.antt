@@ -32,6 +32,7 @@ command_of (form.Index n f) lists = grammar.Index n.items (nodes_of lists) f.ite
 command_of (form.IndexBy t n f) lists = grammar.IndexBy t.items n.items (nodes_of lists) f.items lists.numbers.items
 command_of (form.Begin t) lists = grammar.Begin t.items
 command_of (form.BeginAgain t k) lists = grammar.BeginAgain t.items k
+command_of (form.Join t n k) lists = grammar.Join t.items n k
 command_of (form.Insert t r f) lists = grammar.Insert t.items r.items f.items lists.numbers.items
 command_of (form.Adopt r f) lists = grammar.Adopt r.items f.items lists.numbers.items
 command_of (form.Forget r) lists = grammar.Forget r.items

@@ -8,10 +8,10 @@ ghost use Rattle.gl_script.specs.declared.verb.Verb.TheVariants.{Begin, Index};
 ghost use Rattle.gl_script.specs.declared.form.Lists.{Lists as TheLists};
 
 use crate::fields::Fields;
-use crate::reads::{Name, Used, next_name};
+use crate::reads::{Name, Used, next_name, next_number};
 use crate::series::MOST_LISTED;
 use crate::shapes::{
-    adopt_parts, again_number, index_parts, insert_parts, name_parents, name_some_parents,
+    adopt_parts, index_parts, insert_parts, last_number, name_parents, name_some_parents,
     only_name, only_node, rekey_parts, txn_mode_node, txn_name, txn_node, txn_node_parents,
     txn_number,
 };
@@ -38,7 +38,8 @@ pub struct Language {
     pub schema: bool,
     /// Whether it may have savepoints: `mark` and `release`.
     pub savepoints: bool,
-    /// Whether it may have what only a trace needs: `adopt`, `forget`, `begin` again, and `renew`.
+    /// Whether it may have what only a trace needs: `adopt`, `forget`, `begin` again and in a slot, and
+    /// `renew`.
     pub trace: bool,
 }
 
@@ -72,6 +73,12 @@ pub enum Form {
     /// Begin a transaction for work that began with the transaction of this age.
     BeginAgain {
         txn: Name,
+        since: u64,
+    },
+    /// Begin a transaction in this slot, with this number for the choice of victims.
+    Join {
+        txn: Name,
+        slot: u64,
         since: u64,
     },
     /// Insert a record into a file, with these keys.
@@ -219,7 +226,7 @@ pub(crate) fn read_command(
 }
 
 /// The form after the word `begin`: a transaction, and in a trace perhaps the word `again` and the
-/// number of the transaction that began the work.
+/// number of the transaction that began the work, or the word `join`, a slot and such a number.
 fn read_begin(language: Language, fields: &mut Fields) -> Option<Form>
     ensures says { IfSome result (λ form. (lists : TheLists) → SaysParts language Begin (left fields.old) (command_of form lists)) }
     ensures none { IfNone result ((c : Command) → SaysParts language Begin (left fields.old) c → ⊥) }
@@ -231,8 +238,18 @@ fn read_begin(language: Language, fields: &mut Fields) -> Option<Form>
     if !language.trace {
         return None;
     }
-    let since = again_number(fields)?;
-    Some(Form::BeginAgain { txn, since })
+    match fields.next()? {
+        b"again" => {
+            let since = last_number(fields)?;
+            Some(Form::BeginAgain { txn, since })
+        }
+        b"join" => {
+            let slot = next_number(fields)?;
+            let since = last_number(fields)?;
+            Some(Form::Join { txn, slot, since })
+        }
+        _ => None,
+    }
 }
 
 /// The form after the word `index`: one name before the colon, or, with schema changes, a transaction

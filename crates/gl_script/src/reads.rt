@@ -1,7 +1,7 @@
 //! Names, nodes and numbers, as a line writes them.
 
 ghost use Rattle.std.specs.Prelude.{◌≡◌, ◌≢◌, ℕ, ◌<◌, ◌^◌, ◌↔◌, ◌∷◌, List, decimal, IfSome, IfNone, IsTrue};
-ghost use Rattle.gl_script.specs.Grammar.{Text, IsName, Node, IsNode, node_text};
+ghost use Rattle.gl_script.specs.Grammar.{Text, IsName, IsNumber, Node, IsNode, node_text};
 ghost use Rattle.gl_script.specs.Left.{left};
 ghost use Rattle.gl_script.specs.Views.{node_of};
 ghost use Rattle.gl_script.specs.Numbers.{IsPlain};
@@ -36,6 +36,14 @@ pub(crate) fn next_node(fields: &mut Fields) -> Option<Used>
     ensures none { IfNone result ((n : Node) (more : List Text) → IsNode n → left fields.old ≢ node_text n ∷ more) }
 {
     read_used(fields.next()?)
+}
+
+/// The number in the next field, if it is one.
+pub(crate) fn next_number(fields: &mut Fields) -> Option<u64>
+    ensures found { IfSome result (λ number. IsNumber number × (left fields.old ≡ decimal number ∷ left fields.new)) }
+    ensures none { IfNone result ((k : ℕ) (more : List Text) → IsNumber k → left fields.old ≢ decimal k ∷ more) }
+{
+    read_number(fields.next()?)
 }
 
 /// The node with this text, if it is one.

@@ -12,7 +12,7 @@ ghost use Rattle.gl_script.specs.Views.{node_of, nodes_of};
 
 use crate::fields::Fields;
 use crate::form::{Form, Lists};
-use crate::reads::{Name, Used, next_name, next_node, read_number};
+use crate::reads::{Name, Used, next_name, next_node, next_number};
 use crate::series::{MOST_LISTED, read_numbers, read_parents, read_parents_on};
 use arrayvec::ArrayVec;
 use gl_modes::Mode;
@@ -85,17 +85,6 @@ pub(crate) fn txn_number<F: FnOnce(Name, u64) -> Form>(fields: &mut Fields, form
     let txn = next_name(fields)?;
     let number = last_number(fields)?;
     Some(form(txn, number))
-}
-
-/// The word `again`, and a number.
-pub(crate) fn again_number(fields: &mut Fields) -> Option<u64>
-    ensures found { IfSome result (λ number. IsNumber number × (left fields.old ≡ codes "again" ∷ decimal number ∷ [])) }
-    ensures none { IfNone result ((k : ℕ) → IsNumber k → left fields.old ≢ codes "again" ∷ decimal k ∷ []) }
-{
-    if !matches!(fields.next()?, b"again") {
-        return None;
-    }
-    last_number(fields)
 }
 
 /// A transaction, a record, an index and a key.
@@ -236,11 +225,11 @@ fn last_node(fields: &mut Fields) -> Option<Used>
 }
 
 /// The last field, a number.
-fn last_number(fields: &mut Fields) -> Option<u64>
+pub(crate) fn last_number(fields: &mut Fields) -> Option<u64>
     ensures found { IfSome result (λ number. IsNumber number × (left fields.old ≡ decimal number ∷ [])) }
     ensures none { IfNone result ((k : ℕ) → IsNumber k → left fields.old ≢ decimal k ∷ []) }
 {
-    let number = read_number(fields.next()?)?;
+    let number = next_number(fields)?;
     fields.is_done().then_some(number)
 }
 

@@ -198,7 +198,7 @@ fn needs(line: &[u8], lines: Lines) -> Option<&'static [u8]> {
         b"index" if !lines.schema && is_name_first(line) => Some(b"--schema"),
         b"mark" | b"release" if !lines.savepoints => Some(b"--savepoints"),
         b"adopt" | b"forget" | b"renew" if !lines.trace => Some(b"--trace"),
-        b"begin" if !lines.trace && matches!(field(line, 2), b"again") => Some(b"--trace"),
+        b"begin" if !lines.trace && matches!(field(line, 2), b"again" | b"join") => Some(b"--trace"),
         _ => None,
     }
 }
@@ -220,7 +220,8 @@ fn form(verb: &[u8]) -> Option<&'static [u8]> {
         b"file" => b"file NODE : PARENT..",
         b"index" =>
             b"index NODE : PARENT.. on FILE at BOUND.., or by --schema index TXN NODE : PARENT.. on FILE at BOUND..",
-        b"begin" => b"begin TXN, or by --trace begin TXN again AGE",
+        b"begin" =>
+            b"begin TXN, or by --trace begin TXN again AGE, or by --trace begin TXN join SLOT AGE",
         b"commit" => b"commit TXN",
         b"abort" => b"abort TXN",
         b"cancel" => b"cancel TXN",

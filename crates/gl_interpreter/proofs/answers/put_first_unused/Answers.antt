@@ -28,6 +28,9 @@ returns-in-Begin g c = rw c.in-Begin.is (Hands-none _ _)
 pub returns-in-BeginAgain : goal.returns-in-BeginAgain
 returns-in-BeginAgain g c = rw c.in-BeginAgain.is (Hands-none _ _)
 
+pub returns-in-Join : goal.returns-in-Join
+returns-in-Join g c = rw c.in-Join.is (Hands-none _ _)
+
 pub returns-in-OfTxn : goal.returns-in-OfTxn
 returns-in-OfTxn g c = rw c.in-OfTxn.is (Hands-none _ _)
 
