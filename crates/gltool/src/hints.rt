@@ -198,7 +198,9 @@ fn needs(line: &[u8], lines: Lines) -> Option<&'static [u8]> {
         b"index" if !lines.schema && is_name_first(line) => Some(b"--schema"),
         b"mark" | b"release" if !lines.savepoints => Some(b"--savepoints"),
         b"adopt" | b"forget" | b"renew" if !lines.trace => Some(b"--trace"),
-        b"begin" if !lines.trace && matches!(field(line, 2), b"again" | b"join") => Some(b"--trace"),
+        b"begin" if !lines.trace && matches!(field(line, 2), b"again" | b"join") => Some(
+            b"--trace",
+        ),
         _ => None,
     }
 }
