@@ -1,32 +1,59 @@
--- Grants of the whole are compatible, and meet the rule of the graph, if those of each part do.
-use Rattle.std.specs.Prelude.{◌≡◌, ◌≢◌, ℕ, Bool, true, false, not, ◌&&◌, ◌||◌, List, [], ◌∷◌, ◌++◌, Option, Some, None, if◌then◌else◌, is_some, map}
+-- Grants of the whole are compatible, and meet the rule of the graph, if those of each manager do.
+use Rattle.std.specs.Prelude.{◌≡◌, ◌≢◌, ℕ, Bool, true, false, not, ◌||◌, List, [], ◌∷◌, ◌++◌, Option, Some, None, if◌then◌else◌, is_some, map}
 use Rattle.std.specs.List.{list_all, list_any}
-use Rattle.std.proofs.Common.{refl, sym, ap, ap₂, ⊎_elim, ◌∙◌}
+use Rattle.std.proofs.Common.{refl, sym, ap, ap₂, ◌∙◌}
 use Rattle.gl_modes.specs.declared.mode.Mode.{Mode}
 use Rattle.gl_modes.specs.declared.mode.Mode.TheVariants.{NL, IS, IX, S, SIX, X}
 use Rattle.gl_modes.specs.declared.node.NodeId.{NodeId}
 use Rattle.gl_modes.specs.Modes.{are_compatible, is_at_least, same_mode, supremum}
-use Rattle.gl_modes.proofs.Each.{every-true, same, same-equal}
-use Rattle.gl_modes.proofs.ModeLemmas.{compatible-symmetric, lesser-compatible, NL-compatible, NL-compatible_left, same_mode-equal, supremum-NL}
-use Rattle.gl_modes.proofs.ModeLemmas.{supremum-tested, supremum-tested_left}
+use Rattle.gl_modes.proofs.Each.{every-true, every2-true, same, same-equal}
+use Rattle.gl_modes.proofs.ModeLemmas.{at_least-refl, compatible-symmetric, lesser-compatible, supremum-least, supremum-NL}
 use Rattle.gl_modes.proofs.Words.{and_both, both, cases_of, clash, or_elim, or_left, or_right, split}
 use Rattle.gl_graph.specs.Graph.{Graph, parents_of}
 use Rattle.gl_model.specs.Lawful.{GrantsGoTogether, GrantsIntend}
 use Rattle.gl_model.specs.State.{intends_over, is_write, no_parents}
 use Rattle.gl_model.proofs.law.Effects.{no_conflict_on}
-use Rattle.gl_parts.specs.Whole.{Each, HasParentsOf, Part, held_at, held_by_name, held_in, holds_everywhere, intention, intention_in, is_in, strength_in, whole}
-use Rattle.gl_parts.specs.Laws.{GrantsOfOnePart, ModesOfTheWhole, PartsGoTogether, PartsHaveNoConflict, PartsIntend}
-use Rattle.gl_parts.proofs.Strengths.{beside_intention_reads, beside_intention_writes, everywhere_some, held_by_all, holds_somewhere}
-use Rattle.gl_parts.proofs.Strengths.{intention_again, intention_below, intention_holds, intention_writes, intentions_fit, reads_all, supremum_holds}
-use Rattle.gl_parts.proofs.Strengths.{supremum_writes, writes_all, writes_everywhere}
+use Rattle.gl_parts.specs.Whole.{Each, HasParentsOf, IsInOne, Part, held_at, held_by_name, held_in, is_in, is_intention, whole}
+use Rattle.gl_parts.specs.Laws.{GrantsOfOnePart, ModesOfTheWhole, PartsGoTogether, PartsHaveNoConflict, PartsIntend, holds_somewhere}
 
 pub each_map : {P Q : Part → Type 0} → ((p : Part) → P p → Q p) → (ps : List Part) → Each P ps → Each Q ps
 each_map f [] h = h
 each_map f (p ∷ ps) h = (f p h.0, each_map f ps h.1)
 
+-- Modes of one manager and of several.
+
+-- a supremum has a mode exactly if one of the two has it
+supremum_has : (m : Mode) → m ≢ SIX → (a b : Mode) → is_at_least (supremum a b) m ≡ (is_at_least a m || is_at_least b m)
+supremum_has SIX ne a b = absurd (ne refl)
+supremum_has NL ne a b = refl
+supremum_has IS ne a b = same-equal _ _ (every2-true (λ x y. same (is_at_least (supremum x y) IS) (is_at_least x IS || is_at_least y IS)) refl a b)
+supremum_has IX ne a b = same-equal _ _ (every2-true (λ x y. same (is_at_least (supremum x y) IX) (is_at_least x IX || is_at_least y IX)) refl a b)
+supremum_has S ne a b = same-equal _ _ (every2-true (λ x y. same (is_at_least (supremum x y) S) (is_at_least x S || is_at_least y S)) refl a b)
+supremum_has X ne a b = same-equal _ _ (every2-true (λ x y. same (is_at_least (supremum x y) X) (is_at_least x X || is_at_least y X)) refl a b)
+
+nothing_has : (m : Mode) → m ≢ NL → is_at_least NL m ≡ false
+nothing_has NL ne = absurd (ne refl)
+nothing_has m ne = refl
+
+pub modes_by : ModesOfTheWhole
+modes_by [] t n m some one = nothing_has m some
+modes_by (p ∷ ps) t n m some one =
+    supremum_has m one (held_at p t n) (held_in ps t n) ∙ ap (λ b. is_at_least (held_at p t n) m || b) (modes_by ps t n m some one)
+
+writes_by : (ps : List Part) (t : ℕ) (n : NodeId) → is_at_least (held_in ps t n) IX ≡ holds_somewhere IX ps t n
+writes_by ps t n = modes_by ps t n IX (λ e. cc) (λ e. cc)
+
+supremum_holds : (a b : Mode) → not (same_mode (supremum a b) NL) ≡ (not (same_mode a NL) || not (same_mode b NL))
+supremum_holds a b =
+    same-equal _ _ (every2-true (λ x y. same (not (same_mode (supremum x y) NL)) (not (same_mode x NL) || not (same_mode y NL))) refl a b)
+
+holds_by : (ps : List Part) (t : ℕ) (n : NodeId) → not (same_mode (held_in ps t n) NL) ≡ list_any (λ p. not (same_mode (held_at p t n) NL)) ps
+holds_by [] t n = refl
+holds_by (p ∷ ps) t n = supremum_holds (held_at p t n) (held_in ps t n) ∙ ap (λ b. not (same_mode (held_at p t n) NL) || b) (holds_by ps t n)
+
 -- Compatible.
 
--- in one part
+-- in one manager
 fit_at : (p : Part) → GrantsGoTogether p.state → (t u : ℕ) (n : NodeId) → t ≢ u → are_compatible (held_at p t n) (held_at p u n) ≡ true
 fit_at p together t u n ne = by (p.name n)
   where
@@ -38,107 +65,94 @@ fits_less : (a b c d : Mode) → is_at_least a b ≡ true → is_at_least c d �
 fits_less a b c d ab cd fit =
     compatible-symmetric b d ∙ lesser-compatible c d b cd (compatible-symmetric c b ∙ lesser-compatible a b c ab fit)
 
--- what t holds in all parts is compatible with each intention of another
-fits_intentions : (m : Mode) (ps : List Part) (t u : ℕ) (n : NodeId) → t ≢ u → Each (λ p. GrantsGoTogether p.state) ps
-    → list_all (λ p. not (is_in n p) || is_at_least (held_at p t n) m) ps ≡ true
-    → are_compatible m (intention_in ps u n) ≡ true
-fits_intentions m [] t u n ne together all = NL-compatible m
-fits_intentions m (p ∷ ps) t u n ne together all =
-    let it = and_both _ _ all in
-    supremum-tested m (intention (held_at p u n)) (intention_in ps u n)
-    ∙ both _ _ (here (p.name n) refl it.0) (fits_intentions m ps t u n ne together.1 it.1)
+intentions_fit : (a b : Mode) → is_intention a ≡ true → is_intention b ≡ true → are_compatible a b ≡ true
+intentions_fit a b h k = fits_less IX a IX b h k refl
+
+-- what is held in no manager above a mode is not above it in the whole
+most_in : (c : Mode) (ps : List Part) (t : ℕ) (n : NodeId) → Each (λ p. (u : ℕ) → is_at_least c (held_at p u n) ≡ true) ps
+    → is_at_least c (held_in ps t n) ≡ true
+most_in c [] t n h = all_above c
   where
-    here : (o : Option NodeId) → p.name n ≡ o → (not (is_in n p) || is_at_least (held_at p t n) m) ≡ true
-        → are_compatible m (intention (held_at p u n)) ≡ true
-    here None e h = ap (λ o. are_compatible m (intention (held_by_name (p.state.held u) o))) e ∙ NL-compatible m
-    here (Some q) e h =
-        fits_less (held_at p t n) m (held_at p u n) (intention (held_at p u n)) (sym (ap (λ o. not (is_some o) || is_at_least (held_at p t n) m) e) ∙ h)
-        (intention_below (held_at p u n)) (fit_at p together.0 t u n ne)
+    all_above : (m : Mode) → is_at_least m NL ≡ true
+    all_above m = refl
+most_in c (p ∷ ps) t n h = supremum-least c (held_at p t n) (held_in ps t n) ∙ both _ _ (h.0 t) (most_in c ps t n h.1)
 
--- what two hold in all parts of a node that is in one
-fits_all : (a b : Mode) (ps : List Part) (t u : ℕ) (n : NodeId) → t ≢ u → Each (λ p. GrantsGoTogether p.state) ps → list_any (is_in n) ps ≡ true
-    → list_all (λ p. not (is_in n p) || is_at_least (held_at p t n) a) ps ≡ true
-    → list_all (λ p. not (is_in n p) || is_at_least (held_at p u n) b) ps ≡ true
-    → are_compatible a b ≡ true
-fits_all a b [] t u n ne together some mine other = cc
-fits_all a b (p ∷ ps) t u n ne together some mine other =
-    let m = and_both _ _ mine in
-    let o = and_both _ _ other in
-    or_elim _ _ some
-    (λ here. fits_less (held_at p t n) a (held_at p u n) b (sym (ap (λ x. not x || is_at_least (held_at p t n) a) here) ∙ m.0)
-    (sym (ap (λ x. not x || is_at_least (held_at p u n) b) here) ∙ o.0) (fit_at p together.0 t u n ne))
-    (λ later. fits_all a b ps t u n ne together.1 later m.1 o.1)
+-- the same of one transaction, with another mode
+most_of : (c : Mode) (ps : List Part) (t : ℕ) (n : NodeId) → Each (λ p. is_at_least c (held_at p t n) ≡ true) ps → is_at_least c (held_in ps t n) ≡ true
+most_of c [] t n h = refl
+most_of c (p ∷ ps) t n h = supremum-least c (held_at p t n) (held_in ps t n) ∙ both _ _ h.0 (most_of c ps t n h.1)
 
-strength_fits_intention : (ps : List Part) (t u : ℕ) (n : NodeId) → t ≢ u → Each (λ p. GrantsGoTogether p.state) ps
-    → are_compatible (strength_in ps t n) (intention_in ps u n) ≡ true
-strength_fits_intention ps t u n ne together =
-    ⊎_elim (λ e. ap (λ m. are_compatible m (intention_in ps u n)) e ∙ NL-compatible_left (intention_in ps u n))
-    (λ h. fits_intentions (strength_in ps t n) ps t u n ne together (and_both _ _ h).1) (held_by_all ps t n)
+-- a node of one part
 
-strengths_fit : (ps : List Part) (t u : ℕ) (n : NodeId) → t ≢ u → Each (λ p. GrantsGoTogether p.state) ps
-    → are_compatible (strength_in ps t n) (strength_in ps u n) ≡ true
-strengths_fit ps t u n ne together =
-    ⊎_elim (λ e. ap (λ m. are_compatible m (strength_in ps u n)) e ∙ NL-compatible_left (strength_in ps u n))
-    (λ h. ⊎_elim (λ e. ap (are_compatible (strength_in ps t n)) e ∙ NL-compatible (strength_in ps t n))
-    (λ k. fits_all (strength_in ps t n) (strength_in ps u n) ps t u n ne together (and_both _ _ h).0 (and_both _ _ h).1 (and_both _ _ k).1)
-    (held_by_all ps u n)) (held_by_all ps t n)
+neither : (a b : Bool) → (a || b) ≡ false → (a ≡ false) × (b ≡ false)
+neither true b h = cc
+neither false b h = (refl, h)
+
+-- nothing is held of a node in a manager without it
+not_there : (p : Part) (t : ℕ) (n : NodeId) → is_in n p ≡ false → held_at p t n ≡ NL
+not_there p t n h = ap (held_by_name (p.state.held t)) (no_name (p.name n) h)
+  where
+    no_name : (o : Option NodeId) → is_some o ≡ false → o ≡ None
+    no_name None h = refl
+    no_name (Some m) h = cc
+
+nothing_in : (ps : List Part) (t : ℕ) (n : NodeId) → list_any (is_in n) ps ≡ false → held_in ps t n ≡ NL
+nothing_in [] t n h = refl
+nothing_in (p ∷ ps) t n h =
+    let it = neither _ _ h in
+    ap (λ m. supremum m (held_in ps t n)) (not_there p t n it.0) ∙ nothing_in ps t n it.1
+
+pub grants_of_one_part : GrantsOfOnePart
+grants_of_one_part [] after p t n here none rest =
+    ap (supremum (held_at p t n)) (nothing_in after t n rest) ∙ supremum-NL (held_at p t n)
+grants_of_one_part (b ∷ before) after p t n here none rest =
+    let it = neither _ _ none in
+    ap (λ m. supremum m (held_in (before ++ p ∷ after) t n)) (not_there b t n it.0)
+    ∙ grants_of_one_part before after p t n here it.1 rest
+
+fits_apart : (ps : List Part) (t u : ℕ) (n : NodeId) → t ≢ u → Each (λ p. GrantsGoTogether p.state) ps → IsInOne n ps
+    → are_compatible (held_in ps t n) (held_in ps u n) ≡ true
+fits_apart [] t u n ne together one = refl
+fits_apart (p ∷ ps) t u n ne together one =
+    split (is_in n p)
+    (λ here. let rest = one.0 here in
+    ap₂ are_compatible (ap (supremum (held_at p t n)) (nothing_in ps t n rest) ∙ supremum-NL (held_at p t n))
+    (ap (supremum (held_at p u n)) (nothing_in ps u n rest) ∙ supremum-NL (held_at p u n))
+    ∙ fit_at p together.0 t u n ne)
+    (λ out. ap₂ (λ a b. are_compatible (supremum a (held_in ps t n)) (supremum b (held_in ps u n))) (not_there p t n out) (not_there p u n out)
+    ∙ fits_apart ps t u n ne together.1 one.1)
+
+-- in the main manager and in parts with no more than it has
+fits_below : (main : Part) (ps : List Part) (t u : ℕ) (n : NodeId) → t ≢ u → GrantsGoTogether main.state
+    → Each (λ p. (v : ℕ) → is_at_least (held_at main v n) (held_at p v n) ≡ true) ps
+    → are_compatible (held_in (main ∷ ps) t n) (held_in (main ∷ ps) u n) ≡ true
+fits_below main ps t u n ne together below =
+    fits_less (held_at main t n) (held_in (main ∷ ps) t n) (held_at main u n) (held_in (main ∷ ps) u n) (top t) (top u) (fit_at main together t u n ne)
+  where
+    top : (v : ℕ) → is_at_least (held_at main v n) (held_in (main ∷ ps) v n) ≡ true
+    top v =
+        supremum-least (held_at main v n) (held_at main v n) (held_in ps v n)
+        ∙ both _ _ (at_least-refl (held_at main v n)) (most_of (held_at main v n) ps v n (each_map (λ p h. h v) ps below))
+
+-- intentions alone
+fits_intentions : (main : Part) (ps : List Part) (t u : ℕ) (n : NodeId) → is_intention (held_at main t n) ≡ true → is_intention (held_at main u n) ≡ true
+    → Each (λ p. (v : ℕ) → is_intention (held_at p v n) ≡ true) ps
+    → are_compatible (held_in (main ∷ ps) t n) (held_in (main ∷ ps) u n) ≡ true
+fits_intentions main ps t u n mine other intentions =
+    intentions_fit (held_in (main ∷ ps) t n) (held_in (main ∷ ps) u n) (of t mine) (of u other)
+  where
+    of : (v : ℕ) → is_intention (held_at main v n) ≡ true → is_intention (held_in (main ∷ ps) v n) ≡ true
+    of v h = supremum-least IX (held_at main v n) (held_in ps v n) ∙ both _ _ h (most_in IX ps v n intentions)
 
 pub parts_go_together : PartsGoTogether
-parts_go_together g ps together t u n ne =
-    supremum-tested_left (intention_in ps t n) (strength_in ps t n) (held_in ps u n)
-    ∙ both _ _
-    (supremum-tested (intention_in ps t n) (intention_in ps u n) (strength_in ps u n)
-    ∙ both _ _ (ap₂ are_compatible (sym (intention_again ps t n)) (sym (intention_again ps u n)) ∙ intentions_fit (intention_in ps t n) (intention_in ps u n))
-    (compatible-symmetric (intention_in ps t n) (strength_in ps u n) ∙ strength_fits_intention ps u t n (λ e. ne (sym e)) together))
-    (supremum-tested (strength_in ps t n) (intention_in ps u n) (strength_in ps u n)
-    ∙ both _ _ (strength_fits_intention ps t u n ne together) (strengths_fit ps t u n ne together))
-
--- What is held in the whole, by what is held in the parts.
-
-any_intention_holds : (ps : List Part) (t : ℕ) (n : NodeId) → not (same_mode (intention_in ps t n) NL) ≡ list_any (λ p. not (same_mode (held_at p t n) NL)) ps
-any_intention_holds [] t n = refl
-any_intention_holds (p ∷ ps) t n =
-    supremum_holds (intention (held_at p t n)) (intention_in ps t n) ∙ ap₂ (λ a b. a || b) (intention_holds (held_at p t n)) (any_intention_holds ps t n)
-
-any_intention_writes : (ps : List Part) (t : ℕ) (n : NodeId) → is_at_least (intention_in ps t n) IX ≡ list_any (λ p. is_at_least (held_at p t n) IX) ps
-any_intention_writes [] t n = refl
-any_intention_writes (p ∷ ps) t n =
-    supremum_writes (intention (held_at p t n)) (intention_in ps t n) ∙ ap₂ (λ a b. a || b) (intention_writes (held_at p t n)) (any_intention_writes ps t n)
-
--- a test that holds wherever a stronger one does adds nothing
-or_absorbs : (a b : Bool) → (b ≡ true → a ≡ true) → (a || b) ≡ a
-or_absorbs true b h = refl
-or_absorbs false true h = sym (h refl)
-or_absorbs false false h = refl
-
-any_less : (f k : Part → Bool) → ((p : Part) → f p ≡ true → k p ≡ true) → (ps : List Part) → list_any f ps ≡ true → list_any k ps ≡ true
-any_less f k less [] h = h
-any_less f k less (p ∷ ps) h = or_elim _ _ h (λ here. or_left _ _ (less p here)) (λ later. or_right (k p) _ (any_less f k less ps later))
-
-at_least_s_holds : (m : Mode) → is_at_least m S ≡ true → not (same_mode m NL) ≡ true
-at_least_s_holds NL h = cc
-at_least_s_holds m h = refl
-
-at_least_x_writes : (m : Mode) → is_at_least m X ≡ true → is_at_least m IX ≡ true
-at_least_x_writes SIX h = refl
-at_least_x_writes X h = refl
-at_least_x_writes m h = cc
-
-pub modes_by : ModesOfTheWhole
-modes_by g ps t n = record {
-  something = supremum_holds (intention_in ps t n) (strength_in ps t n)
-      ∙ or_absorbs _ _ (λ h. any_intention_holds ps t n ∙ any_less (λ p. is_at_least (held_at p t n) S) (λ p. not (same_mode (held_at p t n) NL))
-      (λ p. at_least_s_holds (held_at p t n)) ps (everywhere_some S ps t n (holds_somewhere ps t n h)))
-      ∙ any_intention_holds ps t n;
-  to_write = supremum_writes (intention_in ps t n) (strength_in ps t n)
-      ∙ or_absorbs _ _ (λ h. any_intention_writes ps t n ∙ any_less (λ p. is_at_least (held_at p t n) X) (λ p. is_at_least (held_at p t n) IX)
-      (λ p. at_least_x_writes (held_at p t n)) ps (everywhere_some X ps t n (writes_everywhere ps t n h)))
-      ∙ any_intention_writes ps t n;
-  to_read_all = ap (λ m. is_at_least (supremum m (strength_in ps t n)) S) (sym (intention_again ps t n))
-      ∙ beside_intention_reads (intention_in ps t n) (strength_in ps t n) ∙ reads_all ps t n;
-  alone = ap (λ m. same_mode (supremum m (strength_in ps t n)) X) (sym (intention_again ps t n))
-      ∙ beside_intention_writes (intention_in ps t n) (strength_in ps t n) ∙ writes_all ps t n;
-}
+parts_go_together g main ps led together t u n ne =
+    split (is_in n main)
+    (λ here. split (is_intention (held_at main t n))
+    (λ mine. split (is_intention (held_at main u n)) (λ other. fits_intentions main ps t u n mine other (led.intentions n here))
+    (λ more. fits_below main ps t u n ne together.0 (led.copied n u more)))
+    (λ more. fits_below main ps t u n ne together.0 (led.copied n t more)))
+    (λ out. ap₂ (λ a b. are_compatible (supremum a (held_in ps t n)) (supremum b (held_in ps u n))) (not_there main t n out) (not_there main u n out)
+    ∙ fits_apart ps t u n ne together.1 (led.apart n out))
 
 -- The rule of the graph.
 
@@ -201,8 +215,8 @@ each_within g ps t h =
     each_map (λ p x. record {
       rule = x.0.0;
       parents = x.0.1;
-      writes = λ q w. (modes_by g ps t q).to_write ∙ x.1.0 q w;
-      reads = λ q r. holds_is (held_in ps t q) ∙ (modes_by g ps t q).something ∙ x.1.1 q (sym (holds_is (held_at p t q)) ∙ r);
+      writes = λ q w. writes_by ps t q ∙ x.1.0 q w;
+      reads = λ q r. holds_is (held_in ps t q) ∙ holds_by ps t q ∙ x.1.1 q (sym (holds_is (held_at p t q)) ∙ r);
     }) ps
     (each_both _ _ ps h (each_both _ _ ps (each_among (λ q p. is_at_least (held_at p t q) IX) ps)
     (each_among (λ q p. not (same_mode (held_at p t q) NL)) ps)))
@@ -272,88 +286,11 @@ pub parts_intend : PartsIntend
 parts_intend g ps h t n held =
     split (is_at_least (held_in ps t n) IX)
     (λ w. intends_writing (held_in ps t) (parents_of g n) (held_in ps t n) w
-    (writes_above g ps t n ps (each_within g ps t h) (sym (modes_by g ps t n).to_write ∙ w)))
+    (writes_above g ps t n ps (each_within g ps t h) (sym (writes_by ps t n) ∙ w)))
     (λ r. intends_reading (held_in ps t) (parents_of g n) (held_in ps t n) r
-    (reads_above g ps t n r ps (each_within g ps t h) (sym (modes_by g ps t n).something ∙ held)))
+    (reads_above g ps t n r ps (each_within g ps t h) (sym (holds_by ps t n) ∙ held)))
 
 pub parts_have_no_conflict : PartsHaveNoConflict
-parts_have_no_conflict g ps h =
-    no_conflict_on (whole g ps) (parts_go_together g ps (each_map (λ p x. x.lawful.compatible) ps h))
-    (parts_intend g ps (each_map (λ p x. (x.lawful.grants_intend, x.parents)) ps h))
-
--- A node of one part.
-
-neither : (a b : Bool) → (a || b) ≡ false → (a ≡ false) × (b ≡ false)
-neither true b h = cc
-neither false b h = (refl, h)
-
--- nothing is held of a node in a part without it
-not_there : (p : Part) (t : ℕ) (n : NodeId) → is_in n p ≡ false → held_at p t n ≡ NL
-not_there p t n h = ap (held_by_name (p.state.held t)) (no_name (p.name n) h)
-  where
-    no_name : (o : Option NodeId) → is_some o ≡ false → o ≡ None
-    no_name None h = refl
-    no_name (Some m) h = cc
-
-no_intention : (ps : List Part) (t : ℕ) (n : NodeId) → list_any (is_in n) ps ≡ false → intention_in ps t n ≡ NL
-no_intention [] t n h = refl
-no_intention (p ∷ ps) t n h =
-    let it = neither _ _ h in
-    ap (λ m. supremum (intention m) (intention_in ps t n)) (not_there p t n it.0) ∙ no_intention ps t n it.1
-
-not_in : (p : Part) (n : NodeId) → is_in n p ≡ false → not (is_in n p) ≡ true
-not_in p n h = ap not h
-
--- over parts without the node, what it takes to hold it everywhere
-all_without : (m : Mode) (ps : List Part) (t : ℕ) (n : NodeId) → list_any (is_in n) ps ≡ false
-    → list_all (λ p. not (is_in n p) || is_at_least (held_at p t n) m) ps ≡ true
-all_without m [] t n h = refl
-all_without m (p ∷ ps) t n h =
-    let it = neither _ _ h in
-    both _ _ (or_left _ _ (ap not it.0)) (all_without m ps t n it.1)
-
-intention_of_one : (before after : List Part) (p : Part) (t : ℕ) (n : NodeId) → list_any (is_in n) before ≡ false → list_any (is_in n) after ≡ false
-    → intention_in (before ++ p ∷ after) t n ≡ intention (held_at p t n)
-intention_of_one [] after p t n none rest =
-    ap (supremum (intention (held_at p t n))) (no_intention after t n rest) ∙ supremum-NL (intention (held_at p t n))
-intention_of_one (b ∷ before) after p t n none rest =
-    let it = neither _ _ none in
-    ap (λ m. supremum (intention m) (intention_in (before ++ p ∷ after) t n)) (not_there b t n it.0)
-    ∙ intention_of_one before after p t n it.1 rest
-
-and_true : (b : Bool) → (b && true) ≡ b
-and_true true = refl
-and_true false = refl
-
-everywhere_of_one : (m : Mode) (before after : List Part) (p : Part) (t : ℕ) (n : NodeId) → is_in n p ≡ true → list_any (is_in n) before ≡ false
-    → list_any (is_in n) after ≡ false
-    → holds_everywhere m (before ++ p ∷ after) t n ≡ is_at_least (held_at p t n) m
-everywhere_of_one m before after p t n here none rest =
-    ap₂ (λ a b. a && b) (some before none) (all before none)
-  where
-    some : (bs : List Part) → list_any (is_in n) bs ≡ false → list_any (is_in n) (bs ++ p ∷ after) ≡ true
-    some [] h = or_left _ _ here
-    some (b ∷ bs) h = or_right (is_in n b) _ (some bs (neither _ _ h).1)
-
-    all : (bs : List Part) → list_any (is_in n) bs ≡ false
-        → list_all (λ q. not (is_in n q) || is_at_least (held_at q t n) m) (bs ++ p ∷ after) ≡ is_at_least (held_at p t n) m
-    all [] h =
-        ap₂ (λ a b. a && b) (ap (λ x. not x || is_at_least (held_at p t n) m) here) (all_without m after t n rest)
-        ∙ and_true (is_at_least (held_at p t n) m)
-    all (b ∷ bs) h =
-        ap₂ (λ a c. a && c) (or_left (not (is_in n b)) (is_at_least (held_at b t n) m) (not_in b n (neither (is_in n b) _ h).0))
-        (all bs (neither (is_in n b) _ h).1)
-
--- an intention with what is had in the one part is its mode
-abbrev rejoined_mode : Mode → Mode
-rejoined_mode m = supremum (intention m) (if is_at_least m X then X else (if is_at_least m S then S else NL))
-
-rejoined : (m : Mode) → rejoined_mode m ≡ m
-rejoined m = same_mode-equal _ _ (every-true (λ x. same_mode (rejoined_mode x) x) refl m)
-
-pub grants_of_one_part : GrantsOfOnePart
-grants_of_one_part before after p t n here none rest =
-    ap₂ supremum (intention_of_one before after p t n none rest)
-    (ap₂ (λ x s. if x then X else (if s then S else NL)) (everywhere_of_one X before after p t n here none rest)
-    (everywhere_of_one S before after p t n here none rest))
-    ∙ rejoined (held_at p t n)
+parts_have_no_conflict g main ps led h =
+    no_conflict_on (whole g (main ∷ ps)) (parts_go_together g main ps led (each_map (λ p x. x.lawful.compatible) (main ∷ ps) h))
+    (parts_intend g (main ∷ ps) (each_map (λ p x. (x.lawful.grants_intend, x.parents)) (main ∷ ps) h))

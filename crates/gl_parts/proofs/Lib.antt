@@ -1,6 +1,4 @@
--- modes of one part and of several
-mod Strengths
 -- grants of the whole
 mod Grants
--- steps and waits of one part
+-- steps and waits of one manager
 mod Steps

@@ -1,4 +1,4 @@
--- A step of one part, and cycles of waits in one part.
+-- A step of one manager, and cycles of waits in one.
 use Rattle.std.specs.Prelude.{◌≡◌, ℕ, true, List, [], ◌∷◌, ◌++◌, Some, map}
 use Rattle.std.proofs.Common.{ap, ◌∙◌}
 use Rattle.gl_modes.proofs.Words.{or_left, or_right}
@@ -10,7 +10,7 @@ use Rattle.gl_parts.specs.Whole.{Each, Part, waits_in}
 use Rattle.gl_parts.proofs.Grants.{each_map}
 use Rattle.gl_parts.specs.Laws.{CyclesOfPartsAreCycles, IsPartOf, StepsKeepParts}
 
--- another part in the place of one
+-- another manager in the place of one
 each_with : (P : Part → Type 0) (before after : List Part) (p p' : Part) → (P p → P p') → Each P (before ++ p ∷ after) → Each P (before ++ p' ∷ after)
 each_with P [] after p p' f h = (f h.0, h.1)
 each_with P (b ∷ before) after p p' f h = (h.0, each_with P before after p p' f h.1)
@@ -23,7 +23,7 @@ steps_keep_parts g before after p s' c a told h step same =
       parents = λ n m e. ap (λ x. map (λ q. Some q) (parents_of x m)) same ∙ it.parents n m e;
     }) h
 
--- each wait of a part is one of the whole
+-- each wait of a manager is one of the whole
 waits_of_parts : (ps : List Part) → Each (λ p. (t u : ℕ) → waits_for p.state t u ≡ true → waits_in ps t u ≡ true) ps
 waits_of_parts [] = tt
 waits_of_parts (p ∷ ps) = (λ t u w. or_left _ _ w, each_more ps (waits_of_parts ps))

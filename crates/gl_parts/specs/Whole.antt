@@ -1,15 +1,15 @@
--- Several managers that work as one: what is held of a node in the whole, and who waits for whom.
-use Rattle.std.specs.Prelude.{◌≡◌, ℕ, Bool, not, ◌&&◌, ◌||◌, List, [], ◌∷◌, Option, Some, None, if◌then◌else◌, is_some, map, ⊤}
-use Rattle.std.specs.List.{list_all, list_any}
+-- Several managers that work as one, a main one and parts: what is held of a node in the whole, and who waits for whom.
+use Rattle.std.specs.Prelude.{◌≡◌, ℕ, Bool, true, false, List, [], ◌∷◌, Option, Some, None, is_some, map, ⊤}
+use Rattle.std.specs.List.{list_any}
 use Rattle.gl_modes.specs.declared.mode.Mode.{Mode}
-use Rattle.gl_modes.specs.declared.mode.Mode.TheVariants.{NL, IS, IX, S, SIX, X}
+use Rattle.gl_modes.specs.declared.mode.Mode.TheVariants.{NL, IX}
 use Rattle.gl_modes.specs.declared.node.NodeId.{NodeId}
 use Rattle.gl_modes.specs.Modes.{is_at_least, supremum}
 use Rattle.gl_graph.specs.Graph.{Graph, parents_of}
 use Rattle.gl_model.specs.declared.answers.Detect.TheVariants.{AtBlock}
 use Rattle.gl_model.specs.State.{State, empty_state, waits_for}
 
--- a part: the state of its manager, and the name that a node of the whole has there, if it is there
+-- one of the managers: its state, and the name that a node of the whole has there, if it is there
 pub record Part : Type 0 where
   pub state : State
   pub name : NodeId → Option NodeId
@@ -32,31 +32,27 @@ held_by_name held (Some n) = held n
 abbrev pub held_at : Part → ℕ → NodeId → Mode
 held_at p t n = held_by_name (p.state.held t) (p.name n)
 
--- the intention that a mode includes: IS to read, IX to write
-abbrev pub intention : Mode → Mode
-intention NL = NL
-intention IS = IS
-intention IX = IX
-intention S = IS
-intention SIX = IX
-intention X = IX
-
--- the greatest intention of t on n in any part
-abbrev pub intention_in : List Part → ℕ → NodeId → Mode
-intention_in [] t n = NL
-intention_in (p ∷ ps) t n = supremum (intention (held_at p t n)) (intention_in ps t n)
-
--- n is in some part, and in each part that it is in, t holds it in m or greater
-abbrev pub holds_everywhere : Mode → List Part → ℕ → NodeId → Bool
-holds_everywhere m ps t n = list_any (is_in n) ps && list_all (λ p. not (is_in n p) || is_at_least (held_at p t n) m) ps
-
--- X or S, whichever t has on n in all parts of it
-abbrev pub strength_in : List Part → ℕ → NodeId → Mode
-strength_in ps t n = if holds_everywhere X ps t n then X else (if holds_everywhere S ps t n then S else NL)
-
--- what t holds of n in the whole: its greatest intention in any part, and what it has in all
+-- what t holds of n in the whole: the supremum of what it holds in each manager
 abbrev pub held_in : List Part → ℕ → NodeId → Mode
-held_in ps t n = supremum (intention_in ps t n) (strength_in ps t n)
+held_in [] t n = NL
+held_in (p ∷ ps) t n = supremum (held_at p t n) (held_in ps t n)
+
+-- an intention, or nothing
+abbrev pub is_intention : Mode → Bool
+is_intention m = is_at_least IX m
+
+-- the node is in one of the managers at most
+abbrev pub IsInOne : NodeId → List Part → Type 0
+IsInOne n [] = ⊤
+IsInOne n (p ∷ ps) = (is_in n p ≡ true → list_any (is_in n) ps ≡ false) × IsInOne n ps
+
+-- the main manager has each node that is in several. The parts hold intentions alone on such a node; and if anybody holds more on it in the main manager,
+-- then everybody holds there what it holds in any part
+pub record IsLedBy (main : Part) (ps : List Part) : Type 0 where
+  pub apart : (n : NodeId) → is_in n main ≡ false → IsInOne n ps
+  pub intentions : (n : NodeId) → is_in n main ≡ true → Each (λ p. (t : ℕ) → is_intention (held_at p t n) ≡ true) ps
+  pub copied : (n : NodeId) (u : ℕ) → is_intention (held_at main u n) ≡ false
+      → Each (λ p. (t : ℕ) → is_at_least (held_at main t n) (held_at p t n) ≡ true) ps
 
 -- the whole as one state: its graph, and what is held in it; who lives and waits is left to the parts
 abbrev pub whole : Graph → List Part → State
