@@ -38,8 +38,8 @@ use Rattle.gl_script.specs.declared.verb.RequestVerb.{RequestVerb}
 use Rattle.gl_script.specs.declared.verb.RequestVerb.TheVariants.{Lock, Try}
 use Rattle.gl_script.specs.declared.verb.TxnVerb.{TxnVerb}
 use Rattle.gl_script.specs.declared.verb.TxnVerb.TheVariants.{Cancel, Commit, Abort, Settle, Mark}
-use Rattle.gl_script.specs.Grammar.{Text, Node, Plain, Interval, Command, Inner, File, Index, IndexBy, Begin, BeginAgain, Join, Insert, Adopt, Forget, Rekey, Move}
-use Rattle.gl_script.specs.Grammar.{Group, OfTxn, OfLock, OfRequest, OfRemoval, OfNumber}
+use Rattle.gl_script.specs.Grammar.{Text, Node, Plain, Interval, Command, Inner, File, Index, IndexBy, Begin, BeginAgain, Join, Insert, Adopt, Forget, Rekey}
+use Rattle.gl_script.specs.Grammar.{Move, Group, OfTxn, OfLock, OfRequest, OfRemoval, OfNumber}
 use Rattle.gl_interpreter.specs.declared.request.Request.{Request}
 use Rattle.gl_interpreter.specs.declared.request.Request.TheVariants as request
 use Rattle.gl_interpreter.specs.declared.request.Said.{Said}

@@ -6,9 +6,9 @@ use Rattle.std.proofs.lemmas.List.Elements.{All-head, All-tail}
 use Rattle.gl_modes.proofs.Spellings.{mode_text-injective}
 use Rattle.gl_script.specs.declared.form.Language.{Language}
 use Rattle.gl_script.specs.Grammar.{Text, Command, Inner, File, Index, IndexBy, Begin, BeginAgain, Join, Insert, Adopt, Forget, Rekey, Move}
-use Rattle.gl_script.specs.Grammar.{Group, OfTxn, OfLock, OfRequest, OfRemoval, OfNumber, Listing, Holders, Queue, Locks, Waits, Txns, Cycle, Line, Orders, Lists}
+use Rattle.gl_script.specs.Grammar.{Group, OfTxn, OfLock, OfRequest, OfRemoval, OfNumber, Listing, Holders, Queue, Locks, Waits, Txns, Cycle, Line, Orders}
 use Rattle.gl_script.specs.Grammar.{Node, Plain, Interval, IsCommand, IsListing, IsNode, IsNumber, AreSomeNodes, node_text, parents, parts, verb_of}
-use Rattle.gl_script.specs.Grammar.{fields, listing_fields, SaysFields, ListsFields, LineFields, LineSaysOneCommand}
+use Rattle.gl_script.specs.Grammar.{Lists, fields, listing_fields, SaysFields, ListsFields, LineFields, LineSaysOneCommand}
 use Rattle.gl_script.proofs.Splitting.{cut_once, has_byte}
 use Rattle.gl_script.proofs.NodeTexts.{name_no_dot}
 use Rattle.gl_script.proofs.ListTexts.{on_parts, one_before_colon}
