@@ -438,20 +438,20 @@ static inline bs_reply bs_release_since(bs_manager *manager, bs_txn txn, uint64_
 /* Cancels the wait of a transaction. A row that it waited for is let go. The transaction itself gets no notice: if
  * another thread sleeps for it, notify that thread. Refused with BS_NO_SUCH_TXN, BS_TXN_CONDEMNED, BS_NOT_WAITING. */
 static inline bs_reply bs_cancel(bs_manager *manager, bs_txn txn, bs_notices *told) {
-  return bs_call_lacks(manager, told) ? bs_call_null() : bs_call_cancel_rows(manager, txn, told);
+  return bs_call_lacks(manager, told) ? bs_call_null() : bs_call_cancel(manager, txn, told);
 }
 
 /* Ends a transaction and releases everything, its rows included. Refused with BS_NO_SUCH_TXN, BS_TXN_WAITING,
  * BS_TXN_CONDEMNED. Costs a step for each lock and each waiter that is granted. */
 static inline bs_reply bs_commit(bs_manager *manager, bs_txn txn, bs_notices *told) {
-  return bs_call_lacks(manager, told) ? bs_call_null() : bs_call_commit_rows(manager, txn, told);
+  return bs_call_lacks(manager, told) ? bs_call_null() : bs_call_commit(manager, txn, told);
 }
 
 /* Ends a transaction whatever it is doing, and releases everything, its rows included. It undoes nothing: an inserted
  * record stays, and a deleted or moved one stays so. The transaction itself gets no notice: if another thread sleeps
  * for it, notify that thread. Refused with BS_NO_SUCH_TXN. */
 static inline bs_reply bs_abort(bs_manager *manager, bs_txn txn, bs_notices *told) {
-  return bs_call_lacks(manager, told) ? bs_call_null() : bs_call_abort_rows(manager, txn, told);
+  return bs_call_lacks(manager, told) ? bs_call_null() : bs_call_abort(manager, txn, told);
 }
 
 /* Condemns victims, by the choice of victims, until the transaction is on no cycle of waits. Each victim is told
@@ -469,7 +469,7 @@ static inline bs_reply bs_settle(bs_manager *manager, bs_txn txn, bs_notices *to
  * BS_NO_SUCH_NODE, BS_BAD_PARENTS (a record), BS_NOT_HELD, BS_WOULD_BLOCK. Costs a step for each lock of the
  * transaction. */
 static inline bs_reply bs_escalate(bs_manager *manager, bs_txn txn, bs_node node, bs_notices *told) {
-  return bs_call_lacks(manager, told) ? bs_call_null() : bs_call_escalate_rows(manager, txn, node, told);
+  return bs_call_lacks(manager, told) ? bs_call_null() : bs_call_escalate(manager, txn, node, told);
 }
 
 /* ------------------------------------------------------------------------------------------------
@@ -562,7 +562,7 @@ static inline bs_reply bs_index_by(bs_manager *manager, bs_txn txn, const bs_nod
  * records, or a name that names no file, calls about a row are refused with BS_NOT_ROWS.
  *
  * A row has a node while some transaction holds it or waits for it. bs_lock_row makes the node. bs_unlock_row,
- * bs_rekey_row, bs_commit, bs_abort, bs_cancel and bs_escalate let a row go. That means: after the last transaction
+ * bs_commit, bs_abort, bs_cancel, bs_escalate and bs_release_since let a row go. That means: after the last transaction
  * that holds it or waits for it they remove its node, if that transaction has requested the row by bs_lock_row. No row
  * has two nodes, and no two rows share one. A row can be locked by its node, and asked about by it, like any record.
  *

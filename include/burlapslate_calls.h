@@ -56,6 +56,10 @@ bs_reply bs_call_try(bs_manager *manager, bs_txn txn, bs_node node, bs_mode mode
 bs_reply bs_call_try_path(bs_manager *manager, bs_txn txn, bs_node node, bs_mode mode, uint32_t keep, bs_notices *told);
 bs_reply bs_call_unlock(bs_manager *manager, bs_txn txn, bs_node node, bs_notices *told);
 bs_reply bs_call_release_since(bs_manager *manager, bs_txn txn, size_t mark, bs_notices *told);
+bs_reply bs_call_commit(bs_manager *manager, bs_txn txn, bs_notices *told);
+bs_reply bs_call_abort(bs_manager *manager, bs_txn txn, bs_notices *told);
+bs_reply bs_call_cancel(bs_manager *manager, bs_txn txn, bs_notices *told);
+bs_reply bs_call_escalate(bs_manager *manager, bs_txn txn, bs_node node, bs_notices *told);
 bs_reply bs_call_settle(bs_manager *manager, bs_txn txn, bs_notices *told);
 bs_reply bs_call_insert(bs_manager *manager, bs_txn txn, bs_node file, const uint64_t *keys, size_t count);
 bs_reply bs_call_delete(bs_manager *manager, bs_txn txn, bs_node record, bs_notices *told);
@@ -74,10 +78,6 @@ bs_reply bs_call_try_row(bs_manager *manager, bs_txn txn, bs_node file, uint64_t
 bs_reply bs_call_unlock_row(bs_manager *manager, bs_txn txn, bs_node file, uint64_t number, bs_notices *told);
 bs_reply bs_call_rekey_row(bs_manager *manager, bs_txn txn, bs_node file, uint64_t number, bs_node index, uint64_t key,
                            bs_notices *told);
-bs_reply bs_call_commit_rows(bs_manager *manager, bs_txn txn, bs_notices *told);
-bs_reply bs_call_abort_rows(bs_manager *manager, bs_txn txn, bs_notices *told);
-bs_reply bs_call_cancel_rows(bs_manager *manager, bs_txn txn, bs_notices *told);
-bs_reply bs_call_escalate_rows(bs_manager *manager, bs_txn txn, bs_node node, bs_notices *told);
 bs_reply bs_call_row_node(const bs_manager *manager, bs_node file, uint64_t number);
 bs_reply bs_call_verdict(const bs_manager *manager, bs_txn txn, bs_node node, bs_mode mode);
 bs_found bs_call_ended(const bs_manager *manager);

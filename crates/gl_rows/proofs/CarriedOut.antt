@@ -1,7 +1,6 @@
 -- Each call about rows is one step of its own command, with records adopted and forgotten before and after it; and rows keep the law of names. For
 -- Registry.apply.
-use Rattle.std.specs.Prelude.{◌≡◌, ℕ, Bool, true, false, List, [], ◌∷◌, Option, Some, None, Result, Ok, Err, cond, get_or, map, unwrap_or}
-use Rattle.std.specs.List.{list_all}
+use Rattle.std.specs.Prelude.{◌≡◌, ℕ, Bool, true, false, List, [], ◌∷◌, Option, Some, None, Result, Ok, Err, cond, unwrap_or}
 use Rattle.std.specs.Map.{lookup}
 use Rattle.std.proofs.Common.{refl, sym, ap, subst, ◌∙◌, inl, inr}
 use denote.Bor.{Bor}
@@ -14,7 +13,6 @@ use Rattle.gl_graph.specs.Graph.{Graph, first_parent, is_live, shape_of}
 use Rattle.gl_graph.specs.Shapes.{is_record_shape}
 use Rattle.gl_model.specs.declared.txn.TxnId.{TxnId}
 use Rattle.gl_model.specs.Lawful.{IsLawful}
-use Rattle.gl_model.specs.State.{State}
 use Rattle.gl_model.specs.Tellings.{Told}
 use Rattle.gl_steps.specs.declared.command.Answer.{Answer}
 use Rattle.gl_steps.specs.declared.command.Answer.TheVariants as answer
@@ -27,7 +25,7 @@ use Rattle.gl_catalog.specs.Adopting.{AdoptsLocked}
 use Rattle.gl_catalog.specs.Counters.{refuses}
 use Rattle.gl_catalog.specs.Deadlocks.{KeepsAccepted, KeptBy}
 use Rattle.gl_catalog.specs.Manager.{ManagerView, state_of}
-use Rattle.gl_catalog.specs.Replies.{doing, made, said}
+use Rattle.gl_catalog.specs.Replies.{made, said}
 use Rattle.gl_catalog.proofs.Uncounted.{raised_by_none}
 use Rattle.gl_rows.specs.declared.answer.RowAnswer.{RowAnswer}
 use Rattle.gl_rows.specs.declared.answer.RowLocked.{RowLocked}
@@ -37,11 +35,11 @@ use Rattle.gl_rows.specs.declared.call.RowCall.{RowCall}
 use Rattle.gl_rows.specs.declared.call.RowCall.TheVariants as call
 use Rattle.gl_rows.specs.declared.row.Row.{Row}
 use Rattle.gl_rows.specs.Answers.{done_said, lock_said}
-use Rattle.gl_rows.specs.Applying.{AppliesRow, CarriesOut, StepsAmid, Upkeep, answer_in, is_upkeep, naming, own_command, plainly}
+use Rattle.gl_rows.specs.Applying.{AppliesRow, CarriesOut, StepsAmid, Upkeep, answer_in, naming, own_command, plainly}
 use Rattle.gl_rows.specs.Files.{MakesFile}
-use Rattle.gl_rows.specs.Locking.{Does, IsRefused, LocksBy, LocksRow, Names, NamesNew, Registers, SameAccount, Wish, forgets}
+use Rattle.gl_rows.specs.Locking.{Does, IsRefused, LocksBy, LocksRow, NamesNew, Registers, SameAccount, Wish, forgets}
 use Rattle.gl_rows.specs.Names.{NamesHold}
-use Rattle.gl_rows.specs.Releasing.{EndsTxn, GivesBack, LetsEachGo, RekeysBy, UnlocksBy, named_or_none, no_node, node_for, node_or_no}
+use Rattle.gl_rows.specs.Releasing.{LetsEachGo, RekeysBy, UnlocksBy, named_or_none, no_node, node_for, node_or_no}
 use Rattle.gl_rows.specs.Rows.{RowsView, has_rows, name_of, same_row}
 use Rattle.gl_rows.proofs.Accepted.{accepted_of, lock_answers}
 use Rattle.gl_rows.proofs.Adopted.{adopted_placed, enters_new, new_dead, node_is, replaced_placed}
@@ -49,16 +47,9 @@ use Rattle.gl_rows.proofs.GraphChanges.{is_of_nodes, step_graph, touches}
 use Rattle.gl_rows.proofs.LettingGo.{let_go_changes, one_goes}
 use Rattle.gl_rows.proofs.NameChanges.{ChangesNames, names_same, names_stay, same_records}
 use Rattle.gl_rows.proofs.RowNames.{keeps_name, same_row-refl}
+use Rattle.gl_rows.proofs.Tidied.{each_goes}
 use Rattle.gl_rows.proofs.Touched.{step_records}
 use Rattle.gl_rows.proofs.Upkeep.{upkeep_none, upkeep_one}
-
-all_forget : (gone : List NodeId) → list_all (λ l. is_upkeep l.0) (map forgets gone) ≡ true
-all_forget [] = refl
-all_forget (n ∷ gone) = all_forget gone
-
--- rows are let go
-pub each_goes : (s s' : State) (ns ns' : Names) (rows : List Row) → LetsEachGo s ns rows s' ns' → Upkeep s s'
-each_goes s s' ns ns' rows lets = record { lines = map forgets lets.forgotten.0; run = lets.forgotten.1; kept = all_forget lets.forgotten.0 }
 
 -- what a command records of deadlocks, by its answer
 kept_by : (c : Command) (m m' : ManagerView) (a : Answer) → refuses a ≡ false → KeepsAccepted c m m'
@@ -138,20 +129,6 @@ module _ (m m' : ManagerView) (v v' : RowsView) (law : IsLawful (state_of m)) (h
     out = inl (alone c a said does);
     names = names_stay v v' g g' holds files same (step_records (has_rows v) (state_of m) (state_of m') c a told law off does.step);
   }
-
-  -- Calls that end a transaction or release locks.
-
-  ends : (c : Command) → is_of_nodes c ≡ false → (slot : ℕ) (result : Result (Unit {0}) Refusal) → EndsTxn c m v slot result told m' v'
-      → Out c (answer_in (plainly (doing []) result))
-  ends c of_locks slot (Ok u) h = lets_go h.0 c answer.Done refl of_locks h.1 h.2.account h.2.files (get_or v.asked slot []) h.2.goes
-  ends c of_locks slot (Err r) h = is_refused c c r h
-
-  gives_back : {A : Type 0} (answers : A → Answer) → ((x : A) → refuses (answers x) ≡ false) → (c : Command) → is_of_nodes c ≡ false → (slot : ℕ)
-      (result : Result A Refusal) → GivesBack (λ x. (answers x, told)) c m v slot result told m' v'
-      → Out c (answer_in (plainly (λ x. (answers x, [])) result))
-  gives_back answers said c of_locks slot (Ok x) h =
-      lets_go h.0 c (answers x) (said x) of_locks h.1 h.2.account h.2.files (get_or v.asked slot []) h.2.goes
-  gives_back answers said c of_locks slot (Err r) h = is_refused c c r h
 
   -- A row's release, and another key for it.
 
@@ -282,10 +259,3 @@ module _ (m m' : ManagerView) (v v' : RowsView) (law : IsLawful (state_of m)) (h
       by (call.Unlock t row) h = said_as (command.Unlock t (named_or_none v row)) h.answered (unlocks t row (node_for v row) refl h.result h.was_done)
       by (call.Rekey t row index key) h =
           said_as (command.Rekey t (named_or_none v row) index key) h.answered (rekeys t row index key (node_for v row) refl h.result h.was_done)
-      by (call.Commit t) h = said_as (command.Commit t) h.answered (ends (command.Commit t) refl t.slot h.result h.was_done)
-      by (call.Abort t) h = said_as (command.Abort t) h.answered (ends (command.Abort t) refl t.slot h.result h.was_done)
-      by (call.Cancel t) h =
-          said_as (command.Cancel t) h.answered (gives_back (λ u. answer.Done) (λ u. refl) (command.Cancel t) refl t.slot h.result h.was_done)
-      by (call.Escalate t n) h =
-          said_as (command.Escalate t n) h.answered
-          (gives_back (λ x. answer.Escalated x) (λ x. refl) (command.Escalate t n) refl t.slot h.result h.was_done)

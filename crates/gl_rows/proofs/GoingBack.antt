@@ -21,18 +21,18 @@ use Rattle.gl_catalog.specs.Replies.{Says}
 use Rattle.gl_catalog.specs.Savepoints.{TakesBack}
 use Rattle.gl_catalog.proofs.GoingBack.{back_keeps_over, keeping_keeps_over}
 use Rattle.gl_table.specs.Keeping.{RenewsOrEnds}
-use Rattle.gl_rows.specs.Locking.{Names}
+use Rattle.gl_rows.specs.Applying.{Upkeep}
 use Rattle.gl_rows.specs.Names.{NamesHold}
-use Rattle.gl_rows.specs.declared.row.Row.{Row}
 use Rattle.gl_rows.specs.Promises.{BacksKeepOnRows, KeepingsKeepOnRows, is_granted}
-use Rattle.gl_rows.specs.Releasing.{CommitsAndKeeps, GoesBackTo, LetsEachGo}
+use Rattle.gl_rows.specs.Releasing.{CommitsAndKeeps, GoesBackTo}
 use Rattle.gl_rows.specs.Rows.{RowsView}
-use Rattle.gl_rows.proofs.CarriedOut.{each_goes, unchanged}
+use Rattle.gl_rows.proofs.CarriedOut.{unchanged}
 use Rattle.gl_rows.proofs.GraphChanges.{step_graph}
 use Rattle.gl_rows.proofs.LettingGo.{let_go_changes}
 use Rattle.gl_rows.proofs.NameChanges.{ChangesNames}
 use Rattle.gl_rows.proofs.RunsKeepIndexes.{same_keeps}
 use Rattle.gl_rows.proofs.Served.{Over, keeps_rows, over_as, over_same, over_then, over_upkeep}
+use Rattle.gl_rows.proofs.Tidied.{at_end_upkeep, meanwhile_upkeep}
 
 abbrev unlocks : TxnId → List NodeId → List Command
 unlocks t ns = map (λ n. command.Unlock t n) ns
@@ -64,15 +64,14 @@ pub back_changes : (m m' : ManagerView) (v v' : RowsView) (t : TxnId) (mark : �
     → NamesHold v (state_of m).graph → GoesBackTo t mark m v result told m' v' → ChangesNames v v' (state_of m).graph (state_of m').graph
 back_changes m m' v v' t mark (Ok k) told law holds h =
     let_go_changes v v' (state_of m).graph (state_of h.0) (state_of m') (back_graph m h.0 t mark k told law h.1) (back_lawful m h.0 t mark k told law h.1) holds
-    h.2.files (get_or v.asked t.slot []) h.2.goes
+    h.2.0.files (get_or v.asked t.slot []) h.2.0.goes
 back_changes m m' v v' t mark (Err r) told law holds h = unchanged m m' v v' law holds told h.1.same_manager h.1.same_rows
 
 -- what another keeps, it keeps while rows are let go
-over_let_go : (s mid s' : State) (ns ns' : Names) (rows : List Row) (t : TxnId) (told : Told) → IsLawful s → Over s mid t (is_granted t told)
-    → LetsEachGo mid ns rows s' ns' → Over s s' t (is_granted t told)
-over_let_go s mid s' ns ns' rows t told law back goes =
-    let after = over_upkeep mid s' t back.law (each_goes mid s' ns ns' rows goes) back.keeps.alive in
-    over_as s s' t (or-false (is_granted t told)) (over_then s mid s' t (is_granted t told) false law back after)
+over_let_go : (s mid s' : State) (t : TxnId) (told : Told) → IsLawful s → Over s mid t (is_granted t told) → Upkeep mid s' → Over s s' t (is_granted t told)
+over_let_go s mid s' t told law back upkeep =
+    over_as s s' t (or-false (is_granted t told))
+    (over_then s mid s' t (is_granted t told) false law back (over_upkeep mid s' t back.law upkeep back.keeps.alive))
 
 -- and if nothing changes, and nobody is told
 over_none : (m m' : ManagerView) (t : TxnId) (told : Told) → IsLawful (state_of m) → told ≡ [] → m' ≡ m → lives (state_of m) t ≡ true
@@ -87,8 +86,8 @@ backs_keep_on_rows v v' u mark result told t is h alive apart =
     over : (result : Result ℕ Refusal) → GoesBackTo u mark v.manager v.rows result told v'.manager v'.rows
         → Over (state_of v.manager) (state_of v'.manager) t (is_granted t told)
     over (Ok k) h =
-        over_let_go (state_of v.manager) (state_of h.0) (state_of v'.manager) v.rows.names v'.rows.names _ t told is.law
-        (over_back v.manager h.0 u mark k told is.law h.1 t alive apart) h.2.goes
+        over_let_go (state_of v.manager) (state_of h.0) (state_of v'.manager) t told is.law
+        (over_back v.manager h.0 u mark k told is.law h.1 t alive apart) (meanwhile_upkeep h.0 v'.manager v.rows v'.rows u.slot h.2)
     over (Err r) h = over_none v.manager v'.manager t told is.law h.1.nobody_told h.1.same_manager alive
 
 -- The same of a commit that keeps locks.
@@ -122,7 +121,7 @@ pub keeping_changes : (m m' : ManagerView) (v v' : RowsView) (t : TxnId) (keep s
     → ChangesNames v v' (state_of m).graph (state_of m').graph
 keeping_changes m m' v v' t keep since (Ok next) told law holds h =
     let_go_changes v v' (state_of m).graph (state_of h.0) (state_of m') (keeping_graph m h.0 t keep since next told law h.1)
-    (keeping_lawful m h.0 t keep since next told law h.1) holds h.2.files (get_or v.asked t.slot []) h.2.goes
+    (keeping_lawful m h.0 t keep since next told law h.1) holds h.2.0.files (get_or v.asked t.slot []) h.2.0.goes
 keeping_changes m m' v v' t keep since (Err r) told law holds h = unchanged m m' v v' law holds told h.1.same_manager h.1.same_rows
 
 pub keepings_keep_on_rows : KeepingsKeepOnRows
@@ -133,6 +132,6 @@ keepings_keep_on_rows v v' u keep since result told t is h alive apart =
     over : (result : Result (Option TxnId) Refusal) → CommitsAndKeeps u keep since v.manager v.rows result told v'.manager v'.rows
         → Over (state_of v.manager) (state_of v'.manager) t (is_granted t told)
     over (Ok next) h =
-        over_let_go (state_of v.manager) (state_of h.0) (state_of v'.manager) v.rows.names v'.rows.names _ t told is.law
-        (over_keeping v.manager h.0 u keep since next told is.law h.1 t alive apart) h.2.goes
+        over_let_go (state_of v.manager) (state_of h.0) (state_of v'.manager) t told is.law
+        (over_keeping v.manager h.0 u keep since next told is.law h.1 t alive apart) (at_end_upkeep h.0 v'.manager v.rows v'.rows u.slot h.2)
     over (Err r) h = over_none v.manager v'.manager t told is.law h.1.nobody_told h.1.same_manager alive

@@ -11,6 +11,7 @@ mod Touched
 pub mod Dropped
 -- what they are for waiters: their own commands, among adopted and forgotten records
 pub mod Upkeep
+pub mod Tidied
 pub mod CarriedOut
 -- indexes are kept
 pub mod KeptIndexes

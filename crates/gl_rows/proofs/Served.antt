@@ -31,7 +31,7 @@ use Rattle.gl_rows.specs.Applying.{CarriesOut, Stays, StepsAmid, Upkeep, answer_
 use Rattle.gl_rows.specs.Locking.{Line, Runs}
 use Rattle.gl_rows.specs.Promises.{CallsKeepOnRows, CommandsKeepOnRows, IsRegistry, KeepsOnRows, PathsKeepOnRows, drops_index_of, is_granted, names_in}
 use Rattle.gl_rows.specs.Rows.{RegistryView, RowsView, has_rows, name_of}
-use Rattle.gl_rows.specs.Serving.{ServesBy, touches_rows}
+use Rattle.gl_rows.specs.Serving.{Dropped, Ended, GaveBack, IsServed, Nothing, Remains, ServesBy, TidiesUp, remains_after, touches_rows}
 use Rattle.gl_rows.proofs.CarriedOut.{call_course, unchanged}
 use Rattle.gl_rows.proofs.Dropped.{served_changes}
 use Rattle.gl_rows.proofs.GraphChanges.{step_graph}
@@ -39,6 +39,7 @@ use Rattle.gl_rows.proofs.KeptIndexes.{keeps_trans, same_parents}
 use Rattle.gl_rows.proofs.KeptOnRows.{keeps_on_rows}
 use Rattle.gl_rows.proofs.NameChanges.{ChangesNames, names_stay, same_records}
 use Rattle.gl_rows.proofs.RunsKeepIndexes.{KeepsAll, is_drop, run_keeps as run_keeps_indexes, step_parents}
+use Rattle.gl_rows.proofs.Tidied.{IsOfLocks, ended_so, gave_back_so, tidy_upkeep}
 
 -- what commands keep that do not name t and drop nothing: the law of a state, what t keeps, and indexes
 pub record Over (s s' : State) (t : TxnId) (granted : Bool) : Type 0 where
@@ -111,25 +112,6 @@ pub keeps_rows : (v v' : RegistryView) (t : TxnId) (granted : Bool) → IsRegist
 keeps_rows v v' t granted is over names =
     keeps_on_rows v v' t granted is over.law over.keeps (λ f. same_parents (state_of v.manager).graph (state_of v'.manager).graph f (over.indexes f)) names
 
--- a command by its node
-pub commands_keep_on_rows : CommandsKeepOnRows
-commands_keep_on_rows v v' c result told t is serves alive apart = by (touches_rows v c) refl serves
-  where
-    by : (b : Bool) → touches_rows v c ≡ b → ServesBy b v c result told v' → KeepsOnRows v v' t (is_granted t told)
-    by true e h =
-        let s = state_of v.manager in
-        let s' = state_of v'.manager in
-        let manager : s' ≡ s = ap (λ (x : RegistryView). state_of x.manager) h.2 in
-        keeps_rows v v' t (is_granted t told) is (over_as s s' t (sym (ap (is_granted t) h.1)) (over_same s s' t is.law manager alive))
-        (unchanged v.manager v'.manager v.rows v'.rows is.law is.names told (ap (λ (x : RegistryView). x.manager) h.2) (ap (λ (x : RegistryView). x.rows) h.2))
-    by false e h =
-        let s = state_of v.manager in
-        let s' = state_of v'.manager in
-        keeps_on_rows v v' t (is_granted t told) is (steps_keep_law s s' c h.0 told is.law h.2.step)
-        (subst (KeepsOver s s' t) (or-false (is_granted t told))
-        (run_keeps (c ∷ []) ((h.0, told) ∷ []) s s' t is.law (s', h.2.step, refl) alive (or-false (names t c) ∙ apart)))
-        (step_parents s s' c h.0 told is.law h.2.step) (served_changes v is.law is.names s' c h.0 told v'.rows e h.2.step h.3)
-
 -- a path
 pub paths_keep_on_rows : PathsKeepOnRows
 paths_keep_on_rows v v' u ask result told t is h alive apart =
@@ -194,6 +176,57 @@ over_upkeep s s' t law h alive =
     over_as s s' t (quiet_all t s s' h.lines h.kept h.run)
     (over_run s s' (map (λ (l : Line). l.0) h.lines) (map (λ (l : Line). l.1) h.lines) t law h.run alive
     (none_all (names t) (unnamed_one t) h.lines h.kept) (none_all is_drop no_drop_one h.lines h.kept))
+
+-- A command.
+
+module _ (v v' : RegistryView) (c : Command) (a : Answer) (told : Told) (t : TxnId) (is : IsRegistry v) (off : touches_rows v c ≡ false)
+    (h : IsServed v c a told v') (alive : lives (state_of v.manager) t ≡ true) (apart : names t c ≡ false) where
+  abbrev s : State
+  s = state_of v.manager
+
+  abbrev s' : State
+  s' = state_of v'.manager
+
+  abbrev Kept : Type 0
+  Kept = KeepsOnRows v v' t (is_granted t told)
+
+  changes : ChangesNames v.rows v'.rows s.graph s'.graph
+  changes = served_changes v v' is.law is.names c a told off h
+
+  -- nothing is done but its step
+  alone : v'.manager ≡ h.mid → Kept
+  alone same =
+      let step : Step s c a told s' = subst (λ (m : ManagerView). Step s c a told (state_of m)) (sym same) h.applies.step in
+      keeps_on_rows v v' t (is_granted t told) is (steps_keep_law s s' c a told is.law step)
+      (subst (KeepsOver s s' t) (or-false (is_granted t told))
+      (run_keeps (c ∷ []) ((a, told) ∷ []) s s' t is.law (s', step, refl) alive (or-false (names t c) ∙ apart)))
+      (step_parents s s' c a told is.law step) changes
+
+  -- then rows are let go
+  goes : IsOfLocks c → Upkeep (state_of h.mid) s' → Kept
+  goes of_locks upkeep =
+      let step = over_step s (state_of h.mid) c a told t is.law h.applies.step alive apart of_locks.drops in
+      let after = over_upkeep (state_of h.mid) s' t step.law upkeep step.keeps.alive in
+      keeps_rows v v' t (is_granted t told) is
+      (over_as s s' t (or-false (is_granted t told)) (over_then s (state_of h.mid) s' t (is_granted t told) false is.law step after)) changes
+
+  served_keeps : (x : Remains) → remains_after c a ≡ x → TidiesUp x h.mid v.rows v'.manager v'.rows → Kept
+  served_keeps Nothing e done = alone done.0
+  served_keeps (Dropped n) e done = alone done.0
+  served_keeps (Ended slot) e done = goes (ended_so c a slot e) (tidy_upkeep (Ended slot) h.mid v'.manager v.rows v'.rows done)
+  served_keeps (GaveBack slot) e done = goes (gave_back_so c a slot e) (tidy_upkeep (GaveBack slot) h.mid v'.manager v.rows v'.rows done)
+
+pub commands_keep_on_rows : CommandsKeepOnRows
+commands_keep_on_rows v v' c result told t is serves alive apart = by (touches_rows v c) refl serves
+  where
+    by : (b : Bool) → touches_rows v c ≡ b → ServesBy b v c result told v' → KeepsOnRows v v' t (is_granted t told)
+    by true e h =
+        let s = state_of v.manager in
+        let s' = state_of v'.manager in
+        let manager : s' ≡ s = ap (λ (x : RegistryView). state_of x.manager) h.2 in
+        keeps_rows v v' t (is_granted t told) is (over_as s s' t (sym (ap (is_granted t) h.1)) (over_same s s' t is.law manager alive))
+        (unchanged v.manager v'.manager v.rows v'.rows is.law is.names told (ap (λ (x : RegistryView). x.manager) h.2) (ap (λ (x : RegistryView). x.rows) h.2))
+    by false e h = served_keeps v v' c h.0 told t is e h.2 alive apart (remains_after c h.0) refl h.2.tidies
 
 -- a call that carries out a command
 module _ (m : ManagerView) (c : Command) (told : Told) (m' : ManagerView) (t : TxnId) (law : IsLawful (state_of m)) (alive : lives (state_of m) t ≡ true)

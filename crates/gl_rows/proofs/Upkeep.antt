@@ -1,5 +1,5 @@
 -- Adopting and forgetting records changes only the graph and the counts. For the calls about rows, and for guards of a registry.
-use Rattle.std.specs.Prelude.{◌≡◌, ◌⊎◌, ◌+◌, ◌<◌, true, List, [], ◌∷◌, Option, Some, None, map}
+use Rattle.std.specs.Prelude.{◌≡◌, ◌⊎◌, ◌+◌, ◌<◌, ◌≤◌, true, List, [], ◌∷◌, Option, Some, None, map}
 use Rattle.std.specs.List.{list_all}
 use Rattle.std.proofs.Common.{refl, sym, ap, subst, ◌∙◌, arith, inl, inr}
 use Rattle.gl_modes.proofs.Words.{and_both, both, no}
@@ -78,3 +78,8 @@ upkeep_leaves s s' h = run_leaves_all s s' h.lines h.kept h.run
 
 pub upkeep_law : (s s' : State) → IsLawful s → Upkeep s s' → IsLawful s'
 upkeep_law s s' law h = runs_keep_law s s' (map (λ (l : Line). l.0) h.lines) (map (λ (l : Line). l.1) h.lines) law h.run
+
+-- so no fewer commands were counted
+pub low : (s s' : State) → (s' ≡ s) ⊎ (s.accepted < s'.accepted) → s.accepted ≤ s'.accepted
+low s s' (inl same) = let as_many = ap (λ (x : State). x.accepted) same in omega (arith, as_many)
+low s s' (inr later) = omega (arith, later)

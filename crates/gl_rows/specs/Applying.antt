@@ -8,11 +8,10 @@ use Rattle.gl_model.specs.Tellings.{Told}
 use Rattle.gl_steps.specs.declared.command.Answer.{Answer}
 use Rattle.gl_steps.specs.declared.command.Command.{Command}
 use Rattle.gl_steps.specs.declared.command.Command.TheVariants as command
-use Rattle.gl_steps.specs.declared.command.Escalated.{Escalated}
 use Rattle.gl_catalog.specs.Counters.{counted, refuses}
 use Rattle.gl_catalog.specs.Deadlocks.{KeptBy}
 use Rattle.gl_catalog.specs.Manager.{ManagerView, state_of}
-use Rattle.gl_catalog.specs.Replies.{Says, doing, made, rising, said}
+use Rattle.gl_catalog.specs.Replies.{Says, made, said}
 use Rattle.gl_steps.specs.Step.{Step, answer_of_lock}
 use Rattle.gl_rows.specs.declared.answer.RowAnswer.{RowAnswer}
 use Rattle.gl_rows.specs.declared.answer.RowAnswer.TheVariants as row_answer
@@ -23,7 +22,7 @@ use Rattle.gl_rows.specs.declared.call.RowCall.TheVariants as call
 use Rattle.gl_rows.specs.Answers.{done_said, lock_said}
 use Rattle.gl_rows.specs.Files.{MakesFile}
 use Rattle.gl_rows.specs.Locking.{Line, LocksRow, Runs}
-use Rattle.gl_rows.specs.Releasing.{EndsTxn, GivesBack, RekeysRow, UnlocksRow, named_or_none}
+use Rattle.gl_rows.specs.Releasing.{RekeysRow, UnlocksRow, named_or_none}
 use Rattle.gl_rows.specs.Rows.{RegistryView, RowsView}
 
 -- the outcome of a call, with its answer and its effect
@@ -43,12 +42,6 @@ AppliesRow m v (call.Lock t row keys mode) a told m' v' =
     Came {A = RowLocked} {R = RowRefusal} lock_said (λ r. LocksRow m v (record { txn = t; row = row; keys = keys; mode = mode }) r told m' v') a
 AppliesRow m v (call.Unlock t row) a told m' v' = Came {A = Unit {0}} {R = RowRefusal} done_said (λ r. UnlocksRow m v t row r told m' v') a
 AppliesRow m v (call.Rekey t row index key) a told m' v' = Came {A = Unit {0}} {R = RowRefusal} done_said (λ r. RekeysRow m v t row index key r told m' v') a
-AppliesRow m v (call.Commit t) a told m' v' = Came {A = Unit {0}} {R = Refusal} (plainly (doing [])) (λ r. EndsTxn (command.Commit t) m v t.slot r told m' v') a
-AppliesRow m v (call.Abort t) a told m' v' = Came {A = Unit {0}} {R = Refusal} (plainly (doing [])) (λ r. EndsTxn (command.Abort t) m v t.slot r told m' v') a
-AppliesRow m v (call.Cancel t) a told m' v' =
-    Came {A = Unit {0}} {R = Refusal} (plainly (doing [])) (λ r. GivesBack (doing told) (command.Cancel t) m v t.slot r told m' v') a
-AppliesRow m v (call.Escalate t n) a told m' v' =
-    Came {A = Escalated} {R = Refusal} (plainly (rising [])) (λ r. GivesBack (rising told) (command.Escalate t n) m v t.slot r told m' v') a
 
 -- the same for a registry
 abbrev pub AppliesCall : RegistryView → RowCall → RowAnswer → Told → RegistryView → Type 0
@@ -60,10 +53,6 @@ own_command v (call.File ps) = command.File ps
 own_command v (call.Lock t row keys m) = command.Lock t (named_or_none v row) m
 own_command v (call.Unlock t row) = command.Unlock t (named_or_none v row)
 own_command v (call.Rekey t row index key) = command.Rekey t (named_or_none v row) index key
-own_command v (call.Commit t) = command.Commit t
-own_command v (call.Abort t) = command.Abort t
-own_command v (call.Cancel t) = command.Cancel t
-own_command v (call.Escalate t n) = command.Escalate t n
 
 -- no row has a node
 abbrev pub unnamed : RowsView

@@ -10,11 +10,10 @@ use Rattle.gl_graph.specs.Refusals.{first_refusal}
 use Rattle.gl_model.specs.declared.txn.TxnId.{TxnId}
 use Rattle.gl_model.specs.State.{State}
 use Rattle.gl_model.specs.Tellings.{Told}
-use Rattle.gl_steps.specs.declared.command.Command.{Command}
 use Rattle.gl_steps.specs.declared.command.Command.TheVariants as command
 use Rattle.gl_catalog.specs.Keeping.{CompletesKeeping, keeping_tests}
 use Rattle.gl_catalog.specs.Manager.{ManagerView, state_of}
-use Rattle.gl_catalog.specs.Replies.{Says, doing}
+use Rattle.gl_catalog.specs.Replies.{doing}
 use Rattle.gl_catalog.specs.Savepoints.{TakesBack, back_tests}
 use Rattle.gl_steps.specs.Tests.{refusal_of}
 use Rattle.gl_rows.specs.declared.answer.RowRefusal.{RowRefusal}
@@ -104,27 +103,22 @@ pub record LetsGoAsked (m : ManagerView) (v : RowsView) (slot : ℕ) (m' : Manag
   pub account : SameAccount m m'
   pub files : v'.files ≡ v.files
 
--- this command ends a transaction, which then asks for no row; the rows that it asked for are let go
-abbrev pub EndsTxn : Command → ManagerView → RowsView → ℕ → Result (Unit {0}) Refusal → Told → ManagerView → RowsView → Type 0
-EndsTxn c m v slot (Ok u) told m' v' =
-    (mid : ManagerView) × Does m c (doing told tt) mid × LetsGoAsked mid v slot m' v'
-    × ((w : ℕ) (q : Row) → has_asked v' w q ≡ (has_asked v w q && not (w == slot)))
-EndsTxn c m v slot (Err r) told m' v' = IsRefused m v c r told m' v'
+-- so they are when that transaction ends, which then asks for no row
+abbrev pub LetsGoAtEnd : ManagerView → RowsView → ℕ → ManagerView → RowsView → Type 0
+LetsGoAtEnd m v slot m' v' = LetsGoAsked m v slot m' v' × ((w : ℕ) (q : Row) → has_asked v' w q ≡ (has_asked v w q && not (w == slot)))
 
--- this command releases locks, and says so; the rows that the transaction asked for are let go
-abbrev pub GivesBack : {A : Type 0} → (A → Says) → Command → ManagerView → RowsView → ℕ → Result A Refusal → Told → ManagerView → RowsView → Type 0
-GivesBack says c m v slot (Ok x) told m' v' = (mid : ManagerView) × Does m c (says x) mid × LetsGoAsked mid v slot m' v' × (v'.asked ≡ v.asked)
-GivesBack says c m v slot (Err r) told m' v' = IsRefused m v c r told m' v'
+-- so they are while it goes on, and it still asks for them
+abbrev pub LetsGoMeanwhile : ManagerView → RowsView → ℕ → ManagerView → RowsView → Type 0
+LetsGoMeanwhile m v slot m' v' = LetsGoAsked m v slot m' v' × (v'.asked ≡ v.asked)
 
 -- a transaction rolls back to a mark, and the rows that it asked for are let go
 abbrev pub GoesBackTo : TxnId → ℕ → ManagerView → RowsView → Result ℕ Refusal → Told → ManagerView → RowsView → Type 0
-GoesBackTo t mark m v (Ok k) told m' v' = (mid : ManagerView) × TakesBack t mark k m told mid × LetsGoAsked mid v t.slot m' v' × (v'.asked ≡ v.asked)
+GoesBackTo t mark m v (Ok k) told m' v' = (mid : ManagerView) × TakesBack t mark k m told mid × LetsGoMeanwhile mid v t.slot m' v'
 GoesBackTo t mark m v (Err r) told m' v' = (first_refusal (back_tests m t mark) ≡ Some r) × Refused {A = ℕ} m v r (Err r) told m' v'
 
 -- a transaction commits, and another begins in its slot that keeps its first locks; the rows that it asked for are let go, and it asks for none any more
 abbrev pub CommitsAndKeeps : TxnId → ℕ → ℕ → ManagerView → RowsView → Result (Option TxnId) Refusal → Told → ManagerView → RowsView → Type 0
 CommitsAndKeeps t keep since m v (Ok next) told m' v' =
-    (mid : ManagerView) × CompletesKeeping t keep since m next told mid × LetsGoAsked mid v t.slot m' v'
-    × ((w : ℕ) (q : Row) → has_asked v' w q ≡ (has_asked v w q && not (w == t.slot)))
+    (mid : ManagerView) × CompletesKeeping t keep since m next told mid × LetsGoAtEnd mid v t.slot m' v'
 CommitsAndKeeps t keep since m v (Err r) told m' v' =
     (first_refusal (keeping_tests m t keep) ≡ Some r) × Refused {A = Option TxnId} m v r (Err r) told m' v'

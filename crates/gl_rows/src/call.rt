@@ -8,9 +8,7 @@ use gl_catalog::Command;
 use gl_modes::{Mode, NodeId};
 use gl_table::TxnId;
 
-/// One call about rows, or one by which rows may lose their nodes. `Unlock` lets its row go, and the
-/// other calls that release locks let go all rows that their transaction asked for: a row that nobody
-/// holds or waits for any more loses its node.
+/// One call about rows.
 ///
 /// A call about a row whose file is no file of rows is refused with `NotRows` before all else. Other
 /// refusals are those of the call's command; `Lock` lists its own.
@@ -37,7 +35,7 @@ pub enum RowCall<'a> {
         keys: &'a [u64],
         mode: Mode,
     },
-    /// Release a row.
+    /// Release a row. If nobody holds it or waits for it any more, it loses its node.
     Unlock {
         txn: TxnId,
         row: Row,
@@ -48,23 +46,6 @@ pub enum RowCall<'a> {
         row: Row,
         index: NodeId,
         key: u64,
-    },
-    /// End the transaction and release everything.
-    Commit {
-        txn: TxnId,
-    },
-    /// End the transaction and release everything, also while it waits or is condemned.
-    Abort {
-        txn: TxnId,
-    },
-    /// Cancel the transaction's wait.
-    Cancel {
-        txn: TxnId,
-    },
-    /// Raise the lock on a node, and release the children whose locks it then implies.
-    Escalate {
-        txn: TxnId,
-        node: NodeId,
     },
 }
 
@@ -96,10 +77,6 @@ impl<'a> RowCall<'a> {
                 index,
                 key,
             },
-            RowCall::Commit { txn } => Command::Commit { txn },
-            RowCall::Abort { txn } => Command::Abort { txn },
-            RowCall::Cancel { txn } => Command::Cancel { txn },
-            RowCall::Escalate { txn, node } => Command::Escalate { txn, node },
         }
     }
 }

@@ -17,7 +17,7 @@ use crate::answer::{RowAnswer, done_row, lock_answer};
 use crate::call::RowCall;
 use crate::row::Row;
 use crate::rows::Rows;
-use gl_catalog::replies::{done_answer, escalate_answer, node_answer};
+use gl_catalog::replies::node_answer;
 use gl_catalog::{Answer, Command, Manager, Reached};
 use gl_graph::Graph;
 use gl_modes::{Mode, NodeId, Refusal};
@@ -28,11 +28,10 @@ use std::marker::Model;
 /// A manager with files of rows, whose records are made, removed and rekeyed by the calls about rows
 /// alone.
 ///
-/// A row gets its node from the call that locks it. It loses the node by a later call about rows or a
-/// rollback to a savepoint, if nobody holds the node or waits for it any more. The registry owns the
-/// manager, lends it for reading and serves every command. So each row's node is a living record of
-/// the row's file, no two rows have the same node, and each record of a file of rows is the node of
-/// one of its rows.
+/// A row gets its node from the call that locks it. It loses the node by a later command that releases
+/// locks, if nobody holds the node or waits for it any more. The registry owns the manager, lends it
+/// for reading and serves every command. So each row's node is a living record of the row's file, no
+/// two rows have the same node, and each record of a file of rows is the node of one of its rows.
 #[derive(Drop)]
 pub struct Registry {
     manager: Manager,
@@ -103,8 +102,9 @@ impl Registry {
 
     /// Carries out one command, and answers as `Manager::apply_telling`. Answers `None` and changes
     /// nothing if the command would make, remove or rekey a record of a file of rows by its node, even
-    /// if other refusals apply. A dropped file is no file of rows any more. `told` must be empty, and
-    /// receives the notices.
+    /// if other refusals apply. A dropped file is no file of rows any more. After a commit, an abort, a
+    /// cancel and an escalation, rows that the transaction asked for and that nobody holds or waits for
+    /// any more lose their nodes. `told` must be empty, and receives the notices.
     #[inline(always)]
     pub fn serve(&mut self, command: Command<'_>, told: &mut Told) -> Option<Answer>
         requires empty { told.old.items ≡ [] }
@@ -115,7 +115,7 @@ impl Registry {
         }
         self.manager.law();
         let answer = self.manager.apply_telling(command, told);
-        self.rows.note(&command, answer);
+        self.rows.tidy_up(&mut self.manager, &command, answer);
         Some(answer)
     }
 
@@ -234,15 +234,5 @@ fn carry_out(
             index,
             key,
         } => done_row(rows.rekey(manager, txn, row, index, key, told)),
-        RowCall::Commit { txn } => RowAnswer::Answered(done_answer(rows.commit(
-            manager, txn, told,
-        ))),
-        RowCall::Abort { txn } => RowAnswer::Answered(done_answer(rows.abort(manager, txn, told))),
-        RowCall::Cancel { txn } => RowAnswer::Answered(done_answer(rows.cancel(
-            manager, txn, told,
-        ))),
-        RowCall::Escalate { txn, node } => {
-            RowAnswer::Answered(escalate_answer(rows.escalate(manager, txn, node, told)))
-        }
     }
 }

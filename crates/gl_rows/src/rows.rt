@@ -11,7 +11,7 @@ ghost use Rattle.gl_rows.specs.declared.row.Row.{Row as ARow};
 ghost use Rattle.gl_rows.specs.Files.{MakesFile};
 ghost use Rattle.gl_rows.specs.Releasing.{node_for};
 ghost use Rattle.gl_rows.specs.Rows.{has_asked, has_rows, name_of};
-ghost use Rattle.gl_rows.specs.Serving.{ForgetsFile, LeavesRows, dropped_by};
+ghost use Rattle.gl_rows.specs.Serving.{ForgetsFile, TidiesUp, remains_after};
 
 use crate::answer::RowRefusal;
 use crate::row::Row;
@@ -112,15 +112,25 @@ impl Rows {
         Ok(file)
     }
 
-    /// Notes the answer to a command: a dropped node is no file of rows any more.
+    /// Does for rows what a command with this answer leaves to be done: a dropped node is no file of
+    /// rows any more, and rows that the transaction of a command that releases locks asked for, and
+    /// that nobody holds or waits for any more, lose their nodes.
     #[inline(always)]
-    pub(crate) fn note(&mut self, command: &Command<'_>, answer: Answer)
-        ensures { LeavesRows (dropped_by command.now answer) self.old self.new }
+    pub(crate) fn tidy_up(&mut self, manager: &mut Manager, command: &Command<'_>, answer: Answer)
+        ensures { TidiesUp (remains_after command.now answer) manager.old self.old manager.new self.new }
     {
-        if let Command::Drop { node, .. } = *command {
-            if answer == Answer::Done {
-                self.forget_file(node);
+        if matches!(answer, Answer::Refused(_)) {
+            return;
+        }
+        match *command {
+            Command::Drop { node, .. } => self.forget_file(node),
+            Command::Commit { txn } | Command::Abort { txn } => {
+                self.let_go_at_end(manager, txn.slot);
             }
+            Command::Cancel { txn } | Command::Escalate { txn, .. } => {
+                self.let_go_asked(manager, txn.slot);
+            }
+            _ => {}
         }
     }
 

@@ -37,7 +37,7 @@ use Rattle.gl_steps.proofs.WaitsEnd.{told_over}
 use Rattle.gl_rows.specs.Applying.{Upkeep}
 use Rattle.gl_rows.specs.Releasing.{CommitsAndKeeps, GoesBackTo}
 use Rattle.gl_rows.specs.Rows.{RegistryView}
-use Rattle.gl_rows.proofs.CarriedOut.{each_goes}
+use Rattle.gl_rows.proofs.Tidied.{at_end_upkeep, meanwhile_upkeep}
 use Rattle.gl_rows.proofs.Upkeep.{LeavesAll, upkeep_leaves}
 use Rattle.gl_wakes.specs.Boxes.{Slot, Puts}
 use Rattle.gl_wakes.specs.Notices.{RisingTo}
@@ -47,7 +47,7 @@ use Rattle.gl_wakes.proofs.Waking.{told_wakes}
 use Rattle.gl_waiting.specs.Delivering.{Carries, Delivered, unlocking}
 use Rattle.gl_waiting.specs.Going.{IsRunOf}
 use Rattle.gl_waiting.proofs.Delivered.{with_boxes}
-use Rattle.gl_waiting.proofs.RowCalls.{low}
+use Rattle.gl_rows.proofs.Upkeep.{low}
 use Rattle.gl_waiting.proofs.Runs.{AreOf, own_of, own_then, own_upkeep}
 
 -- Nodes are unlocked one after the other: every transaction lives on, and none begins to wait.
@@ -100,7 +100,7 @@ unlocks_of t (n ∷ nodes) u apart = ap (λ b. b || list_any (names u) (map (λ 
 -- The same, with the rows that are let go after it.
 module _ (g v : RegistryView) (t : TxnId) (mark k : ℕ) (list : Told) (h : GoesBackTo t mark g.manager g.rows (Ok k) list v.manager v.rows) where
   lets_go : Upkeep (state_of h.0) (state_of v.manager)
-  lets_go = each_goes (state_of h.0) (state_of v.manager) g.rows.names v.rows.names _ h.2.goes
+  lets_go = meanwhile_upkeep h.0 v.manager g.rows v.rows t.slot h.2
 
   left : LeavesAll (state_of h.0) (state_of v.manager)
   left = upkeep_leaves (state_of h.0) (state_of v.manager) lets_go
@@ -178,7 +178,7 @@ keeping_of t since next (n ∷ nodes) u apart =
 module _ (g v : RegistryView) (t : TxnId) (keep since : ℕ) (next : Option TxnId) (list : Told)
     (h : CommitsAndKeeps t keep since g.manager g.rows (Ok next) list v.manager v.rows) where
   goes_after : Upkeep (state_of h.0) (state_of v.manager)
-  goes_after = each_goes (state_of h.0) (state_of v.manager) g.rows.names v.rows.names _ h.2.goes
+  goes_after = at_end_upkeep h.0 v.manager g.rows v.rows t.slot h.2
 
   left_after : LeavesAll (state_of h.0) (state_of v.manager)
   left_after = upkeep_leaves (state_of h.0) (state_of v.manager) goes_after

@@ -19,6 +19,7 @@ use Rattle.gl_steps.specs.Served.{accepts}
 use Rattle.gl_catalog.specs.Manager.{state_of}
 use Rattle.gl_rows.specs.Rows.{RegistryView}
 use Rattle.gl_rows.specs.Serving.{Applies, ServesBy, touches_rows}
+use Rattle.gl_rows.proofs.Tidied.{served_alone}
 use Rattle.gl_waiting.specs.Asking.{IsBeginAnswer, IsFull, begin_of}
 use Rattle.gl_waiting.specs.Delivering.{Carries, DeliveryView}
 
@@ -41,8 +42,8 @@ module _ (s : State) (a : Answer) (told : Told) (s' : State) where
 pub begin_made : (since : Option ℕ) (v v' : RegistryView) (o : Option Answer) (told : Told)
     → ServesBy (touches_rows v (begin_of since)) v (begin_of since) o told v'
     → (a : Answer) × (o ≡ Some a) × Applies v.manager (begin_of since) a told v'.manager
-begin_made None v v' o told h = (h.0, h.1, h.2)
-begin_made (Some since) v v' o told h = (h.0, h.1, h.2)
+begin_made None v v' o told h = (h.0, h.1, (served_alone v v' command.Begin h.0 told refl h.2).applies)
+begin_made (Some since) v v' o told h = (h.0, h.1, (served_alone v v' (command.BeginAgain since) h.0 told refl h.2).applies)
 
 pub command_made : (since : Option ℕ) (c : Command) (v v' : RegistryView) (o : Option Answer) (x : Answer) (told : Told) → c ≡ begin_of since → o ≡ Some x
     → ServesBy (touches_rows v c) v c o told v' → Applies v.manager (begin_of since) x told v'.manager

@@ -9,9 +9,9 @@ use Rattle.gl_slots.specs.declared.slots.Slots.{Slots}
 use Rattle.gl_model.specs.State.{State}
 use Rattle.gl_model.specs.Tellings.{Told}
 use Rattle.gl_model.specs.declared.txn.TxnId.{TxnId}
+use Rattle.gl_steps.specs.declared.command.Answer.{Answer}
 use Rattle.gl_steps.specs.declared.command.Command.TheVariants as command
 use Rattle.gl_catalog.specs.Manager.{state_of}
-use Rattle.gl_rows.specs.declared.answer.RowAnswer.{RowAnswer}
 use Rattle.gl_waiting.specs.Going.{IsRun}
 use Rattle.gl_waiting.specs.Resting.{ChoosesEach, ChoosesSome, Commits, CommitsQuietly, EachCommitsQuietly, EndsEach, EndsSome, IsChosen, IsQuiet}
 use Rattle.gl_waiting.specs.Resting.{Rouses, is_counted}
@@ -26,7 +26,7 @@ use Rattle.gl_waiting.proofs.Runs.{lines_then, run_low}
 use Rattle.gl_waiting.proofs.TurnRuns.{TurnRun, same_run, turn_run}
 
 -- one commits by its own commands
-pub commits_run : (v : WaitingView) (t : TxnId) (a : RowAnswer) (told : Told) (off : SetOff) (v' : WaitingView) → Commits v t a told off v'
+pub commits_run : (v : WaitingView) (t : TxnId) (a : Option Answer) (told : Told) (off : SetOff) (v' : WaitingView) → Commits v t a told off v'
     → TurnRun (command.Commit t) v v'
 commits_run v t a told off v' h = turn_run v _ off v' h.serves (command.Commit t) (λ own mid k. k.run)
 

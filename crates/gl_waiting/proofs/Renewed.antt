@@ -28,7 +28,7 @@ use Rattle.gl_steps.proofs.StepsKeepLaw.{runs_keep_law}
 use Rattle.gl_fairness.specs.Aside.{StaysAside, some_left_waiting}
 use Rattle.gl_rows.specs.Locking.{Line}
 use Rattle.gl_catalog.specs.Manager.{state_of}
-use Rattle.gl_rows.proofs.CarriedOut.{each_goes}
+use Rattle.gl_rows.proofs.Tidied.{at_end_upkeep}
 use Rattle.gl_waiting.specs.Asking.{InTurn, KeepsLocks}
 use Rattle.gl_waiting.specs.Going.{IsRunOf}
 use Rattle.gl_waiting.specs.Waiting.{WaitingView}
@@ -140,6 +140,6 @@ module _ (v : WaitingView) (law : IsLawful (state_of v.manager)) (t : TxnId) (ke
   begins_to_rest =
       still_rests renewed (state_of v'.manager) lawful
       (own_then command.Begin renewed (state_of h.mid.manager) (state_of v'.manager)
-      (own_upkeep command.Begin renewed (state_of h.mid.manager) (each_goes renewed (state_of h.mid.manager) v.rows.names h.mid.rows.names _
-      h.called.keeps.2.goes))
+      (own_upkeep command.Begin renewed (state_of h.mid.manager) (at_end_upkeep h.called.keeps.0 h.mid.manager v.rows h.mid.rows t.slot
+      h.called.keeps.2))
       (hands_run command.Begin h.hands.count h.mid v' h.hands.hands)) t.slot renews

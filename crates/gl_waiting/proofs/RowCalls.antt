@@ -20,14 +20,12 @@ use Rattle.gl_model.specs.Tellings.{Told}
 use Rattle.gl_steps.specs.declared.command.Answer.{Answer}
 use Rattle.gl_steps.specs.declared.command.Answer.TheVariants as answer
 use Rattle.gl_steps.specs.declared.command.Command.{Command}
-use Rattle.gl_steps.specs.declared.command.Escalated.{Escalated}
 use Rattle.gl_steps.specs.Promises.{waits_on}
 use Rattle.gl_steps.specs.Served.{is_query, is_refused}
 use Rattle.gl_steps.specs.Step.{answer_of_lock}
 use Rattle.gl_steps.proofs.Serving.{step_counts}
-use Rattle.gl_catalog.specs.Counters.{refuses}
 use Rattle.gl_catalog.specs.Manager.{ManagerView, state_of}
-use Rattle.gl_catalog.specs.Replies.{doing, made, rising}
+use Rattle.gl_catalog.specs.Replies.{made}
 use Rattle.gl_rows.specs.declared.answer.RowAnswer.{RowAnswer}
 use Rattle.gl_rows.specs.declared.answer.RowLocked.{RowLocked}
 use Rattle.gl_rows.specs.declared.answer.RowRefusal.{RowRefusal}
@@ -39,9 +37,10 @@ use Rattle.gl_rows.specs.Answers.{done_said, lock_said}
 use Rattle.gl_rows.specs.Applying.{AppliesCall, AppliesRow, CarriesOut, StepsAmid, answer_in, naming, own_command, plainly, unnamed}
 use Rattle.gl_rows.specs.Files.{MakesFile}
 use Rattle.gl_rows.specs.Locking.{LocksBy, LocksRow, Wish}
-use Rattle.gl_rows.specs.Releasing.{EndsTxn, GivesBack, RekeysBy, UnlocksBy, node_for}
+use Rattle.gl_rows.specs.Releasing.{RekeysBy, UnlocksBy, node_for}
 use Rattle.gl_rows.specs.Rows.{RegistryView, RowsView, name_of}
-use Rattle.gl_rows.proofs.Upkeep.{LeavesAll, upkeep_law, upkeep_leaves}
+use Rattle.gl_rows.proofs.Tidied.{refuses_is}
+use Rattle.gl_rows.proofs.Upkeep.{LeavesAll, low, upkeep_law, upkeep_leaves}
 use Rattle.gl_wakes.specs.Boxes.{Slot, emptied, Puts}
 use Rattle.gl_wakes.specs.Notices.{RisingTo}
 use Rattle.gl_wakes.specs.Wakes.{HasEnded, names_slot}
@@ -58,20 +57,12 @@ emptied_as v u (call.File ps) boxes = refl
 emptied_as v u (call.Lock t row keys m) boxes = refl
 emptied_as v u (call.Unlock t row) boxes = refl
 emptied_as v u (call.Rekey t row index key) boxes = refl
-emptied_as v u (call.Commit t) boxes = refl
-emptied_as v u (call.Abort t) boxes = refl
-emptied_as v u (call.Cancel t) boxes = refl
-emptied_as v u (call.Escalate t n) boxes = refl
 
 names_as : (v u : RowsView) (c : RowCall) (k : ℕ) → names_slot (own_command v c) k ≡ names_slot (own_command u c) k
 names_as v u (call.File ps) k = refl
 names_as v u (call.Lock t row keys m) k = refl
 names_as v u (call.Unlock t row) k = refl
 names_as v u (call.Rekey t row index key) k = refl
-names_as v u (call.Commit t) k = refl
-names_as v u (call.Abort t) k = refl
-names_as v u (call.Cancel t) k = refl
-names_as v u (call.Escalate t n) k = refl
 
 -- no call is a query
 no_query : (v : RowsView) (c : RowCall) → is_query (own_command v c) ≡ false
@@ -79,23 +70,6 @@ no_query v (call.File ps) = refl
 no_query v (call.Lock t row keys m) = refl
 no_query v (call.Unlock t row) = refl
 no_query v (call.Rekey t row index key) = refl
-no_query v (call.Commit t) = refl
-no_query v (call.Abort t) = refl
-no_query v (call.Cancel t) = refl
-no_query v (call.Escalate t n) = refl
-
--- two words for a refusal
-refuses_is : (a : Answer) → refuses a ≡ is_refused a
-refuses_is answer.Done = refl
-refuses_is (answer.Node n) = refl
-refuses_is (answer.Begun t) = refl
-refuses_is (answer.Granted m) = refl
-refuses_is answer.Waiting = refl
-refuses_is answer.Victim = refl
-refuses_is (answer.Escalated x) = refl
-refuses_is (answer.Mode m) = refl
-refuses_is (answer.Effect e) = refl
-refuses_is (answer.Refused r) = refl
 
 lock_not_refused : (x : Locked) → is_refused (answer_of_lock x) ≡ false
 lock_not_refused (locked.Granted m) = refl
@@ -153,33 +127,13 @@ module _ (m : ManagerView) (v : RowsView) (a : RowAnswer) (told : Told) (m' : Ma
   rekey_same t index key (Ok n) (Err (row_no.Refused r)) is err = (err.nobody_told, err.same_manager, err.same_rows)
   rekey_same t index key (Ok n) (Err row_no.NotRows) is err = absurd err
 
-  ends_same : (c : Command) (slot : ℕ) (r : Result (Unit {0}) Refusal) → a ≡ plainly (doing []) r → EndsTxn c m v slot r told m' v' → Same
-  ends_same c slot (Ok u) is h = absurd (answered (plainly (doing []) (Ok u)) is refl)
-  ends_same c slot (Err r) is err = (err.nobody_told, err.same_manager, err.same_rows)
-
-  cancel_same : (c : Command) (slot : ℕ) (r : Result (Unit {0}) Refusal) → a ≡ plainly (doing []) r → GivesBack (doing told) c m v slot r told m' v' → Same
-  cancel_same c slot (Ok u) is h = absurd (answered (plainly (doing []) (Ok u)) is refl)
-  cancel_same c slot (Err r) is err = (err.nobody_told, err.same_manager, err.same_rows)
-
-  escalate_same : (c : Command) (slot : ℕ) (r : Result Escalated Refusal) → a ≡ plainly (rising []) r → GivesBack (rising told) c m v slot r told m' v' → Same
-  escalate_same c slot (Ok x) is h = absurd (answered (plainly (rising []) (Ok x)) is refl)
-  escalate_same c slot (Err r) is err = (err.nobody_told, err.same_manager, err.same_rows)
-
   pub nothing_done : (c : RowCall) → AppliesRow m v c a told m' v' → Same
   nothing_done (call.File ps) h = file_same ps h.result h.answered h.was_done
   nothing_done (call.Lock t row keys mode) h = lock_same (record { txn = t; row = row; keys = keys; mode = mode }) h.result h.answered h.was_done
   nothing_done (call.Unlock t row) h = unlock_same t row (node_for v row) h.result h.answered h.was_done
   nothing_done (call.Rekey t row index key) h = rekey_same t index key (node_for v row) h.result h.answered h.was_done
-  nothing_done (call.Commit t) h = ends_same _ t.slot h.result h.answered h.was_done
-  nothing_done (call.Abort t) h = ends_same _ t.slot h.result h.answered h.was_done
-  nothing_done (call.Cancel t) h = cancel_same _ t.slot h.result h.answered h.was_done
-  nothing_done (call.Escalate t n) h = escalate_same _ t.slot h.result h.answered h.was_done
 
 -- Any other call is a step of its own command.
-
-pub low : (s s' : State) → (s' ≡ s) ⊎ (s.accepted < s'.accepted) → s.accepted ≤ s'.accepted
-low s s' (inl same) = let as_many = ap (λ (x : State). x.accepted) same in omega (arith, as_many)
-low s s' (inr later) = omega (arith, later)
 
 module _ (m : ManagerView) (c : Command) (told : Told) (m' : ManagerView) where
   -- one that is not refused is a step

@@ -44,6 +44,7 @@ use Rattle.gl_catalog.proofs.StillWanted.{below_kept}
 use Rattle.gl_rows.specs.Releasing.{GoesBackTo}
 use Rattle.gl_rows.specs.Rows.{RegistryView}
 use Rattle.gl_rows.specs.Serving.{ServesBy}
+use Rattle.gl_rows.proofs.Tidied.{IsAlone, served_alone}
 use Rattle.gl_wakes.specs.Boxes.{Slot}
 use Rattle.gl_wakes.specs.Wakes.{HasEnded}
 use Rattle.gl_wakes.proofs.Waking.{ended_none}
@@ -213,29 +214,32 @@ module _ (v v' : RegistryView) (t : TxnId) (ask : Ask) (told : Told) where
       by None went = inl (_, went.1.0, went.1.1)
 
   pub served : (o : Option Answer) → ServesBy false v (try_of t ask) o told v' → Served v t ask o told v'
-  served o h = by (answer_of h.0 h.2.step)
+  served o h = by (answer_of h.0 alone.applies.step)
     where
+      alone : IsAlone v (try_of t ask) h.0 told v'
+      alone = served_alone v v' (try_of t ask) h.0 told refl h.2
+
       by : ((m : Mode) × (h.0 ≡ answer.Granted m) × (told ≡ []))
           ⊎ ((r : Refusal) × Unchanged (state_of v.manager) h.0 told (state_of v'.manager) (answer.Refused r)) → Served v t ask o told v'
       by (inl x) = record {
         result = Ok x.0;
         answered = h.1 ∙ ap (λ (a : Answer). Some a) x.1;
         step = subst (λ (a : Answer). Step (state_of v.manager) (try_of t ask) a [] (state_of v'.manager)) x.1
-            (subst (λ (l : Told). Step (state_of v.manager) (try_of t ask) h.0 l (state_of v'.manager)) x.2 h.2.step);
+            (subst (λ (l : Told). Step (state_of v.manager) (try_of t ask) h.0 l (state_of v'.manager)) x.2 alone.applies.step);
         untold = x.2;
-        rows = h.3;
+        rows = alone.rows;
         refused = tt;
       }
       by (inr x) =
-          let is = h.2.same (ap (λ (s : State). s.accepted) x.1.same) in
+          let is = alone.applies.same (ap (λ (s : State). s.accepted) x.1.same) in
           record {
             result = Err x.0;
             answered = h.1 ∙ ap (λ (a : Answer). Some a) x.1.answer_is;
             step = subst (λ (a : Answer). Step (state_of v.manager) (try_of t ask) a [] (state_of v'.manager)) x.1.answer_is
-                (subst (λ (l : Told). Step (state_of v.manager) (try_of t ask) h.0 l (state_of v'.manager)) x.1.nobody_told h.2.step);
+                (subst (λ (l : Told). Step (state_of v.manager) (try_of t ask) h.0 l (state_of v'.manager)) x.1.nobody_told alone.applies.step);
             untold = x.1.nobody_told;
-            rows = h.3;
-            refused = λ i. record { manager = is i; rows = h.3 i };
+            rows = alone.rows;
+            refused = λ i. record { manager = is i; rows = alone.rows i };
           }
 
 -- so its answer is one of a try

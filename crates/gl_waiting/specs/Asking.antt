@@ -26,9 +26,7 @@ use Rattle.gl_rows.specs.Locking.{Wish}
 use Rattle.gl_rows.specs.Releasing.{CommitsAndKeeps, GoesBackTo, no_node}
 use Rattle.gl_rows.specs.Serving.{PathLeavesRows, ServesBy, touches_rows}
 use Rattle.gl_rows.specs.declared.answer.RowAnswer.{RowAnswer}
-use Rattle.gl_rows.specs.declared.answer.RowAnswer.TheVariants as row_answer
 use Rattle.gl_rows.specs.declared.call.RowCall.{RowCall}
-use Rattle.gl_rows.specs.declared.call.RowCall.TheVariants as call
 use Rattle.gl_wakes.specs.Boxes.{verdict_of}
 use Rattle.gl_wakes.specs.declared.grant.Grant.{Grant}
 use Rattle.gl_wakes.specs.declared.grant.Stop.{Stop}
@@ -164,14 +162,9 @@ abbrev pub GoesOn : WaitingView → Option (TxnId × Came) → Told → Slots �
 GoesOn v (Some x) told ended v' = GoesOnBy v x.0 x.1 told ended v'
 GoesOn v None told ended v' = IsNext v None × (told ≡ []) × HasNoSlot ended × (v' ≡ v)
 
--- a transaction's wait is cancelled, as a call of the registry
-abbrev pub AsksCancel : TxnId → RowAnswer → Told → DeliveryView → DeliveryView → Type 0
-AsksCancel t a told d d' =
-    AppliesCall (registry_in d) (call.Cancel t) a told (registry_in d') × CarriesOut d.manager (command.Cancel t) (answer_in a) told d'.manager
-
--- a call was done
-abbrev pub is_done : RowAnswer → Bool
-is_done (row_answer.Answered answer.Done) = true
+-- a command was done
+abbrev pub is_done : Option Answer → Bool
+is_done (Some answer.Done) = true
 is_done a = false
 
 -- the end of a wait that was cancelled, since its time is over, and what belongs to its slot then
@@ -185,8 +178,8 @@ taken_if false slot places = places
 
 -- the time of a waiter is over: its wait is cancelled, and it ends so if a command can still be counted
 pub record EndsWait (v : WaitingView) (t : TxnId) (w : Waiter) (o : Option Outcome) (told : Told) (ended : Slots) (v' : WaitingView) : Type 0 where
-  pub answer : RowAnswer
-  pub asks : AsksCancel t answer told (delivery_in v) (delivery_in v')
+  pub answer : Option Answer
+  pub serves : ServesBy false (registry_in (delivery_in v)) (command.Cancel t) answer told (registry_in (delivery_in v'))
   pub cancels : Carries (delivery_in v) (command.Cancel t) told ended (delivery_in v')
   pub ends : o ≡ ends_late (is_done answer) w.at
   pub done : waits_on (state_of v.manager) t w.at ≡ true → v.manager.accepted < max_count → is_done answer ≡ true

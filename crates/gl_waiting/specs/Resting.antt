@@ -15,13 +15,12 @@ use Rattle.gl_model.specs.Lawful.{IsLawful}
 use Rattle.gl_model.specs.State.{State, age_of, lives, status_of, waits_for}
 use Rattle.gl_model.specs.Tellings.{Told}
 use Rattle.gl_steps.specs.Promises.{names}
+use Rattle.gl_steps.specs.declared.command.Answer.{Answer}
 use Rattle.gl_steps.specs.declared.command.Command.{Command}
 use Rattle.gl_steps.specs.declared.command.Command.TheVariants as command
 use Rattle.gl_table.specs.Table.{rows_of}
 use Rattle.gl_catalog.specs.Manager.{ManagerView, state_of}
-use Rattle.gl_rows.specs.declared.answer.RowAnswer.{RowAnswer}
-use Rattle.gl_rows.specs.declared.call.RowCall.TheVariants as call
-use Rattle.gl_waiting.specs.Asking.{InTurn, IsNothing, ServesRow}
+use Rattle.gl_waiting.specs.Asking.{InTurn, IsNothing, Serves}
 use Rattle.gl_waiting.specs.Going.{IsRunOf}
 use Rattle.gl_waiting.specs.Waiting.{WaitingView}
 use Rattle.gl_waiting.specs.declared.resting.Ended.{Ended}
@@ -119,13 +118,13 @@ abbrev pub is_counted : WaitingView → WaitingView → Bool
 is_counted v v' = not (v'.manager.accepted == v.manager.accepted)
 
 -- a living transaction commits
-pub record Commits (v : WaitingView) (t : TxnId) (a : RowAnswer) (told : Told) (off : SetOff) (v' : WaitingView) : Type 0 where
+pub record Commits (v : WaitingView) (t : TxnId) (a : Option Answer) (told : Told) (off : SetOff) (v' : WaitingView) : Type 0 where
   pub alive : lives (state_of v.manager) t ≡ true
-  pub serves : InTurn v (λ ended mid. ServesRow v (call.Commit t) a told ended mid) off v'
+  pub serves : InTurn v (λ ended mid. Serves v (command.Commit t) a told ended mid) off v'
 
 -- the same, which is counted, tells nobody and sets nothing off
 pub record CommitsQuietly (v : WaitingView) (t : TxnId) (v' : WaitingView) : Type 0 where
-  pub answer : RowAnswer
+  pub answer : Option Answer
   pub off : SetOff
   pub commits : Commits v t answer [] off v'
   pub nothing : IsNothing off

@@ -8,7 +8,7 @@ pub fn refusals_change_nothing()
 {}
 
 /// A command is one step of the model, and nothing happens beside it, if it ends no waiter's wait and no begin waits for a
-/// slot.
+/// slot; but rows may lose their nodes after one that releases locks or cancels a wait.
 pub fn commands_are_steps()
     ensures { CommandsAreSteps }
 {}

@@ -13,9 +13,8 @@ ghost use Rattle.gl_waiting.specs.declared.resting.Whom.TheVariants.{InTheWay as
 
 use crate::set_off::SetOff;
 use crate::waiting::Waiting;
-use gl_catalog::{Command, Manager};
+use gl_catalog::{Answer, Command, Manager};
 use gl_modes::{Mode, NodeId, Refusal, compatible};
-use gl_rows::{RowAnswer, RowCall};
 use gl_slots::{Slot, Slots};
 use gl_table::{LockRow, Status, Told, TxnId};
 use std::marker::Model;
@@ -45,7 +44,7 @@ pub struct Ended {
     pub slots: Slots,
     /// The last of them, and what its commit was answered.
     pub last: TxnId,
-    pub answer: RowAnswer,
+    pub answer: Option<Answer>,
 }
 
 /// Who of a table's transactions rest. They are active, have done nothing since they began, and hold intentions that the
@@ -184,7 +183,7 @@ impl Resting {
             unreachable!()
         };
         let count = waiting.manager().accepted();
-        let (answer, off) = waiting.serve_row(RowCall::Commit { txn }, told);
+        let (answer, off) = waiting.serve(Command::Commit { txn }, told);
         let mut slots = before;
         if waiting.manager().accepted() != count {
             self.slots.law();

@@ -340,8 +340,7 @@ impl WaiterTable {
         }
     }
 
-    /// Cancels the wait of a transaction whose time is over, as `RowCall::Cancel`, with the notices put into an empty list.
-    /// A row for which it waited is let go. Answers the end; `None` if the transaction has no waiter, or if its wait cannot
+    /// Cancels the wait of a transaction whose time is over, with the notices put into an empty list. Answers the end; `None` if the transaction has no waiter, or if its wait cannot
     /// be cancelled, since it is over or no command can be counted any more.
     pub(crate) fn time_out(&mut self, txn: TxnId, told: &mut Told) -> (Option<Outcome>, Slots)
         requires empty { told.old.items ≡ [] }
@@ -351,7 +350,7 @@ impl WaiterTable {
         let Some(waiter) = self.places.waiter_of(txn) else {
             return (None, Slots::empty());
         };
-        let (answer, ended) = self.delivery.serve_row(RowCall::Cancel { txn }, told);
+        let (answer, ended) = self.delivery.serve(Command::Cancel { txn }, told);
         self.due = self.due.union(ended);
         if !is_done(answer) {
             return (None, ended);
@@ -505,9 +504,9 @@ fn earlier(one: Option<u64>, other: Option<u64>) -> Option<u64>
     }
 }
 
-/// Whether a call was done.
-fn is_done(answer: RowAnswer) -> bool
+/// Whether a command was done.
+fn is_done(answer: Option<Answer>) -> bool
     ensures { result ≡ is_done answer }
 {
-    matches!(answer, RowAnswer::Answered(Answer::Done))
+    matches!(answer, Some(Answer::Done))
 }

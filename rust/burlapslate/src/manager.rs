@@ -580,7 +580,7 @@ impl Manager {
     /// memory.
     pub fn cancel(&mut self, txn: Txn) -> Result<Notices<'_>, Refusal> {
         let (place, told) = self.pinned.parts();
-        accepted(sys::bs_call_cancel_rows(place, txn, told))?;
+        accepted(sys::bs_call_cancel(place, txn, told))?;
         Ok(Notices::of(told))
     }
 
@@ -607,7 +607,7 @@ impl Manager {
     /// ```
     pub fn commit(&mut self, txn: Txn) -> Result<Notices<'_>, Refusal> {
         let (place, told) = self.pinned.parts();
-        accepted(sys::bs_call_commit_rows(place, txn, told))?;
+        accepted(sys::bs_call_commit(place, txn, told))?;
         Ok(Notices::of(told))
     }
 
@@ -618,7 +618,7 @@ impl Manager {
     /// memory. Costs as [`commit`](Manager::commit).
     pub fn abort(&mut self, txn: Txn) -> Result<Notices<'_>, Refusal> {
         let (place, told) = self.pinned.parts();
-        accepted(sys::bs_call_abort_rows(place, txn, told))?;
+        accepted(sys::bs_call_abort(place, txn, told))?;
         Ok(Notices::of(told))
     }
 
@@ -645,7 +645,7 @@ impl Manager {
     /// step for each lock of the transaction.
     pub fn escalate(&mut self, txn: Txn, node: Node) -> Result<(Escalated, Notices<'_>), Refusal> {
         let (place, told) = self.pinned.parts();
-        let reply = accepted(sys::bs_call_escalate_rows(place, txn, node, told))?;
+        let reply = accepted(sys::bs_call_escalate(place, txn, node, told))?;
         Ok((Escalated::of(&reply), Notices::of(told)))
     }
 }
@@ -816,8 +816,8 @@ impl Manager {
 ///
 /// A [`Row`] of a file of rows ([`add_row_file`](Manager::add_row_file)) has a node while some transaction
 /// holds it or waits for it. [`lock_row`](Manager::lock_row) makes the node.
-/// [`unlock_row`](Manager::unlock_row), [`rekey_row`](Manager::rekey_row), [`commit`](Manager::commit),
-/// [`abort`](Manager::abort), [`cancel`](Manager::cancel), [`escalate`](Manager::escalate) and
+/// [`unlock_row`](Manager::unlock_row), [`commit`](Manager::commit), [`abort`](Manager::abort),
+/// [`cancel`](Manager::cancel), [`escalate`](Manager::escalate) and
 /// [`release_since`](Manager::release_since) let a row go: after the last transaction that holds it or waits
 /// for it they remove its node, if that transaction asked for the row by number. No row has two nodes, and
 /// no two rows have one.

@@ -358,6 +358,15 @@ unsafe extern "C" {
         mark: usize,
         told: &mut Notices,
     ) -> Reply;
+    pub(crate) safe fn bs_call_commit(manager: &mut Place, txn: Txn, told: &mut Notices) -> Reply;
+    pub(crate) safe fn bs_call_abort(manager: &mut Place, txn: Txn, told: &mut Notices) -> Reply;
+    pub(crate) safe fn bs_call_cancel(manager: &mut Place, txn: Txn, told: &mut Notices) -> Reply;
+    pub(crate) safe fn bs_call_escalate(
+        manager: &mut Place,
+        txn: Txn,
+        node: Node,
+        told: &mut Notices,
+    ) -> Reply;
     pub(crate) safe fn bs_call_settle(manager: &mut Place, txn: Txn, told: &mut Notices) -> Reply;
 
     fn bs_call_insert(
@@ -431,27 +440,6 @@ unsafe extern "C" {
         number: u64,
         index: Node,
         key: u64,
-        told: &mut Notices,
-    ) -> Reply;
-    pub(crate) safe fn bs_call_commit_rows(
-        manager: &mut Place,
-        txn: Txn,
-        told: &mut Notices,
-    ) -> Reply;
-    pub(crate) safe fn bs_call_abort_rows(
-        manager: &mut Place,
-        txn: Txn,
-        told: &mut Notices,
-    ) -> Reply;
-    pub(crate) safe fn bs_call_cancel_rows(
-        manager: &mut Place,
-        txn: Txn,
-        told: &mut Notices,
-    ) -> Reply;
-    pub(crate) safe fn bs_call_escalate_rows(
-        manager: &mut Place,
-        txn: Txn,
-        node: Node,
         told: &mut Notices,
     ) -> Reply;
     pub(crate) safe fn bs_call_row_node(manager: &Place, file: Node, number: u64) -> Reply;

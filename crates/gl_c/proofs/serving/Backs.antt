@@ -18,7 +18,7 @@ use Rattle.gl_catalog.specs.Savepoints.{TakesBack}
 use Rattle.gl_steps.specs.Promises.{NobodyWaits}
 use Rattle.gl_rows.specs.Releasing.{CommitsAndKeeps, GoesBackTo}
 use Rattle.gl_rows.specs.Rows.{RegistryView}
-use Rattle.gl_rows.proofs.CarriedOut.{each_goes}
+use Rattle.gl_rows.proofs.Tidied.{at_end_upkeep, meanwhile_upkeep}
 use Rattle.gl_rows.proofs.Upkeep.{LeavesAll, upkeep_leaves}
 use Rattle.gl_waiting.proofs.Backs.{goes_on, keeping_goes_on}
 use Rattle.gl_c.proofs.serving.RowCalls.{leaves_idle}
@@ -48,7 +48,7 @@ module _ (m mid : ManagerView) (t : TxnId) (mark k : ℕ) (list : Told) (h : Tak
 module _ (g : RegistryView) (v : RegistryView) (t : TxnId) (mark k : ℕ) (list : Told)
     (h : GoesBackTo t mark g.manager g.rows (Ok k) list v.manager v.rows) where
   left : LeavesAll (state_of h.0) (state_of v.manager)
-  left = upkeep_leaves (state_of h.0) (state_of v.manager) (each_goes (state_of h.0) (state_of v.manager) g.rows.names v.rows.names _ h.2.goes)
+  left = upkeep_leaves (state_of h.0) (state_of v.manager) (meanwhile_upkeep h.0 v.manager g.rows v.rows t.slot h.2)
 
   pub back_quiet : NobodyWaits (state_of g.manager) → NobodyWaits (state_of v.manager)
   back_quiet none = leaves_idle (state_of h.0) (state_of v.manager) left (idle g.manager h.0 t mark k list h.1 none)
@@ -75,4 +75,4 @@ module _ (g v : RegistryView) (t : TxnId) (keep since : ℕ) (next : Option TxnI
   pub keeping_quiet : NobodyWaits (state_of g.manager) → NobodyWaits (state_of v.manager)
   keeping_quiet none =
       leaves_idle (state_of h.0) (state_of v.manager) (upkeep_leaves (state_of h.0) (state_of v.manager)
-      (each_goes (state_of h.0) (state_of v.manager) g.rows.names v.rows.names _ h.2.goes)) (idle_from (state_of g.manager) (state_of h.0) waited none)
+      (at_end_upkeep h.0 v.manager g.rows v.rows t.slot h.2)) (idle_from (state_of g.manager) (state_of h.0) waited none)

@@ -24,6 +24,8 @@ use Rattle.gl_rows.specs.Rows.{RegistryView}
 use Rattle.gl_rows.specs.Serving.{ServesBy, touches_rows}
 use Rattle.gl_rows.specs.declared.answer.RowAnswer.{RowAnswer}
 use Rattle.gl_rows.specs.declared.call.RowCall.{RowCall}
+use Rattle.gl_rows.proofs.Tidied.{served_upkeep}
+use Rattle.gl_rows.proofs.Upkeep.{upkeep_leaves}
 use Rattle.gl_waiting.specs.Asking.{KeepsLocks, LocksPath, RollsBackTo, Serves, ServesRow, TriesRowThere, TriesThere}
 use Rattle.gl_waiting.specs.Delivering.{ComesToNothing, DeliveryView, registry_in}
 use Rattle.gl_waiting.specs.Waiting.{WaitingView, delivery_in}
@@ -38,7 +40,7 @@ use Rattle.gl_c.specs.managers.Carries.{spared_by}
 use Rattle.gl_c.specs.managers.Serving.{KnowsWaits}
 use Rattle.gl_c.proofs.serving.Backs.{back_quiet, keeping_quiet}
 use Rattle.gl_c.proofs.serving.Paths.{path_known}
-use Rattle.gl_c.proofs.serving.RowCalls.{row_known}
+use Rattle.gl_c.proofs.serving.RowCalls.{knows_left, row_known}
 use Rattle.gl_c.proofs.serving.Showing.{knows_nobody, knows_still}
 use Rattle.gl_c.proofs.serving.Tries.{path_idle}
 
@@ -66,10 +68,13 @@ module _ (v : WaitingView) (shown : Option Strip) (parties : Option Slots) (know
             (known_all (state_of v.manager) shown parties knows)
         by (Some x) true same = absurd (cc same.0)
         by None false some = absurd (cc some.1)
-        by (Some x) false (y, is, applies, rows) =
+        by (Some x) false (y, is, h) =
             let same : x ≡ y = cc is in
-            knows_still (state_of v.manager) (state_of v'.manager) shown parties c x told law few
-            (subst (λ (z : Answer). Step (state_of v.manager) c z told (state_of v'.manager)) (sym same) applies.step) knows
+            let served = served_upkeep (registry_in (delivery_in v)) (registry_in (delivery_in v')) c y told h in
+            knows_left (state_of h.mid) (state_of v'.manager) (upkeep_leaves (state_of h.mid) (state_of v'.manager) served) shown
+            (still_known parties (spared_by c (Some x) told))
+            (knows_still (state_of v.manager) (state_of h.mid) shown parties c x told law few
+            (subst (λ (z : Answer). Step (state_of v.manager) c z told (state_of h.mid)) (sym same) h.applies.step) knows)
 
     -- a path
     pub path_knows : (t : TxnId) (ask : Ask) (result : Result Reached Refusal) (told : Told) → LocksPath v t ask result told ended v'

@@ -11,9 +11,7 @@ use Rattle.gl_slots.specs.Slots.{has_none}
 use Rattle.gl_model.specs.State.{State, is_wait, status_of}
 use Rattle.gl_model.specs.Tellings.{Told}
 use Rattle.gl_steps.specs.declared.command.Answer.{Answer}
-use Rattle.gl_steps.specs.declared.command.Answer.TheVariants as answer
 use Rattle.gl_steps.specs.declared.command.Command.{Command}
-use Rattle.gl_catalog.specs.Counters.{refuses}
 use Rattle.gl_catalog.specs.Manager.{ManagerView, state_of}
 use Rattle.gl_model.specs.declared.txn.TxnId.{TxnId}
 use Rattle.gl_steps.specs.Promises.{NobodyWaits, names}
@@ -22,7 +20,8 @@ use Rattle.gl_rows.specs.declared.call.RowCall.{RowCall}
 use Rattle.gl_rows.specs.declared.call.RowCall.TheVariants as call
 use Rattle.gl_rows.specs.Applying.{CarriesOut, StepsAmid, answer_in, naming, own_command, unnamed}
 use Rattle.gl_rows.specs.Rows.{RegistryView, RowsView}
-use Rattle.gl_rows.proofs.Upkeep.{LeavesAll, upkeep_law, upkeep_leaves}
+use Rattle.gl_rows.proofs.Tidied.{refuses_is}
+use Rattle.gl_rows.proofs.Upkeep.{LeavesAll, low, upkeep_law, upkeep_leaves}
 use Rattle.gl_steps.specs.Served.{is_query, is_refused, leaves_waiting}
 use Rattle.gl_window.proofs.Waits.{Spares}
 use Rattle.gl_window.specs.Boards.{HasParties}
@@ -31,7 +30,6 @@ use Rattle.gl_window.specs.Tellings.{leaves_waits, spares_waits, still_known}
 use Rattle.gl_steps.proofs.Serving.{step_counts}
 use Rattle.gl_waiting.specs.Resting.{ActsIn, acting_in}
 use Rattle.gl_waiting.proofs.Rests.{acting_acts}
-use Rattle.gl_waiting.proofs.RowCalls.{low}
 use Rattle.gl_c.specs.managers.Serving.{KnowsWaits}
 use Rattle.gl_c.proofs.serving.Showing.{knows_on, knows_still}
 use Rattle.gl_header.specs.Header.{is_empty}
@@ -43,10 +41,6 @@ spares_as v u (call.File ps) set a = refl
 spares_as v u (call.Lock t row keys m) set a = refl
 spares_as v u (call.Unlock t row) set a = refl
 spares_as v u (call.Rekey t row index key) set a = refl
-spares_as v u (call.Commit t) set a = refl
-spares_as v u (call.Abort t) set a = refl
-spares_as v u (call.Cancel t) set a = refl
-spares_as v u (call.Escalate t n) set a = refl
 
 still_as : (v u : RowsView) (c : RowCall) (parties : Option Slots) (a : Answer) (told : Told)
     → still_known parties (λ known. leaves_waits known (own_command v c) a told) ≡ still_known parties (λ known. leaves_waits known (own_command u c) a told)
@@ -59,23 +53,6 @@ no_query v (call.File ps) = refl
 no_query v (call.Lock t row keys m) = refl
 no_query v (call.Unlock t row) = refl
 no_query v (call.Rekey t row index key) = refl
-no_query v (call.Commit t) = refl
-no_query v (call.Abort t) = refl
-no_query v (call.Cancel t) = refl
-no_query v (call.Escalate t n) = refl
-
--- two words for a refusal
-refuses_is : (a : Answer) → refuses a ≡ is_refused a
-refuses_is answer.Done = refl
-refuses_is (answer.Node n) = refl
-refuses_is (answer.Begun t) = refl
-refuses_is (answer.Granted m) = refl
-refuses_is answer.Waiting = refl
-refuses_is answer.Victim = refl
-refuses_is (answer.Escalated x) = refl
-refuses_is (answer.Mode m) = refl
-refuses_is (answer.Effect e) = refl
-refuses_is (answer.Refused r) = refl
 
 -- A call that is not refused is a step of its own command.
 
@@ -89,7 +66,7 @@ spared_by s s' left set has =
     (record { same = record { waits = λ t u. refl; ages = λ t u h. (refl, refl) }; parties = has })
 
 -- and so all that is known of waits
-knows_left : (s s' : State) → LeavesAll s s' → (shown : Option Strip) (parties : Option Slots) → KnowsWaits s shown parties → KnowsWaits s' shown parties
+pub knows_left : (s s' : State) → LeavesAll s s' → (shown : Option Strip) (parties : Option Slots) → KnowsWaits s shown parties → KnowsWaits s' shown parties
 knows_left s s' left shown None known = tt
 knows_left s s' left shown (Some set) known = knows_on s s' shown set (spared_by s s' left set known.0) known
 
@@ -149,20 +126,12 @@ acting_as v u (call.File ps) = refl
 acting_as v u (call.Lock t row keys m) = refl
 acting_as v u (call.Unlock t row) = refl
 acting_as v u (call.Rekey t row index key) = refl
-acting_as v u (call.Commit t) = refl
-acting_as v u (call.Abort t) = refl
-acting_as v u (call.Cancel t) = refl
-acting_as v u (call.Escalate t n) = refl
 
 pub named_as : (v u : RowsView) (c : RowCall) (t : TxnId) → names t (own_command v c) ≡ names t (own_command u c)
 named_as v u (call.File ps) t = refl
 named_as v u (call.Lock w row keys m) t = refl
 named_as v u (call.Unlock w row) t = refl
 named_as v u (call.Rekey w row index key) t = refl
-named_as v u (call.Commit w) t = refl
-named_as v u (call.Abort w) t = refl
-named_as v u (call.Cancel w) t = refl
-named_as v u (call.Escalate w n) t = refl
 
 pub row_acts : (c : RowCall) (own : Command) (slot : Option ℕ) → own ≡ own_command unnamed c → slot ≡ acting_in own → (v : RowsView)
     → ActsIn slot (own_command v c)

@@ -16,11 +16,10 @@ use Rattle.gl_c.specs.declared.answers.notices.Notices.{Notices}
 use Rattle.gl_c.specs.declared.answers.reply.Reply.{Reply}
 use Rattle.gl_c.specs.answers.Finding.{none_found}
 use Rattle.gl_c.specs.answers.Notices.{Tells}
-use Rattle.gl_c.specs.answers.Replies.{count_reply, status_reply}
+use Rattle.gl_c.specs.answers.Replies.{count_reply, served_reply, status_reply}
 use Rattle.gl_c.specs.Boards.{set_of}
 use Rattle.gl_c.specs.Names.{txn_of}
 use Rattle.gl_c.specs.Numbers.{done, no_manager, no_place}
-use Rattle.gl_c.specs.locks.Rows.{call_reply}
 use Rattle.gl_c.specs.locks.Savepoints.{keeping_reply}
 use Rattle.gl_c.specs.locks.Turns.{found_reply}
 use Rattle.gl_c.specs.managers.Carries.{CallOf, Declines, Replies}
@@ -67,7 +66,7 @@ CountsIntentionsIn (Some g) t known most r s' = CountsIntentions g t known most 
 
 -- the reply for those who rested and were to be ended: the name of the last, and what its commit was answered
 abbrev pub ended_reply : Option Ended → Reply
-ended_reply (Some e) = record (call_reply e.answer) { txn = txn_of e.last }
+ended_reply (Some e) = record (served_reply e.answer) { txn = txn_of e.last }
 ended_reply None = status_reply no_place
 
 -- the number of those to be ended: one alone, or, by 0, all

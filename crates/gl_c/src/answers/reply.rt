@@ -206,7 +206,7 @@ impl Reply {
         match ended {
             Some(ended) => Reply {
                 txn: Txn::of(ended.last),
-                ..Reply::of_row_call(ended.answer)
+                ..Reply::of_served(ended.answer)
             },
             None => Reply::with_status(NO_PLACE),
         }

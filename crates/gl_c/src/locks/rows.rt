@@ -88,49 +88,6 @@ pub extern "C" fn bs_call_rekey_row(
     manager.carry_out_row(call, told)
 }
 
-/// Ends a transaction and releases everything. Rows that nobody holds any more lose their nodes.
-#[unsafe(no_mangle)]
-pub extern "C" fn bs_call_commit_rows(manager: &mut Handle, txn: Txn, told: &mut Notices) -> Reply
-    ensures { Carries (guarded_in manager.old) (row_call (call.Commit (txn_id txn))) result told.new (guarded_in manager.new) }
-{
-    manager.carry_out_row(RowCall::Commit { txn: txn.id() }, told)
-}
-
-/// Ends a transaction whatever it is doing, and releases everything. Rows that nobody holds any more
-/// lose their nodes.
-#[unsafe(no_mangle)]
-pub extern "C" fn bs_call_abort_rows(manager: &mut Handle, txn: Txn, told: &mut Notices) -> Reply
-    ensures { Carries (guarded_in manager.old) (row_call (call.Abort (txn_id txn))) result told.new (guarded_in manager.new) }
-{
-    manager.carry_out_row(RowCall::Abort { txn: txn.id() }, told)
-}
-
-/// Cancels the wait of a transaction. A row that nobody holds or waits for any more loses its node.
-#[unsafe(no_mangle)]
-pub extern "C" fn bs_call_cancel_rows(manager: &mut Handle, txn: Txn, told: &mut Notices) -> Reply
-    ensures { Carries (guarded_in manager.old) (row_call (call.Cancel (txn_id txn))) result told.new (guarded_in manager.new) }
-{
-    manager.carry_out_row(RowCall::Cancel { txn: txn.id() }, told)
-}
-
-/// Raises the lock of a node, and releases the children whose locks that implies. Rows that nobody
-/// holds any more lose their nodes.
-#[unsafe(no_mangle)]
-pub extern "C" fn bs_call_escalate_rows(
-    manager: &mut Handle,
-    txn: Txn,
-    node: Node,
-    told: &mut Notices,
-) -> Reply
-    ensures { Carries (guarded_in manager.old) (row_call (call.Escalate (txn_id txn) (node_id node))) result told.new (guarded_in manager.new) }
-{
-    let call = RowCall::Escalate {
-        txn: txn.id(),
-        node: node.id(),
-    };
-    manager.carry_out_row(call, told)
-}
-
 /// The node of a row, if it has one.
 #[unsafe(no_mangle)]
 pub extern "C" fn bs_call_row_node(manager: &mut Handle, file: Node, number: u64) -> Reply

@@ -1,4 +1,6 @@
-//! Transactions and their locks. A call with `told` overwrites it with its notices.
+//! Transactions and their locks. A call with `told` overwrites it with its notices. Rows that a
+//! transaction requested by number and that nobody holds any more lose their nodes when it ends or
+//! releases locks.
 
 ghost use Rattle.std.specs.Prelude.{[]};
 ghost use Rattle.gl_steps.specs.declared.command.Command.TheVariants as command;
@@ -158,6 +160,47 @@ pub extern "C" fn bs_call_commit_keeping(
     ensures { Carries (guarded_in manager.old) (keeping_call (txn_id txn) keep since) result told.new (guarded_in manager.new) }
 {
     manager.commit_keeping(txn.id(), keep, since, told)
+}
+
+/// Ends a transaction and releases everything.
+#[unsafe(no_mangle)]
+pub extern "C" fn bs_call_commit(manager: &mut Handle, txn: Txn, told: &mut Notices) -> Reply
+    ensures { Carries (guarded_in manager.old) (command_call (command.Commit (txn_id txn))) result told.new (guarded_in manager.new) }
+{
+    manager.carry_out(Command::Commit { txn: txn.id() }, told)
+}
+
+/// Ends a transaction whatever it is doing, and releases everything.
+#[unsafe(no_mangle)]
+pub extern "C" fn bs_call_abort(manager: &mut Handle, txn: Txn, told: &mut Notices) -> Reply
+    ensures { Carries (guarded_in manager.old) (command_call (command.Abort (txn_id txn))) result told.new (guarded_in manager.new) }
+{
+    manager.carry_out(Command::Abort { txn: txn.id() }, told)
+}
+
+/// Cancels the wait of a transaction.
+#[unsafe(no_mangle)]
+pub extern "C" fn bs_call_cancel(manager: &mut Handle, txn: Txn, told: &mut Notices) -> Reply
+    ensures { Carries (guarded_in manager.old) (command_call (command.Cancel (txn_id txn))) result told.new (guarded_in manager.new) }
+{
+    manager.carry_out(Command::Cancel { txn: txn.id() }, told)
+}
+
+/// Raises the lock of a node, and releases the children whose locks that implies.
+#[unsafe(no_mangle)]
+pub extern "C" fn bs_call_escalate(
+    manager: &mut Handle,
+    txn: Txn,
+    node: Node,
+    told: &mut Notices,
+) -> Reply
+    ensures { Carries (guarded_in manager.old) (command_call (command.Escalate (txn_id txn) (node_id node))) result told.new (guarded_in manager.new) }
+{
+    let command = Command::Escalate {
+        txn: txn.id(),
+        node: node.id(),
+    };
+    manager.carry_out(command, told)
 }
 
 /// Condemns victims, by the choice of victims, until the transaction is on no cycle of waits.

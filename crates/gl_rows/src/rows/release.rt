@@ -5,17 +5,16 @@
 //! refused call changes nothing.
 
 ghost use Rattle.std.specs.Prelude.{◌≡◌, []};
-ghost use Rattle.gl_steps.specs.declared.command.Command.TheVariants as command;
-ghost use Rattle.gl_catalog.specs.Replies.{doing, rising};
-ghost use Rattle.gl_rows.specs.Releasing.{CommitsAndKeeps, EndsTxn, GivesBack, GoesBackTo, RekeysRow, UnlocksRow};
+ghost use Rattle.gl_rows.specs.Releasing.{CommitsAndKeeps, GoesBackTo, LetsGoAtEnd, LetsGoMeanwhile, RekeysRow, UnlocksRow};
 
 use super::Rows;
 use crate::answer::RowRefusal;
 use crate::names::{let_each_go, let_go};
 use crate::row::Row;
 use crate::sets::{clear, rows_in, take};
-use gl_catalog::{Escalated, Manager};
+use gl_catalog::Manager;
 use gl_modes::{NodeId, Refusal};
+use gl_slots::Slot;
 use gl_table::{Told, TxnId};
 
 impl Rows {
@@ -57,68 +56,27 @@ impl Rows {
         Ok(())
     }
 
-    /// Ends an active transaction and releases everything. Refused as `Manager::commit_telling`.
-    pub(crate) fn commit(
-        &mut self,
-        manager: &mut Manager,
-        t: TxnId,
-        told: &mut Told,
-    ) -> Result<(), Refusal>
-        requires empty { told.old.items ≡ [] }
-        ensures { EndsTxn (command.Commit t) manager.old self.old t.slot result told.new.items manager.new self.new }
+    /// Lets go the rows that the transaction in a slot asked for, which has ended.
+    #[inline(always)]
+    pub(super) fn let_go_at_end(&mut self, manager: &mut Manager, slot: Slot)
+        ensures { LetsGoAtEnd manager.old self.old slot manager.new self.new }
     {
-        manager.commit_telling(t, told)?;
-        let_each_go(&mut self.names, manager, rows_in(&self.asked, t.slot));
-        clear(&mut self.asked, t.slot);
-        Ok(())
+        if rows_in(&self.asked, slot).is_empty() {
+            return; // The usual case.
+        }
+        self.let_go_asked(manager, slot);
+        clear(&mut self.asked, slot);
     }
 
-    /// Ends a transaction of any status, and releases everything. Refused as `Manager::abort_telling`.
-    pub(crate) fn abort(
-        &mut self,
-        manager: &mut Manager,
-        t: TxnId,
-        told: &mut Told,
-    ) -> Result<(), Refusal>
-        requires empty { told.old.items ≡ [] }
-        ensures { EndsTxn (command.Abort t) manager.old self.old t.slot result told.new.items manager.new self.new }
+    /// Lets go the rows that the transaction in a slot asked for. It still asks for them.
+    #[inline(always)]
+    pub(super) fn let_go_asked(&mut self, manager: &mut Manager, slot: Slot)
+        ensures { LetsGoMeanwhile manager.old self.old slot manager.new self.new }
     {
-        manager.abort_telling(t, told)?;
-        let_each_go(&mut self.names, manager, rows_in(&self.asked, t.slot));
-        clear(&mut self.asked, t.slot);
-        Ok(())
-    }
-
-    /// Cancels a transaction's wait. Refused as `Manager::cancel_telling`.
-    pub(crate) fn cancel(
-        &mut self,
-        manager: &mut Manager,
-        t: TxnId,
-        told: &mut Told,
-    ) -> Result<(), Refusal>
-        requires empty { told.old.items ≡ [] }
-        ensures { GivesBack (doing told.new.items) (command.Cancel t) manager.old self.old t.slot result told.new.items manager.new self.new }
-    {
-        manager.cancel_telling(t, told)?;
-        let_each_go(&mut self.names, manager, rows_in(&self.asked, t.slot));
-        Ok(())
-    }
-
-    /// Raises the lock on a node, and releases the children whose locks it then implies. Refused as
-    /// `Manager::escalate_telling`.
-    pub(crate) fn escalate(
-        &mut self,
-        manager: &mut Manager,
-        t: TxnId,
-        node: NodeId,
-        told: &mut Told,
-    ) -> Result<Escalated, Refusal>
-        requires empty { told.old.items ≡ [] }
-        ensures { GivesBack (rising told.new.items) (command.Escalate t node) manager.old self.old t.slot result told.new.items manager.new self.new }
-    {
-        let escalated = manager.escalate_telling(t, node, told)?;
-        let_each_go(&mut self.names, manager, rows_in(&self.asked, t.slot));
-        Ok(escalated)
+        let asked = rows_in(&self.asked, slot);
+        if !asked.is_empty() {
+            let_each_go(&mut self.names, manager, asked);
+        }
     }
 
     /// Rolls back to a savepoint: unlocks what the transaction locked since it had `mark` locks.
@@ -134,7 +92,7 @@ impl Rows {
         ensures { GoesBackTo t mark manager.old self.old result told.new.items manager.new self.new }
     {
         let released = manager.release_since_telling(t, mark, told)?;
-        let_each_go(&mut self.names, manager, rows_in(&self.asked, t.slot));
+        self.let_go_asked(manager, t.slot);
         Ok(released)
     }
 
@@ -152,8 +110,7 @@ impl Rows {
         ensures { CommitsAndKeeps t keep since manager.old self.old result told.new.items manager.new self.new }
     {
         let next = manager.commit_keeping_telling(t, keep, since, told)?;
-        let_each_go(&mut self.names, manager, rows_in(&self.asked, t.slot));
-        clear(&mut self.asked, t.slot);
+        self.let_go_at_end(manager, t.slot);
         Ok(next)
     }
 }

@@ -4,8 +4,8 @@ use Rattle.gl_catalog.specs.Manager.{state_of}
 use Rattle.gl_rows.specs.Serving.{ServesBy, touches_rows}
 use Rattle.gl_waiting.specs.Delivering.{Carries, DeliveryView, registry_in}
 use Rattle.gl_waiting.specs.Going.{IsRunOf}
-use Rattle.gl_waiting.proofs.Delivered.{carries_not, carries_so, made, made_rises, with_boxes}
-use Rattle.gl_waiting.proofs.Runs.{own_one, own_same}
+use Rattle.gl_waiting.proofs.Delivered.{carries_not, carries_so, made, made_rises, made_runs, with_boxes}
+use Rattle.gl_waiting.proofs.Runs.{own_same}
 use Rattle.gl_waiting.proofs.delivery.Delivery.serve.Goals as goal
 
 pub returns-then-not-is_accepted-clause-serves : goal.returns-then-not-is_accepted-clause-serves
@@ -44,17 +44,15 @@ returns-clause-carries c =
 
 pub returns-then-not-is_accepted-clause-run : goal.returns-then-not-is_accepted-clause-run
 returns-then-not-is_accepted-clause-run c =
-    let h = made c.self.inside.registry c.serve.new.self c.args.command c.in-Some.answer c.serve.new.told.items c.in-Some.ensures in
     subst (λ (d : DeliveryView). IsRunOf c.args.command (state_of d.manager) (state_of c.serve.new.self.manager)) c.self.view_is
-    (own_one c.args.command c.args.command (state_of c.self.inside.registry.manager) (state_of c.serve.new.self.manager) c.in-Some.answer
-    c.serve.new.told.items (λ t apart. apart) h.applies.step)
+    (made_runs c.self.inside.registry c.serve.new.self c.args.command c.in-Some.answer c.serve.new.told.items
+    (made c.self.inside.registry c.serve.new.self c.args.command c.in-Some.answer c.serve.new.told.items c.in-Some.ensures))
 
 pub returns-clause-run : goal.returns-clause-run
 returns-clause-run c =
-    let h = made c.self.inside.registry c.serve.new.self c.args.command c.in-Some.answer c.serve.new.told.items c.in-Some.ensures in
     subst (λ (d : DeliveryView). IsRunOf c.args.command (state_of d.manager) (state_of c.serve.new.self.manager)) c.self.view_is
-    (own_one c.args.command c.args.command (state_of c.self.inside.registry.manager) (state_of c.serve.new.self.manager) c.in-Some.answer
-    c.serve.new.told.items (λ t apart. apart) h.applies.step)
+    (made_runs c.self.inside.registry c.serve.new.self c.args.command c.in-Some.answer c.serve.new.told.items
+    (made c.self.inside.registry c.serve.new.self c.args.command c.in-Some.answer c.serve.new.told.items c.in-Some.ensures))
 
 pub returns-in_default-clause-run : goal.returns-in_default-clause-run
 returns-in_default-clause-run c =
