@@ -20,7 +20,7 @@ each s name (command.Index ps f bs) all is p =
     (Index name p.0.0 p.1.0 bs.now, (is, p.0.1, p.1.1, p.2), tt, (ps, sym p.0.2, (bs, refl, λ i. request.Apply (command.Index ps (file i) bs))))
 each s name command.Begin all is p = (Begin name, is, tt, refl)
 each s name (command.BeginAgain since) all is p = (BeginAgain name since, (is, p), all.trace, refl)
-each s name (command.Join slot since) all is p = (Join name slot since, (is, p), all.trace, refl)
+each s name (command.Join slot since) all is p = (Join name slot since, (is, p.0, p.1), all.trace, refl)
 each s name (command.Lock t n m) all is p =
     let txn = sym p.0.2 in let node = sym p.1.2 in
     (OfRequest Lock p.0.0 m p.1.0, (p.0.1, p.1.1), tt, λ i. request.Apply (command.Lock (txn i) (node i) m))

@@ -340,8 +340,9 @@ impl WaiterTable {
         }
     }
 
-    /// Cancels the wait of a transaction whose time is over, with the notices put into an empty list. Answers the end; `None` if the transaction has no waiter, or if its wait cannot
-    /// be cancelled, since it is over or no command can be counted any more.
+    /// Cancels the wait of a transaction whose time is over, with the notices put into an empty list.
+    /// Answers the end; `None` if the transaction has no waiter, or if its wait cannot be cancelled,
+    /// since it is over or no command can be counted any more.
     pub(crate) fn time_out(&mut self, txn: TxnId, told: &mut Told) -> (Option<Outcome>, Slots)
         requires empty { told.old.items ≡ [] }
         ensures { TimesOut self.old txn result.0 told.new.items result.1 self.new }
