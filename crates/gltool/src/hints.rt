@@ -45,6 +45,9 @@ pub fn put_reason<W: Write>(
             writer.write_all(intention(line))?;
             writer.write_all(b" first")
         },
+        b"11" if is_join(line) => writer.write_all(
+            b"another transaction has the slot, or there are not so many: 64, or 128 after the line `granular 2`",
+        ),
         b"20" => put_form(writer, line, lines),
         number => {
             writer.write_all(named)?;
@@ -198,7 +201,7 @@ fn needs(line: &[u8], lines: Lines) -> Option<&'static [u8]> {
         b"index" if !lines.schema && is_name_first(line) => Some(b"--schema"),
         b"mark" | b"release" if !lines.savepoints => Some(b"--savepoints"),
         b"adopt" | b"forget" | b"renew" if !lines.trace => Some(b"--trace"),
-        b"begin" if !lines.trace && matches!(field(line, 2), b"again" | b"join") => Some(
+        b"begin" if !lines.trace && (is_join(line) || matches!(field(line, 2), b"again")) => Some(
             b"--trace",
         ),
         _ => None,
@@ -214,6 +217,11 @@ fn is_request(verb: &[u8]) -> bool {
     matches!(verb, b"lock" | b"try")
 }
 
+/// Whether a line begins a transaction in a slot that it names.
+fn is_join(line: &[u8]) -> bool {
+    matches!(field(line, 0), b"begin") && matches!(field(line, 2), b"join")
+}
+
 /// The form of a command.
 fn form(verb: &[u8]) -> Option<&'static [u8]> {
     let form: &'static [u8] = match verb {
@@ -223,7 +231,7 @@ fn form(verb: &[u8]) -> Option<&'static [u8]> {
         b"index" =>
             b"index NODE : PARENT.. on FILE at BOUND.., or by --schema index TXN NODE : PARENT.. on FILE at BOUND..",
         b"begin" =>
-            b"begin TXN, or by --trace begin TXN again AGE, or by --trace begin TXN join SLOT AGE",
+            b"begin TXN, or by --trace begin TXN again AGE or begin TXN join SLOT AGE",
         b"commit" => b"commit TXN",
         b"abort" => b"abort TXN",
         b"cancel" => b"cancel TXN",
