@@ -22,7 +22,7 @@ module _ (g : Graph) (law : IsLawfulGraph g) where
   -- a file's indexes are those of its shape
   pub among_indexes : (f i : NodeId) → list_any (same_node i) (indexes_of g f) ≡ is_index_of_shape f (shape_of g i)
   among_indexes f i =
-      split (is_index_of_shape f (shape_of g i)) (λ is. index_listed g law f i (plain_live g i (ap is_plain (index_of f (shape_of g i) is).2)) is ∙ sym is)
+      split (is_index_of_shape f (shape_of g i)) (λ is. index_listed g law f i (plain_live g i (ap is_plain (index_of f (shape_of g i) is).3)) is ∙ sym is)
       (λ isnt. split (list_any (same_node i) (indexes_of g f))
       (λ listed. absurd (no (sym isnt
       ∙ all_at (λ n. is_index_of_shape f (shape_of g n)) (indexes_of g f) i listed

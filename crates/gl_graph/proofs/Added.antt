@@ -187,7 +187,6 @@ module _ {limits : Limits} {old mid : Slab Stored} {births : ℕ} {g : Graph} (h
           nothing : (b : Body) → shape_in_body b ≡ Rec keys → beside_in_body b ≡ Nothing
           nothing (body.Inner children above) e = cc
           nothing (body.File kept above) e = cc
-          nothing (body.Index kept above) e = cc
           nothing _ e = refl
 
       pub record_born : IsBorn g (graph_of (seen limits new (births + 1))) (record { key = key; birth = births + 1 }) (Rec keys) (record_parents g file keys)

@@ -1,14 +1,14 @@
 -- What is stored beside the graph, read from the node that an id names.
-use Rattle.gl_graph.proofs.Words.{[], ap, arith, beside_in_body, Body, Bool, Bor, bounds_in, cond, count_by, due, due_as, false, get, Graph, graph_of, Holds}
-use Rattle.gl_graph.proofs.Words.{IfSome, indexes_in_body, indexes_of, Inside, interval, interval_at, intervals_in_body, is_file_shape, is_index_shape}
-use Rattle.gl_graph.proofs.Words.{IsItemAt, IsLawfulGraph, IsRising, IsSound, length, limits_of, List, list_any, Lists, named, named_in, nat_lt, nat_tests, no}
-use Rattle.gl_graph.proofs.Words.{node_at, node_of, NodeId, None, none_some, Option, option_copied, option_map, record_count, records_in_body, refl, shape_in}
-use Rattle.gl_graph.proofs.Words.{shape_in_body, shape_of, Slab, slice_get, slice_get_past, slice_get_read, Some, split, Stored, subst, sum_by-cons, sym, true}
-use Rattle.gl_graph.proofs.Words.{vertex_of, View, view_of, zero-add, ℕ, ◌+◌, ◌||◌, ◌∙◌, ◌∷◌, ◌≡◌, ◌≤◌}
+use Rattle.gl_graph.proofs.Words.{[], ap, arith, beside_in_body, Body, Bool, Bor, bounds_in, cond, count_by, due, get, Graph, graph_of, Holds, IfSome}
+use Rattle.gl_graph.proofs.Words.{indexes_in_body, indexes_of, Inside, intervals_in, is_file_shape, is_index_shape, IsIndexNode, IsItemAt, IsLawfulGraph}
+use Rattle.gl_graph.proofs.Words.{IsSound, length, limits_of, List, list_any, Lists, named, named_in, nat_lt, nat_tests, node_at, node_of, NodeId, None}
+use Rattle.gl_graph.proofs.Words.{none_some, Option, option_copied, option_map, record_count, records_in_body, refl, shape_in, shape_in_body, shape_of, Slab}
+use Rattle.gl_graph.proofs.Words.{slice_get, slice_get_past, slice_get_read, Some, split, Stored, subst, sum_by-cons, sym, true, vertex_of, View, view_of}
+use Rattle.gl_graph.proofs.Words.{zero-add, ℕ, ◌+◌, ◌||◌, ◌∙◌, ◌∷◌, ◌≡◌}
 use Rattle.gl_graph.specs.declared.node.Body.TheVariants as body
-use Rattle.gl_graph.proofs.Dues.{file_due, intervals_stored, span_count, span_get}
+use Rattle.gl_graph.proofs.Dues.{file_due}
 use Rattle.gl_graph.proofs.Held.{beside_stored}
-use Rattle.gl_graph.proofs.KindRules.{index_in, index_node}
+use Rattle.gl_graph.proofs.KindRules.{its_rules}
 use Rattle.gl_graph.proofs.Slots.{node_named, seen_in}
 
 -- the slot of a node that an id names
@@ -54,11 +54,6 @@ pub records_found : (g : Graph) (f : NodeId) (b : Body) → beside_in_body b ≡
     → records_in_body b ≡ record_count g f
 records_found g f b e h = (lists_stored b _ _ (e ∙ file_due g f h)).1
 
--- a node that is no index has no intervals
-pub no_intervals : (b : Body) → is_index_shape (Some (shape_in_body b)) ≡ false → intervals_in_body b ≡ []
-no_intervals (body.Index kept above) h = absurd (no (sym h))
-no_intervals _ h = refl
-
 -- a test passes somewhere exactly if it is not counted 0 times
 pub any_counted : {A : Type 0} (p : A → Bool) (xs : List A) → nat_lt 0 (count_by p xs) ≡ list_any p xs
 any_counted p [] = refl
@@ -71,31 +66,12 @@ any_counted p (x ∷ xs) =
     positive : (k : ℕ) → nat_lt 0 (1 + k) ≡ true
     positive k = grind (arith, nat_tests)
 
--- a node that is looked up, and what is due beside it
-module _ (g : Graph) (law : IsLawfulGraph g) (n : NodeId) (x : Stored) (node : Some (node_of n.key (vertex_of x)) ≡ node_at g n)
-    (beside : beside_in_body x.body ≡ due g n) where
-  pub bounds_found : bounds_in (shape_of g n) ≡ bounds_in (Some (shape_in_body x.body))
-  bounds_found = ap (λ o. bounds_in (shape_in o)) (sym node)
-
-  -- an index stores its intervals at their places
-  pub record KeepsIntervals (is : List NodeId) (bounds : List ℕ) : Type 0 where
-    pub count : length is ≡ length bounds + 1
-    pub each : (place : ℕ) → place ≤ length bounds → slice_get is place ≡ Some (interval g n place)
-    pub rising : IsRising bounds
-
-  pub index_kept : is_index_shape (shape_of g n) ≡ true → KeepsIntervals (intervals_in_body x.body) (bounds_in (Some (shape_in_body x.body)))
-  index_kept h =
-      let index = index_in (shape_of g n) h in
-      let spans = intervals_stored x.body _ (beside ∙ ap (due_as g n) index.1) in
-      subst (KeepsIntervals (intervals_in_body x.body)) bounds_found (record {
-        count = ap length spans ∙ span_count g n 0 (length (bounds_in (shape_of g n)) + 1);
-        each = grind (arith, span_get);
-        rising = (index_node g law n index.0 (bounds_in (shape_of g n)) index.1).rising.1;
-      })
-
-  -- an interval by its place
-  pub interval_found : (place : ℕ) → slice_get (intervals_in_body x.body) place ≡ interval_at g n place
-  interval_found place = grind (arith, index_kept, bounds_found, slice_get_past, no_intervals)
+-- what is required of an index, read from what is stored
+pub index_stored : (g : Graph) (law : IsLawfulGraph g) (n : NodeId) (x : Stored) → Some (node_of n.key (vertex_of x)) ≡ node_at g n
+    → is_index_shape (shape_of g n) ≡ true
+    → (f : NodeId) × IsIndexNode g n f (bounds_in (Some (shape_in_body x.body))) (intervals_in (Some (shape_in_body x.body)))
+index_stored g law n x node index =
+    subst (λ o. (f : NodeId) × IsIndexNode g n f (bounds_in (shape_in o)) (intervals_in (shape_in o))) (sym node) (its_rules g law n index)
 
 -- what is lent at a place is the element there
 pub item_copied : {A : Type 0} (xs : List A) (i : ℕ) (r : Option (Bor A)) → IsItemAt xs i r → option_copied r ≡ slice_get xs i

@@ -1,9 +1,9 @@
 -- Nodes are born: the old ones stay as they were, and the law of the graph is kept.
-use Rattle.gl_graph.proofs.Words.{[], ap, arith, born_node, born_nodes, cases_of, false, filter_map, filter_map-append, Graph, id_of, if◌then◌else◌, indexes_of}
-use Rattle.gl_graph.proofs.Words.{inl, inr, is_child, is_index_of_shape, is_live, is_record_shape, is_some, IsFreeKey, IsLawfulGraph, IsWellFormed, length}
-use Rattle.gl_graph.proofs.Words.{List, list_any, no, Node, node_at, node_count, node_is, NodeId, None, none_some, number_other, number_same, Option}
-use Rattle.gl_graph.proofs.Words.{parents_in, range_with_len, refl, rules, same_node, shape_in, shape_of, Some, split, subst, suc, sym, true, with_key, zero, ℕ}
-use Rattle.gl_graph.proofs.Words.{⊎_elim, ◌++◌, ◌+◌, ◌-◌, ◌<◌, ◌^◌, ◌∙◌, ◌∷◌, ◌≡◌, ◌≢◌, ◌≤◌, ◌⊎◌}
+use Rattle.gl_graph.proofs.Words.{[], ap, arith, born_node, born_nodes, cases_of, false, filter_map, filter_map-append, fun_ext, Graph, id_of, if◌then◌else◌}
+use Rattle.gl_graph.proofs.Words.{indexes_of, inl, inr, is_child, is_index_of_shape, is_live, is_record_shape, is_some, IsFreeKey, IsLawfulGraph, IsWellFormed}
+use Rattle.gl_graph.proofs.Words.{length, List, list_any, no, Node, node_at, node_count, node_is, NodeId, None, none_some, number_other, number_same, Option}
+use Rattle.gl_graph.proofs.Words.{parents_in, range_with_len, refl, rules, same_node, same_number, shape_in, shape_of, Some, split, subst, suc, sym, true}
+use Rattle.gl_graph.proofs.Words.{with_key, with_node, zero, ℕ, ◌==◌, ⊎_elim, ◌++◌, ◌+◌, ◌-◌, ◌<◌, ◌^◌, ◌∙◌, ◌∷◌, ◌≡◌, ◌≢◌, ◌≤◌, ◌⊎◌}
 use Rattle.gl_graph.proofs.Look.{found_at, finds, live_node, there_is, child_node}
 use Rattle.gl_graph.proofs.KindRules.{Frames, well_formed_kept, plain_live, one_shape}
 use Rattle.gl_graph.proofs.Listings.{kept, index_born, indexes_are, range_append, map_same}
@@ -44,6 +44,27 @@ new_at g (n ∷ ns) zero b none e = grind (arith, old_at, number_same)
 new_at g (n ∷ ns) (suc k) b none e =
     new_at (born_node g n) ns k b (λ c low. let ne : c ≢ g.births + 1 = omega arith in
     ap (λ x. if x then Some n else g.at c) (number_other c (g.births + 1) ne) ∙ none c (omega arith)) (omega arith)
+
+-- the first of the nodes that are born is written
+pub first_written : (g : Graph) (was is : Node) (ns : List Node) → with_node (born_nodes g (was ∷ ns)) (g.births + 1) is ≡ born_nodes g (is ∷ ns)
+first_written g was is ns = later (born_node g was) ns (omega arith) ∙ ap (λ (g' : Graph). born_nodes g' ns) again
+  where
+    again : with_node (born_node g was) (g.births + 1) is ≡ born_node g is
+    again = let same : (with_node (born_node g was) (g.births + 1) is).at ≡ (born_node g is).at = fun_ext (λ b. grind arith) in
+        λ i. record { at = same i; births = g.births + 1; most = g.most; most_bounds = g.most_bounds }
+
+    before : (g' : Graph) (n : Node) → g.births + 1 ≤ g'.births
+        → with_node (born_node g' n) (g.births + 1) is ≡ born_node (with_node g' (g.births + 1) is) n
+    before g' n low =
+        let ne : g.births + 1 ≢ g'.births + 1 = omega arith in
+        let same : (with_node (born_node g' n) (g.births + 1) is).at ≡ (born_node (with_node g' (g.births + 1) is) n).at =
+        fun_ext (λ b. split (b == g.births + 1) (λ t. grind (arith, same_number, number_other)) (λ t. grind arith)) in
+        λ i. record { at = same i; births = g'.births + 1; most = g'.most; most_bounds = g'.most_bounds }
+
+    later : (g' : Graph) (ns' : List Node) → g.births + 1 ≤ g'.births
+        → with_node (born_nodes g' ns') (g.births + 1) is ≡ born_nodes (with_node g' (g.births + 1) is) ns'
+    later g' [] low = refl
+    later g' (n ∷ ns') low = later (born_node g' n) ns' (omega arith) ∙ ap (λ (g'' : Graph). born_nodes g'' ns') (before g' n low)
 
 module _ (g : Graph) (law : IsLawfulGraph g) (ns : List Node) where
   abbrev pub grown : Graph

@@ -1,28 +1,23 @@
 -- A node is removed with its children: what remains, and that it is lawful. For crates that read a graph after a drop.
-use Rattle.gl_graph.proofs.Words.{[], and-false, and_both, ap, ap₂, are_inner, AreInnerParents, arith, Bool, both, bounds_in, cases_of, clash}
-use Rattle.gl_graph.proofs.Words.{count_by-le-length, false, File, filter, fun_ext, Graph, has_records, HasShape, if◌then◌else◌, Index, indexes_of, Inner}
-use Rattle.gl_graph.proofs.Words.{Interval, interval, interval_at, interval_of, interval_place, intervals_of, is_child, is_file_shape, is_in_use}
-use Rattle.gl_graph.proofs.Words.{is_index_of_shape, is_index_shape, is_inner_shape, is_live, is_movable_shape, is_record_of, is_record_shape, is_shape_in_use}
-use Rattle.gl_graph.proofs.Words.{is_some, IsLawfulGraph, length, List, list_all, list_any, nat_le, nat_lt, nat_tests, no, Node, node_at, node_count, node_is}
-use Rattle.gl_graph.proofs.Words.{NodeId, nodes, None, none_some, not, not_true, Option, or-false, or_elim, or_left, other_number, parents_in, parents_of, Rec}
-use Rattle.gl_graph.proofs.Words.{record_count, refl, rules, same_node, same_node-equal, same_node-refl, same_number, Shape, shape_in, shape_of, Some, some_is}
-use Rattle.gl_graph.proofs.Words.{split, suc, sym, true, with_key, without_branch, without_node, ℕ, ◌&&◌, ◌+◌, ◌-◌, ◌<◌, ◌==◌, ◌||◌, ◌∙◌, ◌∷◌, ◌≡◌, ◌≢◌, ◌≤◌}
-use Rattle.gl_graph.proofs.Look.{all_filter, finds, found_at, live_node, child_live, child_node, there_is}
-pub use Rattle.gl_graph.proofs.KindRules.{is_interval_shape}
-use Rattle.gl_graph.proofs.KindRules.{index_in, is_plain, inner_plain, file_plain, index_plain, plain_live, index_of, index_node, interval_is}
+use Rattle.gl_graph.proofs.Words.{[], and-false, and_both, ap, ap₂, are_distinct, are_inner, AreInnerParents, arith, Bool, both, bounds_in, cases_of, clash}
+use Rattle.gl_graph.proofs.Words.{false, File, filter, fun_ext, Graph, has_records, HasShape, if◌then◌else◌, Index, indexes_of, Inner, Interval, interval_at}
+use Rattle.gl_graph.proofs.Words.{interval_of, interval_place, intervals_in, intervals_of, is_child, is_file_shape, is_in_use, is_index_of_shape}
+use Rattle.gl_graph.proofs.Words.{is_index_shape, is_inner_shape, is_interval_shape, is_live, is_movable_shape, is_record_of, is_record_shape, is_shape_in_use}
+use Rattle.gl_graph.proofs.Words.{is_some, IsLawfulGraph, length, List, list_all, list_any, nat_lt, nat_tests, no, no_node, Node, node_at, node_count, NodeId}
+use Rattle.gl_graph.proofs.Words.{nodes, None, none_some, not, not_true, Option, or-false, or_elim, or_left, or_right, parents_in, parents_of, Rec}
+use Rattle.gl_graph.proofs.Words.{record_count, refl, rules, same_node, same_node-equal, same_node-refl, same_node-sym, Shape, shape_in, shape_of}
+use Rattle.gl_graph.proofs.Words.{slice_index_or, Some, split, suc, sym, true, with_key, without_branch, without_node, ℕ, ◌&&◌, ◌+◌, ◌==◌, ◌||◌, ◌∙◌, ◌∷◌, ◌≡◌}
+use Rattle.gl_graph.proofs.Words.{◌≤◌}
+use Rattle.gl_graph.proofs.Look.{all_at, all_filter, finds, listed_at, live_node, child_live, child_node, place_listed, there_is}
+use Rattle.gl_graph.proofs.KindRules.{is_plain, inner_plain, file_plain, index_plain, plain_live, index_of, index_node, interval_is, each_interval}
 use Rattle.gl_graph.proofs.KindRules.{parent_is, parent_by, parent_kind}
 use Rattle.gl_graph.proofs.Listings.{kept, filter_of_map, map_fewer}
 use Rattle.gl_graph.proofs.Routes.{acyclic_fewer}
 use Rattle.gl_graph.proofs.RouteLengths.{listed}
 use Rattle.gl_graph.proofs.Moved.{some_at}
-use Rattle.gl_graph.proofs.Distinct.{index_listed}
-use Rattle.gl_graph.proofs.Tally.{picked, list_same, sifted, count_kept, tally_gap, node_tally}
+use Rattle.gl_graph.proofs.Distinct.{any_filtered, filter_distinct, index_listed, nodes_distinct, same_length}
+use Rattle.gl_graph.proofs.Tally.{picked, list_same, sifted, count_kept}
 use Rattle.gl_graph.proofs.Unrefused.{or_no}
-
--- how many intervals a node of this shape has
-abbrev pub interval_count : Option Shape → ℕ
-interval_count (Some (Index file bounds)) = length bounds + 1
-interval_count o = 0
 
 no_interval_inner : (o : Option Shape) → is_inner_shape o ≡ true → is_interval_shape o ≡ false
 no_interval_inner o h = search rules
@@ -118,20 +113,19 @@ module _ (g : Graph) (n : NodeId) where
           ap (λ o. list_any (same_node n) (parents_in o)) (e ∙ sym (finds x.key (g.at b) x e refl)) ∙ none (record { key = x.key; birth = b })
 
 -- the children of an index are its intervals
-module _ (g : Graph) (law : IsLawfulGraph g) (n f : NodeId) (bs : List ℕ) (shape : shape_of g n ≡ Some (Index f bs)) where
-  pub interval_child : (place : ℕ) → place ≤ length bs → is_child g n (interval g n place) ≡ true
-  interval_child place low =
-      ap (λ o. list_any (same_node n) (parents_in o)) ((index_node g law n f bs shape).intervals place low) ∙ or_left _ _ (same_node-refl n)
+module _ (g : Graph) (law : IsLawfulGraph g) (n : NodeId) where
+  pub interval_child : (q : NodeId) → list_any (same_node q) (intervals_in (shape_of g n)) ≡ true → is_child g n q ≡ true
+  interval_child q h = ap (λ o. list_any (same_node n) (parents_in o)) (each_interval g law n q h) ∙ or_left _ _ (same_node-refl n)
 
   pub child_interval : (q : NodeId) → is_child g n q ≡ true → is_interval_shape (shape_of g q) ≡ true
-      → (place : ℕ) × (place ≤ length bs) × (q ≡ interval g n place)
+      → list_any (same_node q) (intervals_in (shape_of g n)) ≡ true
   child_interval q c kind =
       let node = child_node g q n c in
       by node.0.shape node.0.parents (sym (ap (λ o. is_interval_shape (shape_in o)) node.1) ∙ kind) (law.well_formed q node.0 node.1) node.2
     where
       by : (sh : Shape) (ps : List NodeId) → is_interval_shape (Some sh) ≡ true → HasShape g q sh ps → list_any (same_node n) ps ≡ true
-          → (place : ℕ) × (place ≤ length bs) × (q ≡ interval g n place)
-      by (Interval place) ps i h l = grind arith
+          → list_any (same_node q) (intervals_in (shape_of g n)) ≡ true
+      by Interval ps i h l = grind arith
       by _ ps i h l = absurd (no i)
 
 -- a movable node is removed with its children, if it is not in use
@@ -151,32 +145,25 @@ module _ (g : Graph) (law : IsLawfulGraph g) (n : NodeId) (movable : is_movable_
           clash (some_at (is_record_of g n) (nodes g) q (listed g law q (child_live g q n c)) (both _ _ (ap is_record_shape s) c))
           (or_no (has_records g n) _ (sym (ap (is_shape_in_use g n) e) ∙ free)).0
       by _ s h = no h
-  child_of (Some (Index f bs)) e q c = grind (arith, parent_is, parent_kind, no)
+  child_of (Some (Index f bs is)) e q c = grind (arith, parent_is, parent_kind, no)
   child_of _ e q c = absurd (no (sym (ap is_movable_shape e) ∙ movable))
 
   -- the children are intervals
   pub children_are : (q : NodeId) → is_child g n q ≡ true → (is_index_shape (shape_of g n) ≡ true) × (is_interval_shape (shape_of g q) ≡ true)
   children_are q c = child_of (shape_of g n) refl q c
 
-  -- each is the interval at a place, and each interval is a child
+  -- and each interval is a child
+  pub child_is : (q : NodeId) → is_child g n q ≡ list_any (same_node q) (intervals_in (shape_of g n))
+  child_is q =
+      split (is_child g n q) (λ c. c ∙ sym (child_interval g law n q c (children_are q c).1))
+      (λ c. c ∙ sym (not_true _ (λ t. no (sym c ∙ interval_child g law n q t))))
+
+  -- by their places
   pub child_at : (q : NodeId) → is_child g n q ≡ true → (place : ℕ) × (interval_at g n place ≡ Some q)
-  child_at q c =
-      let kinds = children_are q c in
-      let i = index_in (shape_of g n) kinds.0 in
-      let it = child_interval g law n i.0 (bounds_in (shape_of g n)) i.1 q c kinds.1 in
-      let low : nat_le it.0 (length (bounds_in (shape_of g n))) ≡ true = (let l = it.1 in grind (arith, nat_tests)) in
-      (it.0, ap₂ (λ a b. if a && b then Some (interval g n it.0) else None) kinds.0 low ∙ ap Some (sym it.2))
+  child_at q c = place_listed (intervals_in (shape_of g n)) q (sym (child_is q) ∙ c)
 
   pub at_child : (place : ℕ) (q : NodeId) → interval_at g n place ≡ Some q → is_child g n q ≡ true
-  at_child place q e =
-      split (is_index_shape (shape_of g n) && nat_le place (length (bounds_in (shape_of g n)))) (λ t.
-      let tests = and_both (is_index_shape (shape_of g n)) (nat_le place (length (bounds_in (shape_of g n)))) t in
-      let test = tests.1 in
-      let low : place ≤ length (bounds_in (shape_of g n)) = grind (arith, nat_tests) in
-      let i = index_in (shape_of g n) tests.0 in
-      ap (is_child g n) (some_is (sym e ∙ ap (λ b. if b then Some (interval g n place) else None) t))
-      ∙ interval_child g law n i.0 (bounds_in (shape_of g n)) i.1 place low)
-      (λ t. absurd (none_some (sym (ap (λ b. if b then Some (interval g n place) else None) t) ∙ e)))
+  at_child place q e = child_is q ∙ listed_at (intervals_in (shape_of g n)) place q e
 
   -- a node that is no index has no children
   pub no_children : is_index_shape (shape_of g n) ≡ false → (q : NodeId) → is_child g n q ≡ false
@@ -190,10 +177,10 @@ module _ (g : Graph) (law : IsLawfulGraph g) (n : NodeId) (movable : is_movable_
   other_stays q h kind other = grind (arith, not_true, no, children_are)
 
   -- it is the file of no index
-  no_file : (i f : NodeId) (bs : List ℕ) → shape_of g i ≡ Some (Index f bs) → same_node n f ≡ false
-  no_file i f bs e =
+  no_file : (i f : NodeId) (bs : List ℕ) (is : List NodeId) → shape_of g i ≡ Some (Index f bs is) → same_node n f ≡ false
+  no_file i f bs is e =
       not_true (same_node n f) (λ t.
-      let node = index_node g law i f bs e in
+      let node = index_node g law i f bs is e in
       let same : n ≡ f = same_node-equal n f t in
       let file : is_file_shape (shape_of g n) ≡ true = ap (λ q. is_file_shape (shape_of g q)) same ∙ node.file in
       let listed_there = index_listed g law n i (plain_live g i (ap is_plain e))
@@ -213,9 +200,9 @@ module _ (g : Graph) (law : IsLawfulGraph g) (n : NodeId) (movable : is_movable_
   no_index f r rec child =
       not_true (is_index_of_shape f (shape_of g n)) (λ t.
       let index = index_of f (shape_of g n) t in
-      let same : f ≡ index.0 = same_node-equal f index.0 (sym (ap (is_index_of_shape f) index.2) ∙ t) in
+      let same : f ≡ index.0 = same_node-equal f index.0 (sym (ap (is_index_of_shape f) index.3) ∙ t) in
       let there = some_at (is_record_of g f) (nodes g) r (listed g law r (child_live g r f child)) (both _ _ rec child) in
-      clash (ap (has_records g) (sym same) ∙ there) (sym (ap (is_shape_in_use g n) index.2) ∙ free))
+      clash (ap (has_records g) (sym same) ∙ there) (sym (ap (is_shape_in_use g n) index.3) ∙ free))
 
   -- the indexes of a file are those that it had, without the node
   pub indexes_left : (f : NodeId) → indexes_of (left g n) f ≡ filter (λ i. not (same_node n i)) (indexes_of g f)
@@ -250,15 +237,16 @@ module _ (g : Graph) (law : IsLawfulGraph g) (n : NodeId) (movable : is_movable_
       (all_filter (λ i. is_index_of_shape f (shape_of g i)) (nodes g))
       (λ x h. ap not (not_true (same_node n x) (λ t. no (sym other ∙ ap (λ q. is_index_of_shape f (shape_of g q)) (same_node-equal n x t) ∙ h))))
 
-  -- an interval of another index stays
-  pub interval_stays : (i f : NodeId) (bs : List ℕ) → shape_of g i ≡ Some (Index f bs) → same_node n i ≡ false → (place : ℕ) → place ≤ length bs
-      → (node_at (left g n) (interval g i place) ≡ node_at g (interval g i place)) × (interval (left g n) i place ≡ interval g i place)
-  interval_stays i f bs e other place low =
-      let it = (index_node g law i f bs e).intervals place low in
-      let h : is_live g (interval g i place) ≡ true = ap is_some it in
-      let not_n : same_node n (interval g i place) ≡ false = grind arith in
-      let no_child : is_child g n (interval g i place) ≡ false = ap (λ o. list_any (same_node n) (parents_in o)) it ∙ ap (λ b. b || false) other in
-      (grind arith)
+  -- another index stays, with its intervals
+  pub index_stays : (i : NodeId) → is_index_shape (shape_of g i) ≡ true → same_node n i ≡ false → node_at (left g n) i ≡ node_at g i
+  index_stays i h other = other_stays i (plain_live g i (index_plain _ h)) (no_interval_index _ h) other
+
+  pub interval_stays : (i q : NodeId) → list_any (same_node q) (intervals_in (shape_of g i)) ≡ true → same_node n i ≡ false
+      → node_at (left g n) q ≡ node_at g q
+  interval_stays i q h other =
+      let it = each_interval g law i q h in
+      let not_n : same_node n q ≡ false = grind arith in
+      stays_left g n live q (ap is_some it) not_n (ap (λ o. list_any (same_node n) (parents_in o)) it ∙ ap (λ b. b || false) other)
 
   -- if a child of it is a parent of a record, it is an index of the file of the record
   index_above : (f p : NodeId) (is : List NodeId) (keys : List ℕ) → list_all (λ i. is_index_of_shape f (shape_of g i)) is ≡ true
@@ -280,8 +268,7 @@ module _ (g : Graph) (law : IsLawfulGraph g) (n : NodeId) (movable : is_movable_
       by node.0.shape node.0.parents (ap shape_in node.1) (ap parents_in node.1) (law.well_formed q node.0 node.1) node.2
     where
       by : (sh : Shape) (ps : List NodeId) → shape_of g q ≡ Some sh → parents_of g q ≡ ps → HasShape g q sh ps → list_any (same_node p) ps ≡ true → ⊥
-      by (Interval place) ps s above k l =
-          no (sym (no_interval_index (shape_of g p) (parent_by g law (Interval place) ps q p k l)) ∙ (children_are p c).1)
+      by Interval ps s above k l = no (sym (no_interval_index (shape_of g p) (parent_by g law Interval ps q p k l)) ∙ (children_are p c).1)
       by (Rec keys) ps s above k l =
           let child : is_child g k.0 q ≡ true = ap (list_any (same_node k.0)) (above ∙ k.1.parents) ∙ or_left _ _ (same_node-refl k.0) in
           or_elim (same_node p k.0) (list_any (same_node p) (intervals_of g (indexes_of g k.0) keys)) (sym (ap (list_any (same_node p)) k.1.parents) ∙ l)
@@ -307,35 +294,38 @@ module _ (g : Graph) (law : IsLawfulGraph g) (n : NodeId) (movable : is_movable_
   intervals_left f (i ∷ is) [] h other = refl
   intervals_left f (i ∷ is) (key ∷ keys) h other =
       let t = and_both (is_index_of_shape f (shape_of g i)) (list_all (λ i'. is_index_of_shape f (shape_of g i')) is) h in
-      let index = index_of f (shape_of g i) t.0 in
       let not_n : same_node n i ≡ false = grind arith in
-      let stays = other_stays i (plain_live g i (ap is_plain index.2))
-      (ap is_interval_shape index.2) not_n in
-      let low : interval_place (bounds_in (shape_of g i)) key ≤ length (bounds_in (shape_of g i)) = grind (arith, count_by-le-length) in
-      let few : length (bounds_in (shape_of g i)) ≡ length index.1 = ap (λ o. length (bounds_in o)) index.2 in
-      ap₂ (λ x xs. x ∷ xs) (ap (λ o. interval (left g n) i (interval_place (bounds_in (shape_in o)) key)) stays
-      ∙ (interval_stays i index.0 index.1 index.2 not_n (interval_place (bounds_in (shape_of g i)) key) (omega arith)).1) (intervals_left f is keys t.1 other)
+      let stays = index_stays i (ap is_index_shape (index_of f (shape_of g i) t.0).3) not_n in
+      ap₂ (λ x xs. x ∷ xs) (ap (λ o. slice_index_or (intervals_in (shape_in o)) (interval_place (bounds_in (shape_in o)) key) no_node) stays)
+      (intervals_left f is keys t.1 other)
 
   -- what its kind requires of a remaining node
   shape_asks : (sh : Shape) (ps : List NodeId) (q : NodeId) (node : Node) → node_at (left g n) q ≡ Some node → node.shape ≡ sh → node.parents ≡ ps
       → list_any (same_node n) ps ≡ false → HasShape g q sh ps → HasShape (left g n) q sh ps
   shape_asks Inner ps q node e es ep k h = parents_left 0 ps h k
   shape_asks (File adopted) ps q node e es ep k h = parents_left 1 ps h k
-  shape_asks (Index f bs) ps q node e es ep k h =
+  shape_asks (Index f bs is) ps q node e es ep k h =
       let was = left_was g n q node e in
-      let shape : shape_of g q ≡ Some (Index f bs) = ap shape_in was ∙ ap Some es in
+      let shape : shape_of g q ≡ Some (Index f bs is) = ap shape_in was ∙ ap Some es in
       let other : same_node n q ≡ false =
       (or_no (same_node n q) (is_child g n q) (sym (gone_is g n live q (ap is_some was)) ∙ left_birth g n q node e)).0 in (
         parents_left 1 ps h.0 k,
         record {
-          file = file_left f h.1.file (no_file q f bs shape);
+          file = file_left f h.1.file (no_file q f bs is shape);
           few = h.1.few;
           rising = h.1.rising;
-          intervals = grind arith;
+          count = h.1.count;
+          distinct = h.1.distinct;
+          intervals = λ i listed'. interval_stays q i (ap (λ o. list_any (same_node i) (intervals_in o)) shape ∙ listed') other ∙ h.1.intervals i listed';
         },
       )
-  shape_asks (Interval place) ps q node e es ep k h =
-      grind (arith, or_no, other_stays, plain_live, index_plain, no_interval_index, at_beside, left_birth, node_is)
+  shape_asks Interval ps q node e es ep k h =
+      let stays = index_stays h.0 h.2 (or_no (same_node n h.0) false (sym (ap (list_any (same_node n)) h.1) ∙ k)).0 in (
+        h.0,
+        h.1,
+        ap (λ o. is_index_shape (shape_in o)) stays ∙ h.2,
+        ap (λ o. list_any (same_node q) (intervals_in (shape_in o))) stays ∙ h.3,
+      )
   shape_asks (Rec keys) ps q node e es ep k h =
       let was = left_was g n q node e in
       let other : same_node n h.0 ≡ false = (or_no (same_node n h.0) _ (sym (ap (list_any (same_node n)) h.1.parents) ∙ k)).0 in
@@ -373,53 +363,50 @@ module _ (g : Graph) (law : IsLawfulGraph g) (n : NodeId) (movable : is_movable_
       parents_there : (q p : NodeId) → is_child (left g n) p q ≡ true → is_live (left g n) p ≡ true
       parents_there q p h = grind (arith, left_was_child, live_node, child_live, left_was, not_true, same_node-equal, apart_from)
 
-  -- the removed births are the node's own and those of its intervals, right after it
-  abbrev span : ℕ
-  span = interval_count (shape_of g n)
+  -- the removed nodes
+  abbrev removed : List NodeId
+  removed = filter (λ q. same_node n q || is_child g n q) (nodes g)
 
-  within_span : (b : ℕ) → is_some (g.at b) ≡ true → gone g n b ≡ true → (n.birth ≤ b) × (b ≤ n.birth + span)
-  within_span b there e =
-      split (b == n.birth) (λ t. let same = same_number b n.birth t in (omega arith, omega arith)) (λ t.
-      let x = live_node (g.at b) there in
-      let c : is_child g n (record { key = x.0.key; birth = b }) ≡ true = grind arith in
-      let kinds = children_are (record { key = x.0.key; birth = b }) c in
-      let i = index_in (shape_of g n) kinds.0 in
-      let it = child_interval g law n i.0 (bounds_in (shape_of g n)) i.1 (record { key = x.0.key; birth = b }) c kinds.1 in
-      let low = it.1 in
-      let birth : b ≡ n.birth + 1 + it.0 = ap (λ m. m.birth) it.2 in
-      let many : interval_count (shape_of g n) ≡ length (bounds_in (shape_of g n)) + 1 = ap interval_count i.1 in
-      (omega arith, omega arith))
-
-  all_span : (b : ℕ) → n.birth ≤ b → b < n.birth + suc span → (is_some (g.at b) ≡ true) × (gone g n b ≡ true)
-  all_span b low high =
-      split (b == n.birth) (λ t. grind arith)
-      (λ t. by (shape_of g n) refl (let ne = other_number b n.birth t in above (omega_less b n.birth low ne)) high)
+  -- are the node and its intervals
+  removed_is : (q : NodeId) → list_any (same_node q) removed ≡ list_any (same_node q) (n ∷ intervals_in (shape_of g n))
+  removed_is q = split (list_any (same_node q) removed) (λ t. t ∙ sym (is t)) (λ t. t ∙ sym (not_true _ (λ u. no (sym t ∙ was u))))
     where
-      omega_less : (a c : ℕ) → c ≤ a → a ≢ c → c < a
-      omega_less a c le ne = grind arith
+      is : list_any (same_node q) removed ≡ true → list_any (same_node q) (n ∷ intervals_in (shape_of g n)) ≡ true
+      is t =
+          or_elim (same_node n q) (is_child g n q)
+          (all_at (λ x. same_node n x || is_child g n x) removed q t (all_filter (λ x. same_node n x || is_child g n x) (nodes g)))
+          (λ same. or_left _ _ (same_node-sym q n ∙ same)) (λ c. or_right (same_node q n) _ (sym (child_is q) ∙ c))
 
-      above : n.birth < b → n.birth + 1 + (b - n.birth - 1) ≡ b
-      above h = omega arith
+      there : is_live g q ≡ true → (same_node n q || is_child g n q) ≡ true → list_any (same_node q) removed ≡ true
+      there alive t = any_filtered (λ x. same_node n x || is_child g n x) q (nodes g) (listed g law q alive) t
 
-      by : (o : Option Shape) → shape_of g n ≡ o → n.birth + 1 + (b - n.birth - 1) ≡ b → b < n.birth + suc (interval_count o)
-          → (is_some (g.at b) ≡ true) × (gone g n b ≡ true)
-      by (Some (Index f bs)) s e h =
-          let low' : b - n.birth - 1 ≤ length bs = omega arith in
-          let it = (index_node g law n f bs s).intervals (b - n.birth - 1) low' in
-          let at : g.at b ≡ Some _ = ap g.at (sym e) ∙ (found_at g (interval g n (b - n.birth - 1)) _ it).0 in (grind arith)
-      by _ s e h = absurd (omega arith)
+      was : list_any (same_node q) (n ∷ intervals_in (shape_of g n)) ≡ true → list_any (same_node q) removed ≡ true
+      was u =
+          or_elim (same_node q n) (list_any (same_node q) (intervals_in (shape_of g n))) u
+          (λ same. there (ap (is_live g) (same_node-equal q n same) ∙ live) (or_left _ _ (same_node-sym n q ∙ same)))
+          (λ i. let c = child_is q ∙ i in there (child_live g q n c) (or_right (same_node n q) _ c))
+
+  -- each of them once
+  once : are_distinct (n ∷ intervals_in (shape_of g n)) ≡ true
+  once = both _ _ (ap not (sym (child_is n) ∙ not_true _ (λ c. no (sym (movable_no_interval (shape_of g n) movable) ∙ (children_are n c).1))))
+      (by (shape_of g n) refl)
+    where
+      by : (o : Option Shape) → shape_of g n ≡ o → are_distinct (intervals_in o) ≡ true
+      by (Some (Index f bs is)) e = (index_node g law n f bs is e).distinct
+      by _ e = refl
 
   -- the node and its intervals are that many
-  pub count_left : node_count g ≡ node_count (left g n) + (1 + interval_count (shape_of g n))
+  pub count_left : node_count g ≡ node_count (left g n) + (1 + length (intervals_in (shape_of g n)))
   count_left =
-      let first = law.born n.birth (all_span n.birth (omega arith) (omega arith)).0 in
-      let last = law.born (n.birth + span) (all_span (n.birth + span) (omega arith) (omega arith)).0 in
-      let all = node_tally g in
-      let rest = node_tally (left g n) in
-      let gap = tally_gap (λ b. is_some (g.at b)) (λ b. is_some ((left g n).at b)) n.birth (suc span) 1 g.births
-      (λ b low out. ap is_some (split (gone g n b) (λ t. at_gone g n b t ∙ sym (grind (arith, within_span))) (λ t. at_beside g n b t)))
-      (λ b low high. let s = all_span b low high in (s.0, ap is_some (at_gone g n b s.1))) (omega arith) (omega arith) in
+      let many = same_length removed (n ∷ intervals_in (shape_of g n))
+      (filter_distinct (λ q. same_node n q || is_child g n q) (nodes g) (nodes_distinct g)) once removed_is in
+      let rest = ap length (nodes_left g n live) in
+      let all = in_parts (λ q. same_node n q || is_child g n q) (nodes g) in
       omega arith
+    where
+      in_parts : (p : NodeId → Bool) (xs : List NodeId) → length xs ≡ length (filter p xs) + length (filter (λ x. not (p x)) xs)
+      in_parts p [] = refl
+      in_parts p (x ∷ xs) = grind (arith, in_parts p xs)
 
   -- no record is removed
   pub records_left : (f : NodeId) → record_count (left g n) f ≡ record_count g f

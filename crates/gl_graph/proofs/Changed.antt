@@ -11,7 +11,7 @@ pub record IsAlike (was is : Shape) : Type 0 where
   pub plain : is_plain (Some was) ≡ true → AreAlike (Some is) (Some was)
   pub index : (f : NodeId) → is_index_of_shape f (Some is) ≡ is_index_of_shape f (Some was)
   pub rec : is_record_shape (Some is) ≡ is_record_shape (Some was)
-  pub no_interval : (place : ℕ) → was ≡ Interval place → ⊥
+  pub no_interval : was ≡ Interval → ⊥
 
 module _ (g : Graph) (n : NodeId) (was is : Node) (there : node_at g n ≡ Some was) (key : is.key ≡ was.key) where
   abbrev pub after : Graph

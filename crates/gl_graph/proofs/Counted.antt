@@ -1,15 +1,15 @@
 -- Different inner nodes store another number of children each, and nothing else changes.
-use Rattle.gl_graph.proofs.Words.{[], ap, are_distinct, are_inner, AreBornApart, AreRecounted, AreStored, arith, Beside, beside_in_body, Body}
-use Rattle.gl_graph.proofs.Words.{body_with_children, Bool, cases_of, children_in_body, Counts, EachKeeps, false, get, get_or_from_slice_get, Graph, Holds}
+use Rattle.gl_graph.proofs.Words.{ap, are_distinct, are_inner, AreBornApart, AreRecounted, AreStored, arith, Beside, beside_in_body, Body}
+use Rattle.gl_graph.proofs.Words.{body_with_children, Bool, cases_of, children_in_body, Counts, EachKeeps, false, get, Graph, Holds}
 use Rattle.gl_graph.proofs.Words.{if◌then◌else◌, is_inner_shape, is_live, is_some, IsLawfulGraph, length, Limits, List, list_any, no, node_of, NodeId}
-use Rattle.gl_graph.proofs.Words.{none_some, or_elim, or_left, or_right, other_number, refl, same_node, same_node-equal, same_node-from_equal, shape_of, Slab}
-use Rattle.gl_graph.proofs.Words.{slab_len, slice_get, slice_get_within, Some, some_is, split, Stored, subst, suc, sym, true, Updates, vertex_of, zero, ℕ, ◌+◌}
-use Rattle.gl_graph.proofs.Words.{◌==◌, ◌∙◌, ◌∷◌, ◌≡◌}
+use Rattle.gl_graph.proofs.Words.{none_some, other_number, refl, same_node, shape_of, Slab}
+use Rattle.gl_graph.proofs.Words.{slab_len, slice_get, slice_get_within, Some, some_is, split, Stored, subst, sym, true, Updates, vertex_of, ℕ, ◌+◌}
+use Rattle.gl_graph.proofs.Words.{◌==◌, ◌∙◌, ◌≡◌}
 use Rattle.gl_graph.specs.declared.node.Body.TheVariants as body
-use Rattle.gl_graph.proofs.Distinct.{one_place}
+use Rattle.gl_graph.proofs.Distinct.{keys_apart}
 use Rattle.gl_graph.proofs.Held.{recounted, recounted_same, live_held}
 use Rattle.gl_graph.proofs.KindRules.{plain_live, inner_plain}
-use Rattle.gl_graph.proofs.Look.{all_at, live_node}
+use Rattle.gl_graph.proofs.Look.{all_at, listed_at, live_node, place_listed}
 use Rattle.gl_graph.proofs.Slots.{at_birth, at_slot, slot_at, shown}
 
 -- a slot with another number of children
@@ -42,17 +42,6 @@ children_stored : (b : Body) → children_in_body b ≡ counted_in (beside_in_bo
 children_stored (body.Inner children above) = refl
 children_stored _ = refl
 
-pub listed_at : (ids : List NodeId) (place : ℕ) (n : NodeId) → slice_get ids place ≡ Some n → list_any (same_node n) ids ≡ true
-listed_at [] place n e = absurd (none_some e)
-listed_at (m ∷ ids) zero n e = or_left (same_node n m) _ (same_node-from_equal n m (sym (some_is e)))
-listed_at (m ∷ ids) (suc place) n e = or_right (same_node n m) _ (listed_at ids place n e)
-
-place_of : (ids : List NodeId) (n : NodeId) → list_any (same_node n) ids ≡ true → (place : ℕ) × (slice_get ids place ≡ Some n)
-place_of [] n h = absurd (no h)
-place_of (m ∷ ids) n h =
-    or_elim (same_node n m) (list_any (same_node n) ids) h (λ here. (0, ap Some (sym (same_node-equal n m here))))
-    (λ there. let f = place_of ids n there in (suc f.0, f.1))
-
 -- these nodes are stored under different keys, each with such a number of children
 pub record AreKept (Such : ℕ → Type 0) (nodes : Slab Stored) (ids : List NodeId) : Type 0 where
   pub stored : AreStored nodes ids
@@ -66,10 +55,7 @@ module _ {limits : Limits} {mid : Slab Stored} {births : ℕ} {g : Graph} {besid
   are_stored : AreStored mid ids
   are_stored = record {
     there = λ place n at. ap is_some (live_held h n (live_at place n at)).there;
-    apart = λ place other m n at at' same.
-        let equal = law.keys_differ m n (live_at place m at) (live_at other n at') same in
-        one_place ids place other (record { key = 0; birth = 0 }) distinct (slice_get_within ids place m at) (slice_get_within ids other n at')
-        (grind (arith, get_or_from_slice_get));
+    apart = keys_apart g law ids distinct (λ n listed. plain_live g n (inner_plain _ (all_at (λ q. is_inner_shape (shape_of g q)) ids n listed inner)));
   }
 
   pub are_kept : (Such : ℕ → Type 0)
@@ -90,7 +76,7 @@ module _ {limits : Limits} {mid : Slab Stored} {births : ℕ} {g : Graph} {besid
         → get new k ≡ Some (recount_if (list_any (same_node (record { key = k; birth = x.birth })) ids) fresh x)
     slot_after k x e =
         split (list_any (same_node (record { key = k; birth = x.birth })) ids) (λ t.
-        let f = place_of ids (record { key = k; birth = x.birth }) t in
+        let f = place_listed ids (record { key = k; birth = x.birth }) t in
         re.counted f.0 (record { key = k; birth = x.birth }) x (slice_get_within ids f.0 _ f.1) f.1 e ∙ ap (λ b. Some (recount_if b fresh x)) (sym t))
         (λ t. re.stays k (λ place n low at key.
         let s = live_held h n (live_at place n at) in

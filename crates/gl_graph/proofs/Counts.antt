@@ -1,8 +1,8 @@
 -- The nodes and the records of a file, counted.
-use Rattle.gl_graph.proofs.Words.{[], and_both, ap, ap₂, arith, Bool, born_nodes, cond, cons_option, count_by, false, filter, filter_map, Graph, id_of}
-use Rattle.gl_graph.proofs.Words.{indexes_of, is_child, is_file_shape, is_index_of_shape, is_live, is_record_of, is_record_shape, IsLawfulGraph, length}
-use Rattle.gl_graph.proofs.Words.{length-append, List, list_all, no, Node, node_count, NodeId, nodes, none_some, Option, range_with_len, record_count, refl}
-use Rattle.gl_graph.proofs.Words.{same_node-equal, shape_of, Some, some_is, split, suc, sum_by-cons, sym, true, ℕ, ◌++◌, ◌+◌, ◌∙◌, ◌∷◌, ◌≡◌}
+use Rattle.gl_graph.proofs.Words.{[], and_both, ap, ap₂, arith, Bool, born_nodes, cond, cons_option, count_by, false, filter, filter_map, Graph, id_of, ids_of}
+use Rattle.gl_graph.proofs.Words.{indexes_of, is_child, is_file_shape, is_index_of_shape, is_live, is_record_of, is_record_shape, IsLawfulGraph, keys_of}
+use Rattle.gl_graph.proofs.Words.{length, length-append, List, list_all, no, Node, node_count, NodeId, nodes, none_some, Option, range_with_len, record_count}
+use Rattle.gl_graph.proofs.Words.{refl, same_node-equal, shape_of, Some, some_is, split, suc, sum_by-cons, sym, true, ℕ, ◌++◌, ◌+◌, ◌∙◌, ◌∷◌, ◌≡◌}
 use Rattle.gl_graph.proofs.Look.{finds, there_is}
 use Rattle.gl_graph.proofs.KindRules.{plain_live, file_plain, index_of, index_node}
 use Rattle.gl_graph.proofs.Listings.{map_same}
@@ -34,8 +34,7 @@ nodes_live g = grind (arith, all_mapped, none_some, some_is, there_is, finds)
 
 -- the ids of nodes that are born
 abbrev pub new_ids : ℕ → List Node → List NodeId
-new_ids birth [] = []
-new_ids birth (n ∷ ns) = record { key = n.key; birth = birth } ∷ new_ids (birth + 1) ns
+new_ids birth ns = ids_of birth (keys_of ns)
 
 pub count_ids : (birth : ℕ) (ns : List Node) → length (new_ids birth ns) ≡ length ns
 count_ids birth [] = refl
@@ -70,7 +69,7 @@ module _ (g : Graph) (law : IsLawfulGraph g) (f : NodeId) (dead : is_live g f �
       (λ n live. split (is_index_of_shape f (shape_of g n))
       (λ t.
       let index = index_of f (shape_of g n) t in
-      let node = index_node g law n index.0 index.1 index.2 in
-      let same : f ≡ index.0 = same_node-equal f index.0 (sym (ap (is_index_of_shape f) index.2) ∙ t) in
+      let node = index_node g law n index.0 index.1 index.2 index.3 in
+      let same : f ≡ index.0 = same_node-equal f index.0 (sym (ap (is_index_of_shape f) index.3) ∙ t) in
       absurd (no (sym dead ∙ plain_live g f (file_plain _ (ap (λ q. is_file_shape (shape_of g q)) same ∙ node.file)))))
       (λ t. t))

@@ -1,8 +1,13 @@
 -- No node is listed twice, among the nodes or among the indexes of a file.
-use Rattle.gl_graph.proofs.Words.{[], and_both, are_distinct, arith, Bool, both, false, filter, filter_map, Graph, indexes_of, is_index_of_shape, is_live}
-use Rattle.gl_graph.proofs.Words.{IsLawfulGraph, length, List, list_any, no, NodeId, nodes, none_some, not-true, Option, or_left, or_right, range_with_len}
-use Rattle.gl_graph.proofs.Words.{refl, same_node, same_node-from_equal, shape_of, slice_index_or, Some, some_is, suc, sym, true, zero, ℕ, ◌+◌, ◌<◌, ◌∷◌, ◌≡◌}
-use Rattle.gl_graph.proofs.RouteLengths.{listed}
+use Rattle.gl_graph.proofs.Words.{[], AllByRecursion, and_both, are_distinct, arith, Bool, both, false, filter, filter_map, get_or_from_slice_get, Graph}
+use Rattle.gl_graph.proofs.Words.{indexes_of, is_index_of_shape, is_live, IsLawfulGraph, length, List, list_any, no, no_node, NodeId, nodes, none_some, not}
+use Rattle.gl_graph.proofs.Words.{not-true, Option, or_left, or_right, range_with_len, refl, same_node, same_node-from_equal, shape_of, slice_get}
+use Rattle.gl_graph.proofs.Words.{slice_get_within, slice_index_or, Some, some_is, suc, sym, true, zero, ℕ, ◌+◌, ◌<◌, ◌∙◌, ◌∷◌, ◌≡◌}
+use Rattle.std.specs.List.{IsDistinct}
+use Rattle.std.proofs.lemmas.Map.Made.{length-from_same_keys}
+use Rattle.gl_graph.proofs.Look.{listed_at}
+use Rattle.gl_graph.proofs.RouteLengths.{listed, node_equivalence}
+use Rattle.gl_graph.proofs.Unrefused.{or_no}
 
 -- an item of a listing has the requested birth
 module _ (h : ℕ → Option NodeId) (born : (b : ℕ) (x : NodeId) → h b ≡ Some x → x.birth ≡ b) where
@@ -22,11 +27,11 @@ module _ (p : NodeId → Bool) where
   none_filtered q [] h = refl
   none_filtered q (x ∷ xs) h = grind (arith, none_filtered q xs)
 
-  filter_distinct : (xs : List NodeId) → are_distinct xs ≡ true → are_distinct (filter p xs) ≡ true
+  pub filter_distinct : (xs : List NodeId) → are_distinct xs ≡ true → are_distinct (filter p xs) ≡ true
   filter_distinct [] h = refl
   filter_distinct (x ∷ xs) h = grind (arith, filter_distinct xs, and_both, both, none_filtered, not-true)
 
-  any_filtered : (q : NodeId) (xs : List NodeId) → list_any (same_node q) xs ≡ true → p q ≡ true → list_any (same_node q) (filter p xs) ≡ true
+  pub any_filtered : (q : NodeId) (xs : List NodeId) → list_any (same_node q) xs ≡ true → p q ≡ true → list_any (same_node q) (filter p xs) ≡ true
   any_filtered q [] h k = absurd (no h)
   any_filtered q (x ∷ xs) h k = grind (arith, any_filtered q xs)
 
@@ -50,3 +55,28 @@ one_place (x ∷ xs) zero zero d h low high e = refl
 one_place (x ∷ xs) zero (suc j) d h low high e = grind (arith, no, any_at, and_both)
 one_place (x ∷ xs) (suc i) zero d h low high e = grind (arith, no, any_at, and_both)
 one_place (x ∷ xs) (suc i) (suc j) d h low high e = grind (arith, one_place xs i j d)
+
+-- different living nodes have different keys
+pub keys_apart : (g : Graph) → IsLawfulGraph g → (ids : List NodeId) → are_distinct ids ≡ true
+    → ((n : NodeId) → list_any (same_node n) ids ≡ true → is_live g n ≡ true) → (place other : ℕ) (m n : NodeId)
+    → slice_get ids place ≡ Some m → slice_get ids other ≡ Some n → m.key ≡ n.key → place ≡ other
+keys_apart g law ids distinct live place other m n at at' same =
+    let equal = law.keys_differ m n (live m (listed_at ids place m at)) (live n (listed_at ids other n at')) same in
+    one_place ids place other no_node distinct (slice_get_within ids place m at) (slice_get_within ids other n at')
+    (get_or_from_slice_get ids place m no_node at ∙ equal ∙ sym (get_or_from_slice_get ids other n no_node at'))
+
+-- as std says it
+none_same : (x : NodeId) (xs : List NodeId) → list_any (same_node x) xs ≡ false → AllByRecursion (λ y. same_node x y ≡ false) xs
+none_same x [] h = tt
+none_same x (y ∷ ys) h = let t = or_no (same_node x y) (list_any (same_node x) ys) h in (t.0, none_same x ys t.1)
+
+distinct_is : (xs : List NodeId) → are_distinct xs ≡ true → IsDistinct same_node xs
+unfolding IsDistinct
+distinct_is [] h = tt
+distinct_is (x ∷ xs) h =
+    let t = and_both (not (list_any (same_node x) xs)) (are_distinct xs) h in (none_same x xs (not-true (list_any (same_node x) xs) t.0), distinct_is xs t.1)
+
+-- lists of different nodes are equally long if they have the same nodes
+pub same_length : (xs ys : List NodeId) → are_distinct xs ≡ true → are_distinct ys ≡ true
+    → ((q : NodeId) → list_any (same_node q) xs ≡ list_any (same_node q) ys) → length xs ≡ length ys
+same_length xs ys h k same = length-from_same_keys node_equivalence xs ys (distinct_is xs h) (distinct_is ys k) same

@@ -1,25 +1,18 @@
 -- What the graph says is to be stored beside each node, and how that changes.
-use Rattle.gl_graph.proofs.Words.{[], ap, are_inner, AreInnerParents, arith, beside_in_body, Body, Bool, born_node, children_of, cond, count_by-le-length}
-use Rattle.gl_graph.proofs.Words.{Counts, due, false, File, Graph, HasShape, if◌then◌else◌, Index, indexes_of, Inner, interval, intervals_from}
-use Rattle.gl_graph.proofs.Words.{intervals_in_body, is_child, is_file_shape, is_index_of_shape, is_inner_shape, is_live, is_movable_shape, is_record_shape}
-use Rattle.gl_graph.proofs.Words.{IsLawfulGraph, length, List, list_any, Lists, no, Node, node_at, NodeId, nodes, None, not_true, number_other, number_same}
-use Rattle.gl_graph.proofs.Words.{Option, parents_in, parents_of, record_count, record_parents, refl, rules, same_node, Shape, shape_in, shape_of, slice_get}
-use Rattle.gl_graph.proofs.Words.{Some, Spans, suc, sym, true, without_node, zero, ℕ, ◌&&◌, ◌+◌, ◌-◌, ◌<◌, ◌^◌, ◌∙◌, ◌∷◌, ◌≡◌, ◌≢◌, ◌≤◌}
+use Rattle.gl_graph.proofs.Words.{[], ap, are_inner, AreInnerParents, arith, Bool, born_node, children_of, cond, count_by-le-length}
+use Rattle.gl_graph.proofs.Words.{Counts, due, false, File, Graph, HasShape, if◌then◌else◌, Index, indexes_of, Inner}
+use Rattle.gl_graph.proofs.Words.{is_child, is_file_shape, is_index_of_shape, is_inner_shape, is_live, is_movable_shape, is_record_shape}
+use Rattle.gl_graph.proofs.Words.{IsLawfulGraph, List, list_any, Lists, no, Node, node_at, NodeId, nodes, None, not_true, number_other, number_same}
+use Rattle.gl_graph.proofs.Words.{Option, parents_in, parents_of, record_count, record_parents, refl, rules, same_node, Shape, shape_in, shape_of}
+use Rattle.gl_graph.proofs.Words.{Some, sym, true, without_node, ℕ, ◌&&◌, ◌+◌, ◌-◌, ◌<◌, ◌^◌, ◌∙◌, ◌∷◌, ◌≡◌, ◌≢◌, ◌≤◌}
 use Rattle.gl_graph.specs.declared.node.Body.TheVariants as body
 use Rattle.gl_graph.proofs.Born.{born_frames, old_same}
 use Rattle.gl_graph.proofs.Counts.{count_none, nodes_live}
 use Rattle.gl_graph.proofs.Held.{recounted, due_after}
-use Rattle.gl_graph.proofs.KindRules.{Frames, index_node, interval_kept, plain_live, inner_plain, file_or_interval, parent_is, parent_kind, parent_of_record}
+use Rattle.gl_graph.proofs.KindRules.{Frames, plain_live, inner_plain, file_or_interval, parent_is, parent_kind, parent_of_record}
 use Rattle.gl_graph.proofs.Look.{all_at, child_live, live_node, found_at, there_is}
 use Rattle.gl_graph.proofs.NewNodes.{one_indexes}
 use Rattle.gl_graph.proofs.Tally.{ones, count_where, count_born, count_changed}
-
--- an index that stays has its intervals at the same places
-pub intervals_same : (g g' : Graph) (law : IsLawfulGraph g) → Frames g g' → (n f : NodeId) (bs : List ℕ) → shape_of g n ≡ Some (Index f bs)
-    → (place : ℕ) → place ≤ length bs → interval g' n place ≡ interval g n place
-intervals_same g g' law same n f bs e place low =
-    let node = index_node g law n f bs e in
-    interval_kept g g' law same n place _ (node.intervals place low) refl
 
 -- the children and the records of a node, as tests of nodes
 abbrev pub child_test : NodeId → Option Node → Bool
@@ -40,28 +33,12 @@ record_fixed o k = search rules
 pub not_among : (g : Graph) (ps : List NodeId) (n : NodeId) → are_inner g ps ≡ true → is_live g n ≡ false → list_any (same_node n) ps ≡ false
 not_among g ps n inner dead = grind (arith, not_true, no, plain_live, inner_plain, all_at)
 
--- the intervals of an index, by their places
-pub span_count : (g : Graph) (n : NodeId) (from count : ℕ) → length (intervals_from g n from count) ≡ count
-span_count g n from zero = refl
-span_count g n from (suc count) = ap suc (span_count g n (from + 1) count)
-
-pub span_get : (g : Graph) (n : NodeId) (from count place c : ℕ) → place < count → from + place ≡ c
-    → slice_get (intervals_from g n from count) place ≡ Some (interval g n c)
-span_get g n from zero place c low e = absurd (omega arith)
-span_get g n from (suc count) zero c low e = let same : from ≡ c = omega arith in ap (λ p. Some (interval g n p)) same
-span_get g n from (suc count) (suc place) c low e = span_get g n (from + 1) count place c (omega arith) (omega arith)
-
-pub intervals_stored : (b : Body) (is : List NodeId) → beside_in_body b ≡ Spans is → intervals_in_body b ≡ is
-intervals_stored (body.Index kept above) is e = cc
-intervals_stored _ is e = cc
-
 -- what is due beside a node that stays
 pub due_stays : (g g' : Graph) (n : NodeId) (f : ℕ → ℕ) → node_at g' n ≡ node_at g n
     → (is_inner_shape (shape_of g n) ≡ true → children_of g' n ≡ f (children_of g n))
     → (is_file_shape (shape_of g n) ≡ true → (indexes_of g' n ≡ indexes_of g n) × (record_count g' n ≡ record_count g n))
-    → ((i : NodeId) (bs : List ℕ) → shape_of g n ≡ Some (Index i bs) → (place : ℕ) → place ≤ length bs → interval g' n place ≡ interval g n place)
     → recounted f (due g n) ≡ due g' n
-due_stays g g' n f same inner file index = grind (arith, due_after)
+due_stays g g' n f same inner file = grind (arith, due_after)
 
 no_file : (o : Option Shape) → is_inner_shape o ≡ true → file_or_interval o ≡ true → ⊥
 no_file o h k = search rules
@@ -101,7 +78,7 @@ module _ (g : Graph) (law : IsLawfulGraph g) where
         due_stays g (born_node g node) n f (old_same g law (node ∷ []) n live) (λ i. children_born n ∙ sym (inner i)) (λ h. (
           one_indexes g law node no_index n,
           (let all = records_born n in let none : ones (record_test n (Some node)) ≡ 0 = ap ones (file h) in omega arith),
-        )) (λ i bs e place low. intervals_same g (born_node g node) law born_same n i bs e place low)
+        ))
 
   -- a node goes, and no other one that passes
   pub count_without : (t : Option Node → Bool) (none : t None ≡ false) (g' : Graph) (r : NodeId) → is_live g r ≡ true → g'.births ≡ g.births
@@ -134,7 +111,7 @@ module _ (g : Graph) (law : IsLawfulGraph g) where
         shaped : (sh : Shape) (ps : List NodeId) → is_movable_shape (Some sh) ≡ true → HasShape g n sh ps → AreInnerParents g 0 ps
         shaped Inner ps m k = k
         shaped (File adopted) ps m k = any 1 ps k
-        shaped (Index f bs) ps m k = any 1 ps k.0
+        shaped (Index f bs is) ps m k = any 1 ps k.0
         shaped _ ps m k = absurd (no m)
 
         by : (o : Option Node) → node_at g n ≡ o → AreInnerParents g 0 (parents_in o)

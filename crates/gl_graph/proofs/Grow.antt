@@ -24,7 +24,7 @@ apart_more (y ∷ xs) x h k = grind (arith, apart_more xs x, and_both, or_no, bo
 
 module _ (old now next : Slab Stored) (births : ℕ) (ns : List Node) (grown : IsGrown old births now ns) (key : ℕ) (x : Stored)
     (free : get now key ≡ None) (u : Updates now next key (Some x)) (birth : x.birth ≡ births + length ns + 1)
-    (len : slab_len next ≡ slab_len now + 1) (place : ℕ) (shape : shape_in_body x.body ≡ Interval place) where
+    (len : slab_len next ≡ slab_len now + 1) (shape : shape_in_body x.body ≡ Interval) where
   abbrev more : List Node
   more = ns ++ node_of key (vertex_of x) ∷ []
 
@@ -56,7 +56,7 @@ module _ (old now next : Slab Stored) (births : ℕ) (ns : List Node) (grown : I
     stays = λ k y e. let now_there = grown.stays k y e in u.others k (not_key k y now_there) ∙ now_there;
     came = λ k y e. split (k == key)
         (λ t. let same : x ≡ y = some_is (sym u.changed ∙ ap (get next) (sym (same_number k key t)) ∙ e) in
-        inr (place, ap (λ z. shape_in_body z.body) (sym same) ∙ shape))
+        inr (ap (λ z. shape_in_body z.body) (sym same) ∙ shape))
         (λ t. grown.came k y (sym (u.others k (other_number k key t)) ∙ e));
     vacant = λ k h. or_elim _ _ (sym (listed k) ∙ h) (λ was. grown.vacant k was) (λ is. ap (get old) (sym (same_number key k is)) ∙ was_vacant);
     taken = grind (arith, same_number, other_number, or_elim, listed);
@@ -64,34 +64,33 @@ module _ (old now next : Slab Stored) (births : ℕ) (ns : List Node) (grown : I
   }
 
 -- one more interval
-pub intervals_more : (index : NodeId) (from : ℕ) (keys : List ℕ) (key c : ℕ) → from + length keys ≡ c
-    → interval_nodes index from (keys ++ key ∷ []) ≡ interval_nodes index from keys ++ record { key = key; shape = Interval c; parents = index ∷ [] } ∷ []
-intervals_more index from [] key c e = let same : from ≡ c = omega arith in λ i. record { key = key; shape = Interval (same i); parents = index ∷ [] } ∷ []
-intervals_more index from (k ∷ keys) key c e = grind (arith, intervals_more index (from + 1) keys key c (omega arith))
+pub intervals_more : (index : NodeId) (keys : List ℕ) (key : ℕ)
+    → interval_nodes index (keys ++ key ∷ []) ≡ interval_nodes index keys ++ record { key = key; shape = Interval; parents = index ∷ [] } ∷ []
+intervals_more index [] key = refl
+intervals_more index (k ∷ keys) key = ap (λ xs. record { key = k; shape = Interval; parents = index ∷ [] } ∷ xs) (intervals_more index keys key)
 
 pub ids_more : (birth : ℕ) (keys : List ℕ) (key b : ℕ) → birth + length keys ≡ b → ids_of birth (keys ++ key ∷ []) ≡ ids_of birth keys
     ++ record { key = key; birth = b } ∷ []
 ids_more birth [] key b e = let same : birth ≡ b = omega arith in λ i. record { key = key; birth = same i } ∷ []
 ids_more birth (k ∷ keys) key b e = ap (λ xs. record { key = k; birth = birth } ∷ xs) (ids_more (birth + 1) keys key b (omega arith))
 
-pub count_intervals : (index : NodeId) (from : ℕ) (keys : List ℕ) → length (interval_nodes index from keys) ≡ length keys
-count_intervals index from [] = refl
-count_intervals index from (k ∷ keys) = ap suc (count_intervals index (from + 1) keys)
+pub count_intervals : (index : NodeId) (keys : List ℕ) → length (interval_nodes index keys) ≡ length keys
+count_intervals index [] = refl
+count_intervals index (k ∷ keys) = ap suc (count_intervals index keys)
 
 pub intervals_born : (old now next : Slab Stored) (index : NodeId) (place : ℕ) (ids next_ids : List NodeId)
     (born : AreIntervalsBorn old now index place ids) (key : ℕ) (x : Stored) → get now key ≡ None → Updates now next key (Some x)
     → x.birth ≡ index.birth + 1 + place
-    → slab_len next ≡ slab_len now + 1 → shape_in_body x.body ≡ Interval place → parents_in_body x.body ≡ index ∷ [] → next_ids ≡ ids
+    → slab_len next ≡ slab_len now + 1 → shape_in_body x.body ≡ Interval → parents_in_body x.body ≡ index ∷ [] → next_ids ≡ ids
     ++ record { key = key; birth = index.birth + 1 + place } ∷ [] → AreIntervalsBorn old next index (place + 1) next_ids
 intervals_born old now next index place ids next_ids born key x free u birth len shape parents listed =
     let many = born.many in
-    let nodes = count_intervals index 0 born.keys in
-    let all = intervals_more index 0 born.keys key place (omega arith) in
-    let node : node_of key (vertex_of x) ≡ record { key = key; shape = Interval place; parents = index ∷ [] } = grind arith in
-    let more = grown_more old now next index.birth (interval_nodes index 0 born.keys) born.grown key x free u (omega arith) len place shape in
+    let nodes = count_intervals index born.keys in
+    let node : node_of key (vertex_of x) ≡ record { key = key; shape = Interval; parents = index ∷ [] } = grind arith in
+    let more = grown_more old now next index.birth (interval_nodes index born.keys) born.grown key x free u (omega arith) len shape in
     record {
       keys = born.keys ++ key ∷ [];
       many = length-append born.keys (key ∷ []) ∙ ap (λ n. n + 1) many;
-      grown = subst (IsGrown old index.birth next) (ap (λ n. interval_nodes index 0 born.keys ++ n ∷ []) node ∙ sym all) more;
+      grown = subst (IsGrown old index.birth next) (ap (λ n. interval_nodes index born.keys ++ n ∷ []) node ∙ sym (intervals_more index born.keys key)) more;
       ids_are = grind (arith, listed, ids_more);
     }

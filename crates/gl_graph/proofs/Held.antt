@@ -1,10 +1,10 @@
 -- What the slab holds after each write: the graph it shows, and what it stores beside each node.
 use Rattle.gl_graph.proofs.Words.{[], ap, ap₂, AreBornWithin, AreSound, arith, Beside, beside_in_body, born_node, children_of, Counts, due, due_as, false, File}
-use Rattle.gl_graph.proofs.Words.{get, Graph, Holds, if◌then◌else◌, Index, indexes_of, Inner, interval, intervals_from, is_file_shape, is_live, is_some}
-use Rattle.gl_graph.proofs.Words.{IsLawfulGraph, length, Limits, List, Lists, node_at, node_count, node_is, node_of, NodeId, None, none_some, Option}
+use Rattle.gl_graph.proofs.Words.{get, Graph, Holds, if◌then◌else◌, indexes_of, Inner, is_file_shape, is_live, is_some}
+use Rattle.gl_graph.proofs.Words.{IsLawfulGraph, length, Limits, Lists, node_at, node_count, node_is, node_of, NodeId, None, none_some, Option}
 use Rattle.gl_graph.proofs.Words.{other_number, record_count, refl, same_node, same_node-differ, same_node-refl, same_number, Shape, Slab, slab_len, Some}
-use Rattle.gl_graph.proofs.Words.{some_is, Spans, split, Stored, subst, suc, sym, true, Updates, vertex_of, with_node, without_node, zero, ℕ, ◌+◌, ◌==◌, ◌∙◌}
-use Rattle.gl_graph.proofs.Words.{◌∷◌, ◌≡◌, ◌≢◌, ◌≤◌}
+use Rattle.gl_graph.proofs.Words.{some_is, split, Stored, subst, sym, true, Updates, vertex_of, with_node, without_node, ℕ, ◌+◌, ◌==◌, ◌∙◌}
+use Rattle.gl_graph.proofs.Words.{◌∷◌, ◌≡◌, ◌≢◌}
 use Rattle.gl_graph.proofs.Changed.{nodes_same}
 use Rattle.gl_graph.proofs.Counts.{count_grown}
 use Rattle.gl_graph.proofs.Left.{fewer_nodes}
@@ -25,20 +25,13 @@ put_here n b beside = ap (λ t. if t then b else beside n) (same_node-refl n)
 pub put_other : (n : NodeId) (b : Beside) (beside : NodeId → Beside) (m : NodeId) → same_node m n ≡ false → put n b beside m ≡ beside m
 put_other n b beside m h = ap (λ t. if t then b else beside m) h
 
-spans_same : (g g' : Graph) (n : NodeId) (from count last : ℕ) → from + count ≡ last + 1
-    → ((place : ℕ) → place ≤ last → interval g' n place ≡ interval g n place) → intervals_from g n from count ≡ intervals_from g' n from count
-spans_same g g' n from zero last e same = refl
-spans_same g g' n from (suc count) last e same = grind (arith, spans_same g g' n (from + 1) count last (omega arith) same)
-
 -- what is due beside a node that keeps its shape: another number of children, and all else as it was
 pub due_after : (g g' : Graph) (n : NodeId) (f : ℕ → ℕ) (o : Option Shape) → (o ≡ Some Inner → children_of g' n ≡ f (children_of g n))
     → (is_file_shape o ≡ true → (indexes_of g' n ≡ indexes_of g n) × (record_count g' n ≡ record_count g n))
-    → ((file : NodeId) (bs : List ℕ) → o ≡ Some (Index file bs) → (place : ℕ) → place ≤ length bs → interval g' n place ≡ interval g n place)
     → recounted f (due_as g n o) ≡ due_as g' n o
-due_after g g' n f (Some Inner) inner file index = ap Counts (sym (inner refl))
-due_after g g' n f (Some (File adopted)) inner file index = let t = file refl in ap₂ Lists (sym t.0) (sym t.1)
-due_after g g' n f (Some (Index i bs)) inner file index = ap Spans (spans_same g g' n 0 (length bs + 1) (length bs) (omega arith) (index i bs refl))
-due_after g g' n f _ inner file index = refl
+due_after g g' n f (Some Inner) inner file = ap Counts (sym (inner refl))
+due_after g g' n f (Some (File adopted)) inner file = let t = file refl in ap₂ Lists (sym t.0) (sym t.1)
+due_after g g' n f _ inner file = refl
 
 pub recounted_same : (b : Beside) → recounted (λ c. c) b ≡ b
 recounted_same (Counts children) = refl

@@ -18,7 +18,7 @@ module _ (g : Graph) (law : IsLawfulGraph g) (n : NodeId) (x : Stored) (node : S
   file_in_use above kept is = grind (arith, shape_is, any_counted, records_found, indexes_found)
 
   pub index_file : (above : Vec NodeId Global) (kept : Box IndexBody) → x.body ≡ body.Index kept above → is_file_shape (shape_of g kept.value.file) ≡ true
-  index_file above kept is = (index_node g law n kept.value.file kept.value.bounds.items (shape_is _ is)).file
+  index_file above kept is = (index_node g law n kept.value.file kept.value.bounds.items kept.value.intervals.items (shape_is _ is)).file
 
   pub inner_in_use : (children : ℕ) (above : Vec NodeId Global) → x.body ≡ body.Inner children above → is_in_use g n ≡ nat_lt 0 children
   inner_in_use children above is = grind (arith, inner_due, counted_in, any_counted)

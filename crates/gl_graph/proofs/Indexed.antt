@@ -1,31 +1,38 @@
 -- An index is born with its intervals: what is stored beside the nodes is due again after its file lists it and its parents count it.
 use Rattle.gl_graph.proofs.Words.{[], ap, ap₂, are_apart, AreBornApart, AreBornWithin, AreInnerParents, AreIntervalsBorn, AreRecounted, AreSound, arith, Beside}
 use Rattle.gl_graph.proofs.Words.{beside_in_body, Body, body_with_indexes, body_with_intervals, Bool, born_index, born_node, born_nodes, both, cases_of}
-use Rattle.gl_graph.proofs.Words.{children_of, ContainsKey, count_by, due, due_as, false, get, Global, Graph, graph_of, Holds, ids_of, if◌then◌else◌, Index}
-use Rattle.gl_graph.proofs.Words.{indexes_of, Inside, Interval, interval, interval_nodes, intervals_from, is_inner_shape, is_live, is_some, IsFreeKey}
-use Rattle.gl_graph.proofs.Words.{IsIndexBorn, IsLawfulGraph, IsSound, length, Limits, limits_of, List, list_any, Lists, no, Node, node_at, node_count, node_of}
-use Rattle.gl_graph.proofs.Words.{NodeId, None, none_some, not_true, Nothing, Option, or_elim, parents_in_body, record_count, refl, reindex_refusal, same_node}
-use Rattle.gl_graph.proofs.Words.{same_node-equal, same_number, seen, shape_in, shape_in_body, shape_of, Slab, slab_len, SmallVec, Some, Spans, split, Stored}
-use Rattle.gl_graph.proofs.Words.{subst, suc, sym, true, Updates, Vec, vertex_of, View, view_of, zero, ℕ, ⊎_elim, ◌++◌, ◌+◌, ◌<◌, ◌==◌, ◌^◌, ◌∙◌, ◌∷◌, ◌≡◌, ◌≢◌}
+use Rattle.gl_graph.proofs.Words.{children_of, ContainsKey, count_by, due, due_as, false, fun_ext, get, Global, Graph, graph_of, Holds, ids_of, if◌then◌else◌}
+use Rattle.gl_graph.proofs.Words.{Index, indexes_of, Inside, Interval, interval_nodes, is_inner_shape, is_live, is_some, IsFreeKey, IsIndexBorn, IsLawfulGraph}
+use Rattle.gl_graph.proofs.Words.{IsSound, length, Limits, limits_of, List, list_any, Lists, new_index, no, Node, node_at, node_count, node_of, NodeId, None}
+use Rattle.gl_graph.proofs.Words.{none_some, not_true, Nothing, Option, or_elim, parents_in_body, record_count, refl, reindex_refusal, same_node}
+use Rattle.gl_graph.proofs.Words.{same_node-equal, same_number, seen, shape_in, shape_in_body, shape_of, Slab, slab_len, SmallVec, Some, some_is, split, Stored}
+use Rattle.gl_graph.proofs.Words.{subst, suc, sym, true, Updates, Vec, vertex_of, View, view_of, with_node, zero, ℕ, ⊎_elim, ◌++◌, ◌+◌, ◌<◌, ◌==◌, ◌^◌, ◌||◌}
+use Rattle.gl_graph.proofs.Words.{◌∙◌, ◌∷◌, ◌≡◌, ◌≢◌}
 use Rattle.gl_graph.specs.declared.node.Body.TheVariants as body
-use Rattle.gl_graph.proofs.Born.{old_same, old_or_new, place_in, new_id, new_not_old}
+use Rattle.gl_graph.proofs.Born.{first_written, old_below, old_same, old_or_new, place_in, new_id, new_not_old}
 use Rattle.gl_graph.proofs.Counted.{AreKept, are_kept, counted_in, counts_written}
 use Rattle.gl_graph.proofs.Counts.{count_cons, count_grown}
-use Rattle.gl_graph.proofs.Dues.{child_test, record_test, inner_due, file_due, intervals_same, due_stays, children_fit, one_more}
+use Rattle.gl_graph.proofs.Dues.{child_test, record_test, inner_due, file_due, due_stays, children_fit, one_more}
 use Rattle.gl_graph.proofs.Grow.{count_intervals}
-use Rattle.gl_graph.proofs.Held.{put, put_here, put_other, IsStored, live_held, births_held, within_held, beside_written, node_added, key_free, sound_held}
-use Rattle.gl_graph.proofs.Held.{recounted}
+use Rattle.gl_graph.proofs.Held.{put, put_here, put_other, IsStored, live_held, births_held, within_held, beside_written, node_added, node_written, key_free}
+use Rattle.gl_graph.proofs.Held.{recounted, sound_held}
 use Rattle.gl_graph.proofs.KindRules.{parents_kept, plain_live, inner_plain, file_plain}
 use Rattle.gl_graph.proofs.Look.{all_at, live_node}
-use Rattle.gl_graph.proofs.NewIndex.{keys_of_intervals, interval_node, others, index_there, interval_there, file_index, frames, index_lawful}
-use Rattle.gl_graph.proofs.SameParents.{intervals_shown, indexes_shown}
+use Rattle.gl_graph.proofs.NewIndex.{keys_of_intervals, interval_node, others, file_index, frames, index_lawful}
+use Rattle.gl_graph.proofs.SameParents.{indexes_shown}
 use Rattle.gl_graph.proofs.Slots.{inserted_apart, inserted_within}
 use Rattle.gl_graph.proofs.Tally.{ones, count_borns}
 use Rattle.gl_graph.proofs.Unrefused.{IsRoomyIndex}
 
-intervals_written : (b : Body) (fresh : Vec NodeId Global) (f : NodeId) (bs : List ℕ) → shape_in_body b ≡ Index f bs
-    → beside_in_body (body_with_intervals b fresh) ≡ Spans fresh.items
-intervals_written (body.Index kept above) fresh f bs e = refl
+-- an index without intervals gets some
+record HasIntervals (b was : Body) (f : NodeId) (bs : List ℕ) (is : List NodeId) : Type 0 where
+  pub shape : shape_in_body b ≡ Index f bs is
+  pub parents : parents_in_body b ≡ parents_in_body was
+  pub beside : beside_in_body b ≡ beside_in_body was
+
+intervals_written : (b : Body) (fresh : Vec NodeId Global) (f : NodeId) (bs : List ℕ) → shape_in_body b ≡ Index f bs []
+    → HasIntervals (body_with_intervals b fresh) b f bs fresh.items
+intervals_written (body.Index kept above) fresh f bs e = grind arith
 intervals_written _ fresh f bs e = cc
 
 indexes_written : (b : Body) (fresh : SmallVec NodeId) (is : List NodeId) (k : ℕ) → beside_in_body b ≡ Lists is k
@@ -37,19 +44,10 @@ dead_due : (g : Graph) (n : NodeId) → is_live g n ≡ false → due g n ≡ No
 dead_due g n dead = cases_of (node_at g n) (λ e. ap (λ o. due_as g n (shape_in o)) e) (λ x e. absurd (no (sym dead ∙ ap is_some e)))
 
 -- a test that no interval of the index passes
-none_among : (t : Node → Bool) (index : NodeId) (place : ℕ) (keys : List ℕ)
-    → ((p k : ℕ) → t (record { key = k; shape = Interval p; parents = index ∷ [] }) ≡ false) → count_by t (interval_nodes index place keys) ≡ 0
-none_among t index place [] none = refl
-none_among t index place (k ∷ keys) none = grind (arith, none_among t index (place + 1) keys none)
-
--- the intervals of an index that names each at its place
-spans_listed : (g : Graph) (index : NodeId) (from b : ℕ) (keys : List ℕ)
-    → ((j c d : ℕ) (node : Node) → place_in (interval_nodes index from keys) j ≡ Some node → from + j ≡ c → b + j ≡ d
-    → interval g index c ≡ record { key = node.key; birth = d }) → intervals_from g index from (length keys) ≡ ids_of b keys
-spans_listed g index from b [] at = refl
-spans_listed g index from b (k ∷ keys) at =
-    ap₂ (λ x xs. x ∷ xs) (at 0 from b (record { key = k; shape = Interval from; parents = index ∷ [] }) refl (omega arith) (omega arith))
-    (spans_listed g index (from + 1) (b + 1) keys (λ j c d node e s t. at (suc j) c d node e (omega arith) (omega arith)))
+none_among : (t : Node → Bool) (index : NodeId) (keys : List ℕ)
+    → ((k : ℕ) → t (record { key = k; shape = Interval; parents = index ∷ [] }) ≡ false) → count_by t (interval_nodes index keys) ≡ 0
+none_among t index [] none = refl
+none_among t index (k ∷ keys) none = grind (arith, none_among t index keys none)
 
 -- other room is not seen
 pub roomy_sound : (i : Inside) → IsSound i → (s : Slab Stored) → s ≡ record i.nodes { capacity = s.capacity } → AreSound (limits_of i) s i.births
@@ -83,7 +81,7 @@ module _ {limits : Limits} {old mid : Slab Stored} {births : ℕ} {g : Graph} (h
   pub index_apart : AreBornApart mid
   index_apart = inserted_apart limits old mid births key x h.apart (within_held h law) free u next
 
-  module _ (file : NodeId) (ps : List NodeId) (bounds : List ℕ) (shape : shape_in_body x.body ≡ Index file bounds) (under : parents_in_body x.body ≡ ps)
+  module _ (file : NodeId) (ps : List NodeId) (bounds : List ℕ) (shape : shape_in_body x.body ≡ Index file bounds []) (under : parents_in_body x.body ≡ ps)
       (may : IsRoomyIndex g ps file bounds) (grown : Slab Stored) (ids : List NodeId)
       (born : AreIntervalsBorn mid grown (record { key = key; birth = births + 1 }) (length bounds + 1) ids) where
     born' : AreIntervalsBorn mid grown id (length bounds + 1) ids
@@ -93,10 +91,10 @@ module _ {limits : Limits} {old mid : Slab Stored} {births : ℕ} {g : Graph} (h
     keys = born'.keys
 
     abbrev index : Node
-    index = record { key = key; shape = Index file bounds; parents = ps }
+    index = new_index id ps file bounds keys
 
     abbrev ns : List Node
-    ns = index ∷ interval_nodes id 0 keys
+    ns = index ∷ interval_nodes id keys
 
     abbrev after : Graph
     after = born_index g key ps file bounds keys
@@ -104,19 +102,35 @@ module _ {limits : Limits} {old mid : Slab Stored} {births : ℕ} {g : Graph} (h
     abbrev total : ℕ
     total = births + 1 + (length bounds + 1)
 
-    added : Holds limits mid (births + 1) (born_node g (node_of key (vertex_of x))) (put id (beside_in_body x.body) (due g))
-    added = node_added h law key x free u next len
+    not_live : is_live g id ≡ false
+    not_live = not_true _ (λ t. let low = old_below g law ns id t in absurd (omega arith))
 
-    graph_born : graph_of (seen limits grown total) ≡ after
+    nothing : (b : Body) → shape_in_body b ≡ Index file bounds [] → beside_in_body b ≡ Nothing
+    nothing (body.Inner children above) e = cc
+    nothing (body.File kept above) e = cc
+    nothing _ e = refl
+
+    -- nothing is stored beside the index
+    unchanged : (m : NodeId) → put id (beside_in_body x.body) (due g) m ≡ due g m
+    unchanged m =
+        split (same_node m id) (λ t. ap (λ b. if b then beside_in_body x.body else due g m) t ∙ nothing x.body shape
+        ∙ sym (dead_due g m (ap (is_live g) (same_node-equal m id t) ∙ not_live))) (put_other id (beside_in_body x.body) (due g) m)
+
+    added : Holds limits mid (births + 1) (born_node g (node_of key (vertex_of x))) (due g)
+    added = subst (Holds limits mid (births + 1) (born_node g (node_of key (vertex_of x)))) (fun_ext unchanged) (node_added h law key x free u next len)
+
+    -- the graph before the intervals are listed
+    abbrev unlisted : Graph
+    unlisted = born_nodes g (node_of key (vertex_of x) ∷ interval_nodes id keys)
+
+    graph_born : graph_of (seen limits grown total) ≡ unlisted
     graph_born =
-        let c = count_intervals id 0 keys in
+        let c = count_intervals id keys in
         let m = born'.many in
         let b = births_are in
-        let count : total ≡ g.births + 1 + length (interval_nodes id 0 keys) = omega arith in
-        let node : node_of key (vertex_of x) ≡ index = λ i. record { key = key; shape = shape i; parents = under i } in
+        let count : total ≡ g.births + 1 + length (interval_nodes id keys) = omega arith in
         ap (λ k. graph_of (seen limits grown k)) count ∙ born'.grown.graph limits
-        ∙ ap (λ (g' : Graph). born_nodes g' (interval_nodes id 0 keys))
-        (ap (λ k. graph_of (seen limits mid (k + 1))) births_are ∙ added.graph ∙ ap (born_node g) node)
+        ∙ ap (λ (g' : Graph). born_nodes g' (interval_nodes id keys)) (ap (λ k. graph_of (seen limits mid (k + 1))) births_are ∙ added.graph)
 
     free_key : (k : ℕ) → get old k ≡ None → IsFreeKey g k
     free_key k e n live same = none_some (sym e ∙ ap (get old) (sym same) ∙ (live_held h n live).there)
@@ -124,7 +138,7 @@ module _ {limits : Limits} {old mid : Slab Stored} {births : ℕ} {g : Graph} (h
     free_keys : (k : ℕ) → list_any (λ y. y == k) (key ∷ keys) ≡ true → IsFreeKey g k
     free_keys k e =
         or_elim (key == k) (list_any (λ y. y == k) keys) e (λ here. free_key k (ap (get old) (sym (same_number key k here)) ∙ free))
-        (λ there. free_key k (by k (born'.grown.vacant k (ap (list_any (λ y. y == k)) (keys_of_intervals id 0 keys) ∙ there)) (get old k) refl))
+        (λ there. free_key k (by k (born'.grown.vacant k (ap (list_any (λ y. y == k)) (keys_of_intervals id keys) ∙ there)) (get old k) refl))
       where
         by : (k' : ℕ) → get mid k' ≡ None → (o : Option Stored) → get old k' ≡ o → get old k' ≡ None
         by k' v None e' = e'
@@ -136,37 +150,33 @@ module _ {limits : Limits} {old mid : Slab Stored} {births : ℕ} {g : Graph} (h
     lawful : IsLawfulGraph after
     lawful = index_lawful g law key ps file bounds keys may.inner may.file may.few may.rise may.unused may.indexes born'.many apart_keys free_keys may.room
 
-    -- what is stored of the new nodes, before the index and its file are written
-    abbrev first : NodeId → Beside
-    first = put id (beside_in_body x.body) (due g)
-
-    held_born : Holds limits grown total after first
+    held_born : Holds limits grown total unlisted (due g)
     held_born = record {
       graph = graph_born;
       apart = born'.grown.apart;
-      counted = (let all = count_grown g law ns in
-          let many = count_intervals id 0 keys in
+      counted = (let all = count_grown g law (node_of key (vertex_of x) ∷ interval_nodes id keys) in
           let was = h.counted in
           let grew = born'.grown.len in
-          let same : slab_len grown ≡ node_count after = omega arith in
+          let same : slab_len grown ≡ node_count unlisted = omega arith in
           same);
       kept = λ k y e. by k y e (get mid k) refl;
     }
       where
         by : (k : ℕ) (y : Stored) → get grown k ≡ Some y → (o : Option Stored) → get mid k ≡ o
-            → beside_in_body y.body ≡ first (record { key = k; birth = y.birth })
-        by k y e (Some z) there = grind arith
+            → beside_in_body y.body ≡ due g (record { key = k; birth = y.birth })
+        by k y e (Some z) there = let same = some_is (sym (born'.grown.stays k z there) ∙ e) in
+            subst (λ (w : Stored). beside_in_body w.body ≡ due g (record { key = k; birth = w.birth })) same (added.kept k z there)
         by k y e None there =
             let ne : k ≢ key = λ same. none_some (sym there ∙ ap (get mid) same ∙ u.changed) in
             let dead : is_live g (record { key = k; birth = y.birth }) ≡ false =
             not_true _ (λ t. none_some (sym there ∙ u.others k ne ∙ (live_held h (record { key = k; birth = y.birth }) t).there)) in
             ⊎_elim (λ (was : get mid k ≡ Some y). absurd (none_some (sym there ∙ was)))
-            (λ (new : (place : ℕ) × (shape_in_body y.body ≡ Interval place)). nothing y.body new.0 new.1) (born'.grown.came k y e)
-            ∙ sym (grind arith)
+            (λ (new : shape_in_body y.body ≡ Interval). no_counts y.body new) (born'.grown.came k y e)
+            ∙ sym (dead_due g (record { key = k; birth = y.birth }) dead)
           where
-            nothing : (b : Body) (place : ℕ) → shape_in_body b ≡ Interval place → beside_in_body b ≡ Nothing
-            nothing (body.Interval at up) place e' = refl
-            nothing _ place e' = cc
+            no_counts : (b : Body) → shape_in_body b ≡ Interval → beside_in_body b ≡ Nothing
+            no_counts (body.Interval up) e' = refl
+            no_counts _ e' = cc
 
     live_file : is_live g file ≡ true
     live_file = plain_live g file (file_plain _ may.file)
@@ -195,19 +205,26 @@ module _ {limits : Limits} {old mid : Slab Stored} {births : ℕ} {g : Graph} (h
       pub file_kept : ContainsKey third file.key
       file_kept = ap is_some file_third
 
-      abbrev second : NodeId → Beside
-      second = put id (beside_in_body (body_with_intervals x.body fresh)) first
+      has : HasIntervals (body_with_intervals x.body fresh) x.body file bounds (ids_of (g.births + 1 + 1) keys)
+      has = subst (HasIntervals (body_with_intervals x.body fresh) x.body file bounds) (fresh_is ∙ born'.ids_are)
+          (intervals_written x.body fresh file bounds shape)
 
-      spanned : Holds limits third total after second
+      graph_spanned : with_node unlisted (g.births + 1) (node_of key (vertex_of (record x { body = body_with_intervals x.body fresh }))) ≡ after
+      graph_spanned =
+          ap (with_node unlisted (g.births + 1)) (λ i. record { key = key; shape = has.shape i; parents = (has.parents ∙ under) i })
+          ∙ first_written g (node_of key (vertex_of x)) index (interval_nodes id keys)
+
+      spanned : Holds limits third total after (due g)
       spanned =
-          beside_written held_born id x (record x { body = body_with_intervals x.body fresh }) index_there'
-          (next ∙ ap (λ b. b + 1) (sym births_are)) u3 refl len3 (intervals_shown key x.body fresh)
+          subst (λ (g' : Graph). Holds limits third total g' (due g)) graph_spanned
+          (node_written held_born id x (record x { body = body_with_intervals x.body fresh }) index_there'
+          (next ∙ ap (λ b. b + 1) (sym births_are)) u3 refl len3 has.beside)
 
       module _ (list : SmallVec NodeId) (list_is : list.items ≡ indexes_of g file ++ record { key = key; birth = births + 1 } ∷ []) (fourth : Slab Stored)
           (rewrite : (y : Stored) → get third file.key ≡ Some y
           → Updates third fourth file.key (Some (record y { body = body_with_indexes y.body list }))) (len4 : slab_len fourth ≡ slab_len third) where
         abbrev now : NodeId → Beside
-        now = put file (beside_in_body (body_with_indexes slot.stored.body list)) second
+        now = put file (beside_in_body (body_with_indexes slot.stored.body list)) (due g)
 
         listed : Holds limits fourth total after now
         listed =
@@ -239,18 +256,18 @@ module _ {limits : Limits} {old mid : Slab Stored} {births : ℕ} {g : Graph} (h
         records_kept : (f : NodeId) → record_count after f ≡ record_count g f
         records_kept f =
             let all : record_count after f ≡ record_count g f + count_by (λ n. record_test f (Some n)) ns = count_borns (record_test f) refl g ns in
-            let head : count_by (λ n. record_test f (Some n)) ns ≡ 0 + count_by (λ n. record_test f (Some n)) (interval_nodes id 0 keys) = grind arith in
-            let rest = none_among (λ n. record_test f (Some n)) id 0 keys (λ p k. refl) in
+            let head : count_by (λ n. record_test f (Some n)) ns ≡ 0 + count_by (λ n. record_test f (Some n)) (interval_nodes id keys) = grind arith in
+            let rest = none_among (λ n. record_test f (Some n)) id keys (λ k. refl) in
             omega arith
 
         children_more : (m : NodeId) → is_live g m ≡ true → children_of after m ≡ children_of g m + ones (list_any (same_node m) ps)
         children_more m live =
             let all : children_of after m ≡ children_of g m + count_by (λ n. child_test m (Some n)) ns = count_borns (child_test m) refl g ns in
             let head : count_by (λ n. child_test m (Some n)) ns
-            ≡ ones (list_any (same_node m) ps) + count_by (λ n. child_test m (Some n)) (interval_nodes id 0 keys) =
-            count_cons (λ n. child_test m (Some n)) index (interval_nodes id 0 keys) in
+            ≡ ones (list_any (same_node m) ps) + count_by (λ n. child_test m (Some n)) (interval_nodes id keys) =
+            count_cons (λ n. child_test m (Some n)) index (interval_nodes id keys) in
             let apart : same_node m id ≡ false = grind arith in
-            let rest = none_among (λ n. child_test m (Some n)) id 0 keys (λ p k. ap (λ b. Rattle.std.specs.Prelude.◌||◌ b false) apart) in
+            let rest = none_among (λ n. child_test m (Some n)) id keys (λ k. ap (λ b. b || false) apart) in
             omega arith
 
         due_file : beside_in_body (body_with_indexes slot.stored.body list) ≡ due after file
@@ -258,17 +275,6 @@ module _ {limits : Limits} {old mid : Slab Stored} {births : ℕ} {g : Graph} (h
             indexes_written slot.stored.body list (indexes_of g file) (record_count g file) (slot.kept ∙ file_due g file may.file)
             ∙ ap₂ Lists (grind (arith, births_are, file_index)) (sym (records_kept file))
             ∙ sym (file_due after file ((same_frames.shapes file (file_plain _ may.file)).file ∙ may.file))
-
-        due_index : beside_in_body (body_with_intervals x.body fresh) ≡ due after id
-        due_index =
-            intervals_written x.body fresh file bounds shape
-            ∙ ap Spans (fresh_is ∙ born'.ids_are ∙ sym (spans_listed after id 0 (g.births + 1 + 1) keys (λ j c d node e s t.
-            let place : j ≡ c = omega arith in
-            let birth : g.births + 1 + suc j ≡ d = omega arith in
-            ap (interval after id) (sym place) ∙ interval_there g law key ps file bounds keys j node e
-            ∙ ap (λ b. record { key = node.key; birth = b }) birth))
-            ∙ ap (intervals_from after id 0) born'.many)
-            ∙ sym (ap (λ o. due_as after id (shape_in o)) (index_there g law key ps file bounds keys))
 
         module _ (last : Slab Stored) (re : AreRecounted (λ children. children + 1) fourth last ps (length ps)) where
           settled : Holds limits last total after (λ m. recounted (more m) (now m))
@@ -290,14 +296,9 @@ module _ {limits : Limits} {old mid : Slab Stored} {births : ℕ} {g : Graph} (h
               let same = same_node-equal m file t in
               let lists = indexes_written slot.stored.body list (indexes_of g file) (record_count g file) (slot.kept ∙ file_due g file may.file) in
               ap (λ q. recounted (more q) (now q)) same
-              ∙ ap (recounted (more file)) (put_here file (beside_in_body (body_with_indexes slot.stored.body list)) second ∙ lists) ∙ sym lists
-              ∙ due_file ∙ ap (due after) (sym same)) (λ t. split (same_node m id) (λ w.
-              let same = same_node-equal m id w in
-              let spans = intervals_written x.body fresh file bounds shape in
-              ap (recounted (more m)) (put_other file (beside_in_body (body_with_indexes slot.stored.body list)) second m t ∙ ap second same
-              ∙ put_here id (beside_in_body (body_with_intervals x.body fresh)) first ∙ spans)
-              ∙ sym spans ∙ due_index ∙ ap (due after) (sym same)) (λ w. let y = live_node (node_at after m) live in
-              old_or_new g law ns m y.0 y.1 (λ was. old_due m t (ap is_some was)) (λ k at is. new_due m t w y.0 y.1 k at is))))
+              ∙ ap (recounted (more file)) (put_here file (beside_in_body (body_with_indexes slot.stored.body list)) (due g) ∙ lists) ∙ sym lists
+              ∙ due_file ∙ ap (due after) (sym same)) (λ t. let y = live_node (node_at after m) live in
+              old_or_new g law ns m y.0 y.1 (λ was. old_due m t (ap is_some was)) (λ k at is. new_due m t y.0 y.1 k at is)))
             where
               old_due : (m : NodeId) → same_node m file ≡ false → is_live g m ≡ true → recounted (more m) (now m) ≡ due after m
               old_due m other live =
@@ -305,15 +306,14 @@ module _ {limits : Limits} {old mid : Slab Stored} {births : ℕ} {g : Graph} (h
                   ∙ due_stays g after m (more m) (old_same g law ns m live)
                   (λ i. children_more m live ∙ sym (one_more (list_any (same_node m) ps) (children_of g m)))
                   (λ f. (others g law key ps file bounds keys m other, records_kept m))
-                  (λ i bs e place low. intervals_same g after law same_frames m i bs e place low)
 
-              new_due : (m : NodeId) → same_node m file ≡ false → same_node m id ≡ false → (y : Node) → node_at after m ≡ Some y → (k : ℕ)
+              none_due : (m : NodeId) (y : Node) (k : ℕ) → place_in ns k ≡ Some y → due_as after m (Some y.shape) ≡ Nothing
+              none_due m y zero at = ap (λ (z : Node). due_as after m (Some z.shape)) (sym (some_is at))
+              none_due m y (suc k) at = ap (λ (z : Node). due_as after m (Some z.shape)) (interval_node id keys k y at)
+
+              new_due : (m : NodeId) → same_node m file ≡ false → (y : Node) → node_at after m ≡ Some y → (k : ℕ)
                   → place_in ns k ≡ Some y → m ≡ new_id g law ns y k → recounted (more m) (now m) ≡ due after m
-              new_due m other apart y there zero at is = grind arith
-              new_due m other apart y there (suc k) at is =
-                  let dead : is_live g m ≡ false = not_true _ (λ t. new_not_old g law ns (suc k) y (ap (is_live g) (sym is) ∙ t)) in
-                  ap (recounted (more m)) (put_other file (beside_in_body (body_with_indexes slot.stored.body list)) second m other
-                  ∙ put_other id (beside_in_body (body_with_intervals x.body fresh)) first m apart ∙ put_other id (beside_in_body x.body) (due g) m apart
-                  ∙ dead_due g m dead)
-                  ∙ sym (ap (λ o. due_as after m (shape_in o)) there
-                  ∙ ap (λ (z : Node). due_as after m (Some z.shape)) (interval_node id 0 keys k k y (omega arith) at))
+              new_due m other y there k at is =
+                  let dead : is_live g m ≡ false = not_true _ (λ t. new_not_old g law ns k y (ap (is_live g) (sym is) ∙ t)) in
+                  ap (recounted (more m)) (put_other file (beside_in_body (body_with_indexes slot.stored.body list)) (due g) m other ∙ dead_due g m dead)
+                  ∙ sym (ap (λ o. due_as after m (shape_in o)) there ∙ none_due m y k at)

@@ -1,10 +1,13 @@
 -- The interval of a key is the one that contains it.
-use Rattle.gl_graph.proofs.Words.{[], ap, arith, both, bounds_in, Graph, if◌then◌else◌, interval, interval_at, interval_of, interval_place, IntervalsHoldKeys}
-use Rattle.gl_graph.proofs.Words.{is_index_shape, IsLawfulGraph, IsRising, KeysHaveIntervals, length, List, nat_le, nat_tests, NodeId, None, shape_of}
-use Rattle.gl_graph.proofs.Words.{slice_index_or, Some, split, subst, suc, sym, true, zero, ℕ, ◌<◌, ◌∙◌, ◌∷◌, ◌≡◌, ◌≤◌}
+use Rattle.gl_graph.proofs.Words.{[], ap, arith, bounds_in, get_or_from_slice_get, Graph, interval, interval_at, interval_of, interval_place, intervals_in}
+use Rattle.gl_graph.proofs.Words.{IntervalsHoldKeys, is_index_shape, IsIndexNode, IsLawfulGraph, IsRising, KeysHaveIntervals, length, List, nat_le, nat_tests}
+use Rattle.gl_graph.proofs.Words.{no_node, NodeId, shape_of, slice_get_within, slice_index_or, Some, split, subst, suc, sym, true, zero, ℕ}
+use Rattle.gl_graph.proofs.Words.{◌<◌, ◌∙◌, ◌∷◌, ◌≡◌, ◌≤◌}
 use Rattle.gl_graph.specs.Intervals.{HoldsKey}
+use Rattle.gl_graph.proofs.Distinct.{one_place}
 use Rattle.gl_graph.proofs.KeyPlace.{not_below, place_counted, rising_at}
-use Rattle.gl_graph.proofs.KindRules.{index_in, index_node}
+use Rattle.gl_graph.proofs.KindRules.{at_each_place, index_of_listed, its_rules}
+use Rattle.gl_graph.proofs.Look.{listed_at}
 
 -- the bounds before the place of the key are not above it, and the others are
 record IsPlace (bs : List ℕ) (key k : ℕ) : Type 0 where
@@ -57,39 +60,45 @@ module _ (g : Graph) (law : IsLawfulGraph g) (index : NodeId) (shape : is_index_
   abbrev bs : List ℕ
   bs = bounds_in (shape_of g index)
 
-  rising : IsRising (0 ∷ bs)
-  rising = let i = index_in (shape_of g index) shape in (index_node g law index i.0 bs i.1).rising
+  abbrev rules_of : IsIndexNode g index (its_rules g law index shape).0 bs (intervals_in (shape_of g index))
+  rules_of = (its_rules g law index shape).1
 
   its_place : (key : ℕ) → IsPlace bs key (interval_place bs key)
-  its_place key = place_is bs key rising.1
+  its_place key = place_is bs key rules_of.rising.1
 
   pub has_interval : (key : ℕ) → interval_at g index (interval_place bs key) ≡ Some (interval_of g index key)
-  has_interval key =
-      let low : nat_le (interval_place bs key) (length bs) ≡ true = let w = (its_place key).within in grind (arith, nat_tests) in
-      ap (λ b. if b then Some (interval_of g index key) else None) (both _ _ shape low)
+  has_interval key = at_each_place g law index shape (interval_place bs key) (its_place key).within
 
   pub place_of_held : (place key : ℕ) → place ≤ length bs → HoldsKey bs place key → interval g index place ≡ interval_of g index key
-  place_of_held place key low holds = ap (interval g index) (counted bs key place (held_there bs key place rising low holds))
+  place_of_held place key low holds = ap (interval g index) (counted bs key place (held_there bs key place rules_of.rising low holds))
 
-  pub held_in_place : (place key : ℕ) → interval g index place ≡ interval_of g index key → HoldsKey bs place key
-  held_in_place place key e =
-      let births = ap (λ (n : NodeId). n.birth) e in
-      let same : interval_place bs key ≡ place = omega (arith, births) in
-      subst (λ k. HoldsKey bs k key) same (place_holds bs key (interval_place bs key) (its_place key))
+  -- each of its intervals has one place
+  pub held_in_place : (place key : ℕ) → place ≤ length bs → interval g index place ≡ interval_of g index key → HoldsKey bs place key
+  held_in_place place key low e =
+      let count = rules_of.count in
+      let within = (its_place key).within in
+      let same = one_place (intervals_in (shape_of g index)) place (interval_place bs key) no_node rules_of.distinct (omega arith) (omega arith) e in
+      subst (λ k. HoldsKey bs k key) (sym same) (place_holds bs key (interval_place bs key) (its_place key))
 
 pub keys_have_intervals : KeysHaveIntervals
 keys_have_intervals g law index key shape = (interval_place (bounds_in (shape_of g index)) key, has_interval g law index shape key)
 
--- if an index has an interval at this place
+-- an index that has an interval at this place
 record HasInterval (g : Graph) (index n : NodeId) (place : ℕ) : Type 0 where
   pub shape : is_index_shape (shape_of g index) ≡ true
   pub low : place ≤ length (bounds_in (shape_of g index))
   pub is : n ≡ interval g index place
 
-interval_there : (g : Graph) (index n : NodeId) (place : ℕ) → interval_at g index place ≡ Some n → HasInterval g index n place
-interval_there g index n place at = grind arith
+interval_there : (g : Graph) → IsLawfulGraph g → (index n : NodeId) (place : ℕ) → interval_at g index place ≡ Some n → HasInterval g index n place
+interval_there g law index n place at =
+    let within = slice_get_within (intervals_in (shape_of g index)) place n at in
+    let shape = index_of_listed (shape_of g index) n (listed_at (intervals_in (shape_of g index)) place n at) in
+    let count = (its_rules g law index shape).1.count in
+    record { shape = shape; low = omega arith; is = sym (get_or_from_slice_get (intervals_in (shape_of g index)) place n no_node at) }
 
 pub intervals_hold_keys : IntervalsHoldKeys
 intervals_hold_keys g law index n place key at =
-    let i = interval_there g index n place at in
-    (λ e. held_in_place g law index i.shape place key (sym i.is ∙ e), λ holds. i.is ∙ place_of_held g law index i.shape place key i.low holds)
+    let i = interval_there g law index n place at in (
+      λ e. held_in_place g law index i.shape place key i.low (sym i.is ∙ e),
+      λ holds. i.is ∙ place_of_held g law index i.shape place key i.low holds,
+    )

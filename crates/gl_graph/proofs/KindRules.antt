@@ -1,11 +1,11 @@
 -- What the kinds require is kept if files, indexes, intervals and inner nodes stay as they were: one lemma for each kind.
 use Rattle.gl_graph.proofs.Words.{[], and_both, ap, ap₂, are_inner, AreInnerParents, arith, Bool, bounds_in, cases_of, count_by-le-length, false, File, Graph}
-use Rattle.gl_graph.proofs.Words.{HasShape, Index, indexes_of, Inner, Interval, interval, interval_of, interval_place, intervals_of, is_child, is_file_shape}
-use Rattle.gl_graph.proofs.Words.{is_index_of_shape, is_index_shape, is_inner_shape, is_live, is_record_shape, is_some, IsIndexNode, IsLawfulGraph}
-use Rattle.gl_graph.proofs.Words.{IsWellFormed, key_or_zero, length, List, list_all, list_any, no, Node, node_at, node_is, NodeId, nodes, None, Option, or_elim}
-use Rattle.gl_graph.proofs.Words.{or_left, or_right, place_in, Rec, record_parents, refl, rules, same_node, same_node-equal, Shape, shape_in, shape_of, Some}
-use Rattle.gl_graph.proofs.Words.{subst, sym, true, ℕ, ◌||◌, ◌∙◌, ◌∷◌, ◌≡◌, ◌≤◌}
-use Rattle.gl_graph.proofs.Look.{all_at, all_filter, found_at, shaped_node, child_node, there_is}
+use Rattle.gl_graph.proofs.Words.{HasShape, Index, indexes_of, Inner, Interval, interval, interval_at, interval_of, interval_place, intervals_in, intervals_of}
+use Rattle.gl_graph.proofs.Words.{is_child, is_file_shape, is_index_of_shape, is_index_shape, is_inner_shape, is_interval_shape, is_live, is_record_shape}
+use Rattle.gl_graph.proofs.Words.{IsIndexNode, IsLawfulGraph, IsWellFormed, length, List, list_all, list_any, list_any_at, no, no_node, Node, node_at, NodeId}
+use Rattle.gl_graph.proofs.Words.{nodes, None, Option, or_elim, or_left, or_right, Rec, record_parents, refl, rules, same_node, same_node-equal, same_node-refl}
+use Rattle.gl_graph.proofs.Words.{Shape, shape_in, shape_of, slice_get-get_or, slice_index_or, Some, subst, sym, true, ℕ, ◌||◌, ◌∙◌, ◌∷◌, ◌≡◌, ◌≤◌}
+use Rattle.gl_graph.proofs.Look.{all_at, all_filter, shaped_node, child_node, there_is}
 
 -- a living node that is no record
 abbrev pub is_plain : Option Shape → Bool
@@ -29,18 +29,20 @@ pub rec_not_plain : (o : Option Shape) → is_record_shape o ≡ true → is_pla
 rec_not_plain o h k = search rules
 
 -- an index of a file
-pub index_of : (f : NodeId) (o : Option Shape) → is_index_of_shape f o ≡ true → (file : NodeId) × (bounds : List ℕ) × (o ≡ Some (Index file bounds))
-index_of f (Some (Index file bounds)) h = (file, bounds, refl)
+pub index_of : (f : NodeId) (o : Option Shape) → is_index_of_shape f o ≡ true → (file : NodeId) × (bounds : List ℕ) × (intervals : List NodeId)
+    × (o ≡ Some (Index file bounds intervals))
+index_of f (Some (Index file bounds intervals)) h = (file, bounds, intervals, refl)
 index_of f _ h = absurd (no h)
 
--- an index, with its bounds
-pub index_in : (o : Option Shape) → is_index_shape o ≡ true → (file : NodeId) × (o ≡ Some (Index file (bounds_in o)))
-index_in (Some (Index file bounds)) k = (file, refl)
+-- an index, with its bounds and its intervals
+pub index_in : (o : Option Shape) → is_index_shape o ≡ true → (file : NodeId) × (o ≡ Some (Index file (bounds_in o) (intervals_in o)))
+index_in (Some (Index file bounds intervals)) k = (file, refl)
 index_in _ k = absurd (no k)
 
--- the shape of an interval
-abbrev pub is_interval_shape : Option Shape → Bool
-is_interval_shape o = is_some (place_in o)
+-- only an index has intervals
+pub index_of_listed : (o : Option Shape) (i : NodeId) → list_any (same_node i) (intervals_in o) ≡ true → is_index_shape o ≡ true
+index_of_listed (Some (Index file bounds intervals)) i h = refl
+index_of_listed _ i h = absurd (no h)
 
 -- a parent of a record is a file or an interval
 abbrev pub file_or_interval : Option Shape → Bool
@@ -48,12 +50,12 @@ file_or_interval o = is_file_shape o || is_interval_shape o
 
 -- the kind of a node of which this one is a child
 abbrev pub parent_kind : Shape → Option Shape → Bool
-parent_kind (Interval place) o = is_index_shape o
+parent_kind Interval o = is_index_shape o
 parent_kind (Rec keys) o = file_or_interval o
 parent_kind sh o = is_inner_shape o
 
 kind_plain : (sh : Shape) (o : Option Shape) → parent_kind sh o ≡ true → is_plain o ≡ true
-kind_plain (Interval place) o h = index_plain o h
+kind_plain Interval o h = index_plain o h
 kind_plain (Rec keys) o h = search rules
 kind_plain _ o h = inner_plain o h
 
@@ -63,35 +65,58 @@ pub record AreAlike (o' o : Option Shape) : Type 0 where
   pub file : is_file_shape o' ≡ is_file_shape o
   pub index : is_index_shape o' ≡ is_index_shape o
   pub bounds : bounds_in o' ≡ bounds_in o
+  pub intervals : intervals_in o' ≡ intervals_in o
 
 pub one_shape : (o' o : Option Shape) → o' ≡ o → AreAlike o' o
-one_shape o' o e = record { inner = ap is_inner_shape e; file = ap is_file_shape e; index = ap is_index_shape e; bounds = ap bounds_in e }
+one_shape o' o e = record {
+  inner = ap is_inner_shape e;
+  file = ap is_file_shape e;
+  index = ap is_index_shape e;
+  bounds = ap bounds_in e;
+  intervals = ap intervals_in e;
+}
 
 -- what the kinds of the old nodes read stays as it was
 pub record Frames (g g' : Graph) : Type 0 where
   pub shapes : (q : NodeId) → is_plain (shape_of g q) ≡ true → AreAlike (shape_of g' q) (shape_of g q)
-  pub intervals : (q : NodeId) (place : ℕ) (node : Node) → node_at g q ≡ Some node → node.shape ≡ Interval place → node_at g' q ≡ Some node
+  pub intervals : (q : NodeId) (node : Node) → node_at g q ≡ Some node → node.shape ≡ Interval → node_at g' q ≡ Some node
   pub indexes : (f r : NodeId) → is_record_shape (shape_of g r) ≡ true → is_child g f r ≡ true → indexes_of g' f ≡ indexes_of g f
   pub bounds : g'.most_bounds ≡ g.most_bounds
 
 module _ (g : Graph) (law : IsLawfulGraph g) where
   -- the requirements of each kind
-  pub index_node : (n f : NodeId) (bs : List ℕ) → shape_of g n ≡ Some (Index f bs) → IsIndexNode g n f bs
-  index_node n f bs e =
-      let there = shaped_node g n (Index f bs) e in
+  pub index_node : (n f : NodeId) (bs : List ℕ) (is : List NodeId) → shape_of g n ≡ Some (Index f bs is) → IsIndexNode g n f bs is
+  index_node n f bs is e =
+      let there = shaped_node g n (Index f bs is) e in
       let well = law.well_formed n there.0 there.1 in
       (subst (λ sh. HasShape g n sh there.0.parents) there.2 well).1
 
+  -- an index has a place for each bound, and one more: at each is one of its intervals
+  module _ (n : NodeId) (index : is_index_shape (shape_of g n) ≡ true) where
+    pub its_rules : (f : NodeId) × IsIndexNode g n f (bounds_in (shape_of g n)) (intervals_in (shape_of g n))
+    its_rules = let i = index_in (shape_of g n) index in (i.0, index_node n i.0 (bounds_in (shape_of g n)) (intervals_in (shape_of g n)) i.1)
+
+    pub at_each_place : (place : ℕ) → place ≤ length (bounds_in (shape_of g n)) → interval_at g n place ≡ Some (interval g n place)
+    at_each_place place low = let count = its_rules.1.count in slice_get-get_or (intervals_in (shape_of g n)) place no_node (omega arith)
+
+    pub interval_listed : (place : ℕ) → place ≤ length (bounds_in (shape_of g n))
+        → list_any (same_node (interval g n place)) (intervals_in (shape_of g n)) ≡ true
+    interval_listed place low =
+        let count = its_rules.1.count in
+        list_any_at (same_node (interval g n place)) (intervals_in (shape_of g n)) place no_node (omega arith) (same_node-refl (interval g n place))
+
+  -- each interval of an index has it as its one parent
+  pub each_interval : (n i : NodeId) → list_any (same_node i) (intervals_in (shape_of g n)) ≡ true
+      → node_at g i ≡ Some (record { key = i.key; shape = Interval; parents = n ∷ [] })
+  each_interval n i h = (its_rules n (index_of_listed (shape_of g n) i h)).1.intervals i h
+
   -- the interval of an index that contains a key
   pub interval_is : (f i : NodeId) (k : ℕ) → is_index_of_shape f (shape_of g i) ≡ true
-      → node_at g (interval_of g i k) ≡ Some
-      (record { key = (interval_of g i k).key; shape = Interval (interval_place (bounds_in (shape_of g i)) k); parents = i ∷ [] })
+      → node_at g (interval_of g i k) ≡ Some (record { key = (interval_of g i k).key; shape = Interval; parents = i ∷ [] })
   interval_is f i k h =
-      let index = index_of f (shape_of g i) h in
-      let node = index_node i index.0 index.1 index.2 in
+      let index : is_index_shape (shape_of g i) ≡ true = ap is_index_shape (index_of f (shape_of g i) h).3 in
       let low : interval_place (bounds_in (shape_of g i)) k ≤ length (bounds_in (shape_of g i)) = grind (arith, count_by-le-length) in
-      let few : length (bounds_in (shape_of g i)) ≡ length index.1 = ap (λ o. length (bounds_in o)) index.2 in
-      node.intervals (interval_place (bounds_in (shape_of g i)) k) (omega arith)
+      each_interval i (interval_of g i k) (interval_listed i index (interval_place (bounds_in (shape_of g i)) k) low)
 
   -- the kind of a parent
   interval_among : (f p : NodeId) (is : List NodeId) (keys : List ℕ) → list_all (λ i. is_index_of_shape f (shape_of g i)) is ≡ true
@@ -112,8 +137,8 @@ module _ (g : Graph) (law : IsLawfulGraph g) where
       (all_filter (λ i. is_index_of_shape f (shape_of g i)) (nodes g)) there))
 
   pub parent_by : (sh : Shape) (ps : List NodeId) (q p : NodeId) → HasShape g q sh ps → list_any (same_node p) ps ≡ true → parent_kind sh (shape_of g p) ≡ true
-  parent_by (Index f bs) ps q p h k = all_at (λ x. is_inner_shape (shape_of g x)) ps p k h.0.inner
-  parent_by (Interval place) ps q p h k = grind arith
+  parent_by (Index f bs is) ps q p h k = all_at (λ x. is_inner_shape (shape_of g x)) ps p k h.0.inner
+  parent_by Interval ps q p h k = grind arith
   parent_by (Rec keys) ps q p h k = parent_of_record h.0 p keys h.1.file_is (sym (ap (list_any (same_node p)) h.1.parents) ∙ k)
   parent_by _ ps q p h k = all_at (λ x. is_inner_shape (shape_of g x)) ps p k h.inner
 
@@ -138,22 +163,14 @@ module _ (g g' : Graph) (law : IsLawfulGraph g) (same : Frames g g') where
   pub parents_kept : (least : ℕ) (ps : List NodeId) → AreInnerParents g least ps → AreInnerParents g' least ps
   parents_kept least ps a = record { enough = a.enough; few = a.few; inner = inner_kept ps a.inner; distinct = a.distinct }
 
-  pub interval_kept : (n : NodeId) (place : ℕ) (node : Node) → node_at g (interval g n place) ≡ Some node → node.shape ≡ Interval place
-      → interval g' n place ≡ interval g n place
-  interval_kept n place node e shape =
-      let was = found_at g (interval g n place) node e in
-      let is = found_at g' (interval g n place) node (same.intervals (interval g n place) place node e shape) in
-      node_is (interval g' n place) (interval g n place) (ap key_or_zero (is.0 ∙ sym was.0)) refl
-
-  pub index_kept : (n f : NodeId) (bs : List ℕ) → IsIndexNode g n f bs → IsIndexNode g' n f bs
-  index_kept n f bs h = record {
+  pub index_kept : (n f : NodeId) (bs : List ℕ) (is : List NodeId) → IsIndexNode g n f bs is → IsIndexNode g' n f bs is
+  index_kept n f bs is h = record {
     file = (same.shapes f (file_plain _ h.file)).file ∙ h.file;
     few = subst (λ m. length bs ≤ m) (sym same.bounds) h.few;
     rising = h.rising;
-    intervals = λ place low.
-        let e = h.intervals place low in
-        subst (λ q. node_at g' q ≡ Some (record { key = q.key; shape = Interval place; parents = n ∷ [] })) (sym (interval_kept n place _ e refl))
-        (same.intervals (interval g n place) place _ e refl);
+    count = h.count;
+    distinct = h.distinct;
+    intervals = λ i listed. same.intervals i _ (h.intervals i listed) refl;
   }
 
   pub intervals_kept : (f : NodeId) (is : List NodeId) (keys : List ℕ) → list_all (λ i. is_index_of_shape f (shape_of g i)) is ≡ true
@@ -162,11 +179,8 @@ module _ (g g' : Graph) (law : IsLawfulGraph g) (same : Frames g g') where
   intervals_kept f (i ∷ is) [] h = refl
   intervals_kept f (i ∷ is) (key ∷ keys) h =
       let t = and_both _ _ h in
-      let it = interval_is g law f i key t.0 in
-      let index = index_of f (shape_of g i) t.0 in
-      let shape = same.shapes i (ap is_plain index.2) in
-      let one : interval_of g' i key ≡ interval_of g i key = grind (arith, interval_kept) in
-      ap₂ (λ x xs. x ∷ xs) one (intervals_kept f is keys t.1)
+      let shape = same.shapes i (ap is_plain (index_of f (shape_of g i) t.0).3) in
+      ap₂ (λ x xs. x ∷ xs) (ap₂ (λ bs is'. slice_index_or is' (interval_place bs key) no_node) shape.bounds shape.intervals) (intervals_kept f is keys t.1)
 
   pub record_parents_kept : (f : NodeId) (keys : List ℕ) → indexes_of g' f ≡ indexes_of g f → record_parents g' f keys ≡ record_parents g f keys
   record_parents_kept f keys e =
@@ -178,8 +192,9 @@ module _ (g g' : Graph) (law : IsLawfulGraph g) (same : Frames g g') where
       → HasShape g n sh ps → HasShape g' n sh ps
   shape_kept Inner ps n node e es ep h = parents_kept 0 ps h
   shape_kept (File adopted) ps n node e es ep h = parents_kept 1 ps h
-  shape_kept (Index f bs) ps n node e es ep h = (parents_kept 1 ps h.0, index_kept n f bs h.1)
-  shape_kept (Interval place) ps n node e es ep h = grind (arith, index_plain, interval_kept)
+  shape_kept (Index f bs is) ps n node e es ep h = (parents_kept 1 ps h.0, index_kept n f bs is h.1)
+  shape_kept Interval ps n node e es ep h =
+      let like = same.shapes h.0 (index_plain _ h.2) in (h.0, h.1, like.index ∙ h.2, ap (list_any (same_node n)) like.intervals ∙ h.3)
   shape_kept (Rec keys) ps n node e es ep h =
       let child : is_child g h.0 n ≡ true = grind arith in
       let rec : is_record_shape (shape_of g n) ≡ true = ap (λ o. is_record_shape (shape_in o)) e ∙ ap (λ x. is_record_shape (Some x)) es in

@@ -1,7 +1,7 @@
 -- Looking up nodes: what a test means, and a node's place in the graph.
 use Rattle.gl_graph.proofs.Words.{[], ap, arith, Bool, filter, Graph, if◌then◌else◌, is_child, is_live, is_some, List, list_all, list_any, no, Node, node_at}
-use Rattle.gl_graph.proofs.Words.{NodeId, None, none_some, number_other, number_same, Option, refl, same_node, Shape, shape_of, Some, true, with_key, ℕ, ◌∙◌}
-use Rattle.gl_graph.proofs.Words.{◌∷◌, ◌≡◌, ◌≢◌}
+use Rattle.gl_graph.proofs.Words.{NodeId, None, none_some, number_other, number_same, Option, or_elim, or_left, or_right, refl, same_node, same_node-equal}
+use Rattle.gl_graph.proofs.Words.{same_node-from_equal, Shape, shape_of, slice_get, Some, some_is, suc, sym, true, with_key, zero, ℕ, ◌∙◌, ◌∷◌, ◌≡◌, ◌≢◌}
 
 pub all_at : (q : NodeId → Bool) (ps : List NodeId) (p : NodeId) → list_any (same_node p) ps ≡ true → list_all q ps ≡ true → q p ≡ true
 all_at q [] p h k = absurd (no h)
@@ -44,3 +44,15 @@ one_birth g m n h k e = grind arith
 
 pub misses : (key : ℕ) (o : Option Node) (node : Node) → o ≡ Some node → node.key ≢ key → with_key key o ≡ None
 misses key o node e ne = ap (with_key key) e ∙ ap (λ b. if b then Some node else None) (number_other node.key key ne)
+
+-- a node is among those of a list exactly if it is at a place
+pub listed_at : (ids : List NodeId) (place : ℕ) (n : NodeId) → slice_get ids place ≡ Some n → list_any (same_node n) ids ≡ true
+listed_at [] place n e = absurd (none_some e)
+listed_at (m ∷ ids) zero n e = or_left (same_node n m) _ (same_node-from_equal n m (sym (some_is e)))
+listed_at (m ∷ ids) (suc place) n e = or_right (same_node n m) _ (listed_at ids place n e)
+
+pub place_listed : (ids : List NodeId) (n : NodeId) → list_any (same_node n) ids ≡ true → (place : ℕ) × (slice_get ids place ≡ Some n)
+place_listed [] n h = absurd (no h)
+place_listed (m ∷ ids) n h =
+    or_elim (same_node n m) (list_any (same_node n) ids) h (λ here. (0, ap Some (sym (same_node-equal n m here))))
+    (λ there. let f = place_listed ids n there in (suc f.0, f.1))

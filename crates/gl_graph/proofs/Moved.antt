@@ -60,7 +60,7 @@ module _ (g : Graph) (law : IsLawfulGraph g) (n : NodeId) (was : Node) (there : 
       → AreInnerParents g (least_parents (Some sh)) ps → HasShape g n sh was.parents → HasShape g' n sh ps
   move_well ps g' Inner e m same inner h = parents_kept g g' law same 0 ps inner
   move_well ps g' (File adopted) e m same inner h = parents_kept g g' law same 1 ps inner
-  move_well ps g' (Index f bs) e m same inner h = (parents_kept g g' law same 1 ps inner, index_kept g g' law same n f bs h.1)
+  move_well ps g' (Index f bs is) e m same inner h = (parents_kept g g' law same 1 ps inner, index_kept g g' law same n f bs is h.1)
   move_well ps g' _ e m same inner h = absurd (no m)
 
   pub move_lawful : (ps : List NodeId) → is_movable_shape (Some was.shape) ≡ true → AreInnerParents g (least_parents (Some was.shape)) ps

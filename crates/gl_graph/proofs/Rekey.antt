@@ -1,8 +1,8 @@
 -- One key of a record is written at the place of its index, and its interval at the next place.
 use Rattle.gl_graph.proofs.Words.{[], ap, ap₂, AreSound, arith, beside_in_body, Body, body_rekeyed, body_with_key, Bool, ContainsKey, due, due_as, false}
 use Rattle.gl_graph.proofs.Words.{first_parent, get, Graph, graph_of, Holds, if◌then◌else◌, indexes_of, interval_of, intervals_of, is_index_of_shape, is_live}
-use Rattle.gl_graph.proofs.Words.{is_record_shape, IsLawfulGraph, keys_in, keys_with, length, Limits, List, list_any, no, node_at, node_of, NodeId, None}
-use Rattle.gl_graph.proofs.Words.{none_some, parents_in_body, position, position_or_len, Rec, refl, rekeyed, rekeyed_keys, rekeyed_parents, same_node}
+use Rattle.gl_graph.proofs.Words.{is_record_shape, IsLawfulGraph, keys_in, keys_with, length, Limits, List, list_any, no, no_node, node_at, node_of, NodeId}
+use Rattle.gl_graph.proofs.Words.{None, none_some, parents_in_body, position, position_or_len, Rec, refl, rekeyed, rekeyed_keys, rekeyed_parents, same_node}
 use Rattle.gl_graph.proofs.Words.{same_node-differ, same_node-equal, same_node-refl, same_node-sym, seen, Shape, shape_in, shape_in_body, shape_of, Slab}
 use Rattle.gl_graph.proofs.Words.{slab_len, slice_index_or, slice_set, Some, some_is, Stored, subst, suc, sym, true, Updates, vertex_of, with_node, zero, ℕ}
 use Rattle.gl_graph.proofs.Words.{◌+◌, ◌<◌, ◌^◌, ◌||◌, ◌∙◌, ◌∷◌, ◌≡◌, ◌≢◌}
@@ -19,9 +19,6 @@ use Rattle.gl_graph.proofs.Dues.{record_test, no_inner_parent, no_inner_among, r
 use Rattle.gl_graph.proofs.Held.{IsStored, live_held, sound_held, recounted_same}
 use Rattle.gl_graph.proofs.Tally.{ones}
 use Rattle.gl_graph.proofs.Written.{after, changed, children_changed, due_changed}
-
-no_node : NodeId
-no_node = record { key = 0; birth = 0 }
 
 keys_untouched : (is : List NodeId) (ks : List ℕ) (i : NodeId) (key : ℕ) → length ks ≡ length is
     → ((k : ℕ) (d : NodeId) → k < length is → same_node (slice_index_or is k d) i ≡ false) → keys_with is ks i key ≡ ks
@@ -61,7 +58,7 @@ body_keys : (b : Body) (place key : ℕ) → is_record_shape (Some (shape_in_bod
 body_keys (body.Inner children above) place key h = absurd (no h)
 body_keys (body.File kept above) place key h = absurd (no h)
 body_keys (body.Index kept above) place key h = absurd (no h)
-body_keys (body.Interval at index) place key h = absurd (no h)
+body_keys (body.Interval index) place key h = absurd (no h)
 body_keys _ place key h = refl
 
 record_body : (sh : Shape) → is_record_shape (Some sh) ≡ true → sh ≡ Rec (keys_in (Some sh))
@@ -189,7 +186,7 @@ not_missed p xs h e = grind (arith, low, first_within, none_some)
 pub index_among : (g : Graph) (law : IsLawfulGraph g) (f i : NodeId) → is_index_of_shape f (shape_of g i) ≡ true
     → list_any (λ listed. same_node listed i) (indexes_of g f) ≡ true
 index_among g law f i h =
-    turned (indexes_of g f) ∙ index_listed g law f i (plain_live g i (ap is_plain (index_of f (shape_of g i) h).2)) h
+    turned (indexes_of g f) ∙ index_listed g law f i (plain_live g i (ap is_plain (index_of f (shape_of g i) h).3)) h
   where
     turned : (xs : List NodeId) → list_any (λ listed. same_node listed i) xs ≡ list_any (same_node i) xs
     turned [] = refl

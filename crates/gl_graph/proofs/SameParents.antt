@@ -1,5 +1,5 @@
 -- What a write of a body leaves of its shape and its parents.
-use Rattle.gl_graph.proofs.Words.{Body, body_adopted, body_with_indexes, body_with_intervals, body_with_key, body_with_parent, body_with_parents}
+use Rattle.gl_graph.proofs.Words.{Body, body_adopted, body_with_indexes, body_with_key, body_with_parent, body_with_parents}
 use Rattle.gl_graph.proofs.Words.{body_with_records, body_without_index, Global, is_movable_shape, is_record_shape, no, Node, NodeId, parents_in_body, refl}
 use Rattle.gl_graph.proofs.Words.{shape_in_body, slice_set, SmallVec, Some, true, Vec, ℕ, ◌≡◌}
 use Rattle.gl_graph.specs.declared.node.Body.TheVariants as body
@@ -28,7 +28,7 @@ pub parent_set : (b : Body) (place : ℕ) (n : NodeId) → is_record_shape (Some
 parent_set (body.Inner children above) place n h = absurd (no h)
 parent_set (body.File kept above) place n h = absurd (no h)
 parent_set (body.Index kept above) place n h = absurd (no h)
-parent_set (body.Interval at index) place n h = absurd (no h)
+parent_set (body.Interval index) place n h = absurd (no h)
 parent_set _ place n h = refl
 
 pub parent_set_shape : (b : Body) (place : ℕ) (n : NodeId) → shape_in_body (body_with_parent b place n) ≡ shape_in_body b
@@ -46,10 +46,6 @@ records_shown key _ records = refl
 pub unlisted_shown : (key : ℕ) (b : Body) (n : NodeId) → shown key (body_without_index b n) ≡ shown key b
 unlisted_shown key (body.File kept above) n = refl
 unlisted_shown key _ n = refl
-
-pub intervals_shown : (key : ℕ) (b : Body) (fresh : Vec NodeId Global) → shown key (body_with_intervals b fresh) ≡ shown key b
-intervals_shown key (body.Index kept above) fresh = refl
-intervals_shown key _ fresh = refl
 
 pub indexes_shown : (key : ℕ) (b : Body) (fresh : SmallVec NodeId) → shown key (body_with_indexes b fresh) ≡ shown key b
 indexes_shown key (body.File kept above) fresh = refl

@@ -1,26 +1,26 @@
 -- A record, or a node with its children, is removed: what is stored beside the rest is due again after its parents and its file count it no longer.
 use Rattle.gl_graph.proofs.Words.{◌+◌, ◌-◌, ◌==◌, ◌||◌, ◌∙◌, ◌≡◌, ◌≢◌, ◌≤◌, ◌⊎◌, ap, ap₂, are_distinct, are_inner, AreBornApart, AreGone, AreRecounted}
 use Rattle.gl_graph.proofs.Words.{AreSound, AreStored, arith, Beside, beside_in_body, Body, body_with_records, body_without_index, Bool, Box, children_of}
-use Rattle.gl_graph.proofs.Words.{ContainsKey, due, due_as, false, filter, first_parent, fun_ext, get, Global, Graph, graph_of, Holds, if◌then◌else◌, Index}
-use Rattle.gl_graph.proofs.Words.{IndexBody, indexes_of, inl, inr, interval, intervals_from, intervals_in_body, is_child, is_file_shape, is_in_use}
-use Rattle.gl_graph.proofs.Words.{is_index_of_shape, is_index_shape, is_inner_shape, is_live, is_movable_shape, is_record_shape, is_some, IsLawfulGraph, length}
-use Rattle.gl_graph.proofs.Words.{Limits, List, list_any, Lists, no, node_at, node_is, NodeId, None, none_some, not, not_true, number_same, Option, or_left}
-use Rattle.gl_graph.proofs.Words.{other_number, parents_in, parents_in_body, parents_of, record_count, refl, rules, same_node, same_node-differ}
-use Rattle.gl_graph.proofs.Words.{same_node-equal, same_node-refl, same_node-sym, seen, Shape, shape_in, shape_in_body, shape_of, Slab, slab_len, slice_get}
-use Rattle.gl_graph.proofs.Words.{slice_get_within, Some, some_is, split, Stored, subst, sym, true, Updates, Vec, without_branch, without_node, ℕ}
+use Rattle.gl_graph.proofs.Words.{ContainsKey, due, false, filter, first_parent, fun_ext, get, Global, Graph, graph_of, Holds, if◌then◌else◌, Index, IndexBody}
+use Rattle.gl_graph.proofs.Words.{indexes_of, inl, inr, intervals_in, is_child, is_file_shape, is_in_use, is_index_of_shape, is_index_shape, is_inner_shape}
+use Rattle.gl_graph.proofs.Words.{is_interval_shape, is_live, is_movable_shape, is_record_shape, is_some, IsIndexNode, IsLawfulGraph, length, Limits, List}
+use Rattle.gl_graph.proofs.Words.{list_any, Lists, no, node_at, node_is, NodeId, None, none_some, not, not_true, number_same, Option, or_left, other_number}
+use Rattle.gl_graph.proofs.Words.{parents_in, parents_in_body, parents_of, record_count, refl, rules, same_node, same_node-differ, same_node-equal}
+use Rattle.gl_graph.proofs.Words.{same_node-refl, same_node-sym, seen, Shape, shape_in, shape_in_body, shape_of, Slab, slab_len, slice_get_within, Some}
+use Rattle.gl_graph.proofs.Words.{some_is, split, Stored, subst, sym, true, Updates, Vec, without_branch, without_node, ℕ}
 use Rattle.gl_graph.specs.declared.node.Body.TheVariants as body
 use Rattle.gl_graph.proofs.Added.{records_written}
-use Rattle.gl_graph.proofs.Branch.{at_beside, at_gone, child_interval, children_are, count_left, gone, gone_is, indexes_left, inner_left, interval_count}
-use Rattle.gl_graph.proofs.Branch.{interval_stays, is_interval_shape, left, left_is, left_lawful, left_shape, live, movable_no_interval, no_branch}
-use Rattle.gl_graph.proofs.Branch.{no_interval_file, other_indexes, records_left}
+use Rattle.gl_graph.proofs.Branch.{at_beside, at_gone, child_is, children_are, count_left, gone, gone_is, indexes_left, inner_left, left, left_is, left_lawful}
+use Rattle.gl_graph.proofs.Branch.{left_shape, live, movable_no_interval, no_branch, no_interval_file, other_indexes, records_left}
 use Rattle.gl_graph.proofs.Counted.{are_kept, AreKept, counted_in, counts_written}
-use Rattle.gl_graph.proofs.Dues.{child_test, count_without, due_stays, file_due, inner_due, intervals_same, intervals_stored, no_inner_parent, not_its_own}
-use Rattle.gl_graph.proofs.Dues.{one_less, own_parents, record_fixed, record_test, some_child, span_count, span_get}
+use Rattle.gl_graph.proofs.Distinct.{keys_apart}
+use Rattle.gl_graph.proofs.Dues.{child_test, count_without, due_stays, file_due, inner_due, no_inner_parent, not_its_own, one_less, own_parents, record_fixed}
+use Rattle.gl_graph.proofs.Dues.{record_test, some_child}
 use Rattle.gl_graph.proofs.Held.{beside_written, IsStored, live_held, node_held, node_removed, put, put_here, put_other, recounted, recounted_same, sound_held}
 use Rattle.gl_graph.proofs.KindRules.{file_plain, index_node, inner_plain, plain_live}
-use Rattle.gl_graph.proofs.Look.{finds, live_node}
+use Rattle.gl_graph.proofs.Look.{finds, listed_at, live_node, place_listed}
 use Rattle.gl_graph.proofs.RecordParents.{its_file, record_of_file}
-use Rattle.gl_graph.proofs.Removed.{rec_live, removed_frames, removed_lawful, was_there}
+use Rattle.gl_graph.proofs.Removed.{rec_live, removed_lawful, was_there}
 use Rattle.gl_graph.proofs.SameParents.{records_shown, unlisted_shown}
 use Rattle.gl_graph.proofs.Slots.{at_birth, at_slot, shown, slot_at}
 use Rattle.gl_graph.proofs.Tally.{ones}
@@ -63,7 +63,7 @@ module _ {limits : Limits} {old : Slab Stored} {births : ℕ} {g : Graph} (h : H
         (sym (law.keys_differ file r (plain_live g file (file_plain _ file_is)) rec_lives e)) ∙ file_is)) ∙ slot.there
       where
         no_file : (o : Option Shape) → is_record_shape o ≡ true → is_file_shape o ≡ false
-        no_file (Some (Index f bs)) k = refl
+        no_file (Some (Index f bs is)) k = refl
         no_file (Some (Rattle.gl_graph.specs.Shapes.File adopted)) k = absurd (no k)
         no_file _ k = refl
 
@@ -113,7 +113,7 @@ module _ {limits : Limits} {old : Slab Stored} {births : ℕ} {g : Graph} (h : H
           omega arith) (λ f. (
             Rattle.gl_graph.proofs.Removed.indexes_left g law r rec m,
             (let all = records_less m f in let none : ones (same_node m file) ≡ 0 = ap ones t in omega arith),
-          )) (λ i bs e place low. intervals_same g rest law (removed_frames g law r rec) m i bs e place low)))
+          ))))
 
 interval_fixed : (o : Option Shape) → is_interval_shape o ≡ true → is_movable_shape o ≡ false
 interval_fixed o k = search rules
@@ -156,7 +156,6 @@ module _ {limits : Limits} {old : Slab Stored} {births : ℕ} {g : Graph} (h : H
       → is_index_of_shape m (shape_of g n) ≡ false → recounted f (due g m) ≡ due (left g n) m
   due_left f m alive inner not_its =
       due_stays g (left g n) m f (left_is g n m alive) inner (λ k. (other_indexes g law n movable free m not_its, records_left g law n movable free m))
-      (λ i bs e place low. (interval_stays g law n movable free m i bs e (not_gone m alive) place low).1)
 
   -- the node is gone, and its parents are counted down
   module _ (x : Stored) (there : get old n.key ≡ Some x) (ps : List NodeId) (ps_are : ps ≡ parents_in_body x.body) (s : Slab Stored)
@@ -254,55 +253,35 @@ module _ {limits : Limits} {old : Slab Stored} {births : ℕ} {g : Graph} (h : H
       → ((boxed : Box IndexBody) (above : Vec NodeId Global) → x.body ≡ body.Index boxed above → ⊥) → ⊥
   is_stored_index x at none = grind (arith, its_slot, no)
 
-  module _ (x : Stored) (there : get old n.key ≡ Some x) (f : NodeId) (bs : List ℕ) (shape : shape_in_body x.body ≡ Index f bs) (mid : Slab Stored)
-      (u : Updates old mid n.key None) (len : slab_len mid + 1 ≡ slab_len old) (ids : List NodeId) (ids_are : ids ≡ intervals_in_body x.body) where
+  module _ (x : Stored) (there : get old n.key ≡ Some x) (f : NodeId) (bs : List ℕ) (ids : List NodeId) (shape : shape_in_body x.body ≡ Index f bs ids)
+      (mid : Slab Stored) (u : Updates old mid n.key None) (len : slab_len mid + 1 ≡ slab_len old) where
     same_slot : its_slot.stored ≡ x
     same_slot = some_is (sym its_slot.there ∙ there)
 
     born : x.birth ≡ n.birth
     born = ap (λ (z : Stored). z.birth) (sym same_slot) ∙ its_slot.born
 
-    shape_is : shape_of g n ≡ Some (Index f bs)
+    shape_is : shape_of g n ≡ Some (Index f bs ids)
     shape_is = ap shape_in its_slot.node ∙ ap (λ (z : Stored). Some (shape_in_body z.body)) same_slot ∙ ap Some shape
 
-    spans : ids ≡ intervals_from g n 0 (length bs + 1)
-    spans = ids_are ∙ intervals_stored x.body (intervals_from g n 0 (length bs + 1))
-        (ap (λ (z : Stored). beside_in_body z.body) (sym same_slot) ∙ its_slot.kept ∙ ap (due_as g n) shape_is)
+    its_rule : IsIndexNode g n f bs ids
+    its_rule = index_node g law n f bs ids shape_is
 
-    count_is : length ids ≡ length bs + 1
-    count_is = ap length spans ∙ span_count g n 0 (length bs + 1)
-
-    at_get : (place : ℕ) → place ≤ length bs → slice_get ids place ≡ Some (interval g n place)
-    at_get place low = ap (λ xs. slice_get xs place) spans ∙ span_get g n 0 (length bs + 1) place place (omega arith) (omega arith)
-
-    at_place : (place : ℕ) (m : NodeId) → slice_get ids place ≡ Some m → (place ≤ length bs) × (m ≡ interval g n place)
-    at_place place m e =
-        let within = slice_get_within ids place m e in
-        let many = count_is in
-        let low : place ≤ length bs = omega arith in
-        (low, some_is (sym e ∙ at_get place low))
-
-    interval_is : (place : ℕ) (m : NodeId) → slice_get ids place ≡ Some m
+    interval_is : (m : NodeId) → list_any (same_node m) ids ≡ true
         → (is_live g m ≡ true) × (is_interval_shape (shape_of g m) ≡ true) × (is_child g n m ≡ true)
-    interval_is place m e =
-        let at = at_place place m e in
-        let node = ap (node_at g) at.1 ∙ (index_node g law n f bs shape_is).intervals place at.0 in (grind arith)
+    interval_is m listed = let node = its_rule.intervals m listed in (grind arith)
 
-    key_apart : (place : ℕ) (m : NodeId) → slice_get ids place ≡ Some m → m.key ≢ n.key
-    key_apart place m e same =
-        let it = interval_is place m e in
+    key_apart : (m : NodeId) → list_any (same_node m) ids ≡ true → m.key ≢ n.key
+    key_apart m listed same =
+        let it = interval_is m listed in
         no (sym (movable_no_interval (shape_of g n) movable) ∙ ap (λ q. is_interval_shape (shape_of g q)) (sym (law.keys_differ m n it.0 alive same)) ∙ it.1)
 
     pub intervals_there : AreStored mid ids
     intervals_there = record {
       there = λ place m e.
-          ap is_some (u.others m.key (key_apart place m e) ∙ (live_held h m (interval_is place m e).0).there);
-      apart = λ place other m m' e e' same.
-          let one = at_place place m e in
-          let two = at_place other m' e' in
-          let equal = law.keys_differ m m' (interval_is place m e).0 (interval_is other m' e').0 same in
-          let births' : n.birth + 1 + place ≡ n.birth + 1 + other = ap (λ q. q.birth) (sym one.1 ∙ equal ∙ two.1) in
-          omega arith;
+          let listed = listed_at ids place m e in
+          ap is_some (u.others m.key (key_apart m listed) ∙ (live_held h m (interval_is m listed).0).there);
+      apart = keys_apart g law ids its_rule.distinct (λ m listed. (interval_is m listed).0);
     }
 
     module _ (third : Slab Stored) (taken : AreGone mid third ids (length ids)) where
@@ -314,20 +293,19 @@ module _ {limits : Limits} {old : Slab Stored} {births : ℕ} {g : Graph} (h : H
 
       slots : (k : ℕ) → get third k ≡ left_in g n (get old k)
       slots k =
-          split (k == n.key) (λ t. grind (arith, stays, key_apart, born))
+          split (k == n.key) (λ t. grind (arith, stays, key_apart, born, listed_at))
           (λ t. by (other_number k n.key t) (get old k) refl)
         where
           by : k ≢ n.key → (o : Option Stored) → get old k ≡ o → get third k ≡ left_in g n o
           by ne None e = grind arith
           by ne (Some y) e =
               split (is_child g n (record { key = k; birth = y.birth })) (λ c.
-              let it = child_interval g law n f bs shape_is (record { key = k; birth = y.birth }) c
-              (children_are g law n movable free (record { key = k; birth = y.birth }) c).1 in
-              let at = at_get it.0 it.1 in
-              let within = slice_get_within ids it.0 _ at in
-              ap (λ (q : NodeId). get third q.key) it.2 ∙ taken.gone it.0 (interval g n it.0) within at
+              let listed = sym (child_is g law n movable free (record { key = k; birth = y.birth })) ∙ c in
+              let at = place_listed ids (record { key = k; birth = y.birth })
+              (ap (λ o. list_any (same_node (record { key = k; birth = y.birth })) (intervals_in o)) (sym shape_is) ∙ listed) in
+              taken.gone at.0 (record { key = k; birth = y.birth }) (slice_get_within ids at.0 _ at.1) at.1
               ∙ sym (ap (λ b. if b then None else Some y) (gone_for k y ne e ∙ c))) (λ c. taken.stays k (λ place m low at. λ (key : m.key ≡ k).
-              let found = interval_is place m at in
+              let found = interval_is m (listed_at ids place m at) in
               let z = live_held h m found.0 in
               let same : y ≡ z.stored = some_is (sym e ∙ ap (get old) (sym key) ∙ z.there) in
               let is_m : record { key = k; birth = y.birth } ≡ m = node_is (record { key = k; birth = y.birth }) m (sym key)
@@ -369,12 +347,16 @@ module _ {limits : Limits} {old : Slab Stored} {births : ℕ} {g : Graph} (h : H
               most_bounds = g'.most_bounds;
             }) h.graph;
         apart = still_shown.0;
-        counted = grind (arith, count_left, movable, interval_count, shape_is, count_is);
+        counted = (let all = count_left g law n movable free in
+            let many : length (intervals_in (shape_of g n)) ≡ length ids = ap (λ o. length (intervals_in o)) shape_is in
+            let was = h.counted in
+            let fewer = taken.len in
+            omega arith);
         kept = λ k y e. h.kept k y (stood k y e).0;
       }
 
       is_file : is_file_shape (shape_of g f) ≡ true
-      is_file = (index_node g law n f bs shape_is).file
+      is_file = its_rule.file
 
       file_slot : IsStored old g (due g) f
       file_slot = live_held h f (plain_live g f (file_plain _ is_file))

@@ -1,12 +1,12 @@
 -- The nodes that pass a test, listed and counted: how both change if all stays, if one birth changes, and if nodes are born.
-use Rattle.gl_graph.proofs.Words.{[], and_both, ap, append-nil, ap₂, arith, Bool, born_node, born_nodes, cond, cons_option, count_by, false, filter, filter_map}
-use Rattle.gl_graph.proofs.Words.{filter_map-append, Graph, id_of, if◌then◌else◌, is_live, is_some, length, List, list_all, Node, node_at, node_count, NodeId}
-use Rattle.gl_graph.proofs.Words.{nodes, None, number_same, Option, other_number, range_with_len, refl, same_number, Some, split, suc, sum_by-append, sym, true}
+use Rattle.gl_graph.proofs.Words.{[], ap, append-nil, ap₂, arith, Bool, born_node, born_nodes, cond, cons_option, count_by, false, filter, filter_map}
+use Rattle.gl_graph.proofs.Words.{filter_map-append, Graph, id_of, if◌then◌else◌, List, Node, node_at, NodeId}
+use Rattle.gl_graph.proofs.Words.{nodes, None, number_same, Option, other_number, range_with_len, refl, Some, split, suc, sum_by-append, sym}
 use Rattle.gl_graph.proofs.Words.{zero, ℕ, ◌&&◌, ◌++◌, ◌+◌, ◌<◌, ◌==◌, ◌∙◌, ◌∷◌, ◌≡◌, ◌≢◌, ◌≤◌}
 use Rattle.gl_graph.proofs.Born.{place_in}
 use Rattle.gl_graph.proofs.Look.{finds}
 use Rattle.gl_graph.proofs.Listings.{kept, filter_of_map, map_same, range_append}
-use Rattle.gl_graph.proofs.Counts.{count_cons, nodes_live}
+use Rattle.gl_graph.proofs.Counts.{count_cons}
 
 abbrev pub ones : Bool → ℕ
 ones b = cond b 1 0
@@ -82,40 +82,6 @@ module _ (t : Option Node → Bool) (none : t None ≡ false) where
       let one = count_born g n in
       let head = count_cons (λ m. t (Some m)) n ns in
       omega arith
-
--- so many births in a row are emptied
-pub tally_gap : (p p' : ℕ → Bool) (c k a n : ℕ) → ((b : ℕ) → a ≤ b → (c ≤ b → b < c + k → ⊥) → p' b ≡ p b)
-    → ((b : ℕ) → c ≤ b → b < c + k → (p b ≡ true) × (p' b ≡ false)) → a ≤ c → c + k ≤ a + n
-    → count_by p (range_with_len a n) ≡ count_by p' (range_with_len a n) + k
-tally_gap p p' c zero a n same gap low high = grind (arith, tally_same)
-tally_gap p p' c (suc k) a zero same gap low high = absurd (omega arith)
-tally_gap p p' c (suc k) a (suc n) same gap low high =
-    let head : count_by p (range_with_len a (suc n)) ≡ ones (p a) + count_by p (range_with_len (a + 1) n) = count_cons p a (range_with_len (a + 1) n) in
-    let head' : count_by p' (range_with_len a (suc n)) ≡ ones (p' a) + count_by p' (range_with_len (a + 1) n) = count_cons p' a (range_with_len (a + 1) n) in
-    split (a == c) (λ t.
-    let here : a ≡ c = same_number a c t in
-    let both = gap a (omega arith) (omega arith) in
-    let was : ones (p a) ≡ 1 = ap ones both.0 in
-    let is : ones (p' a) ≡ 0 = ap ones both.1 in
-    let rest = tally_gap p p' (c + 1) k (a + 1) n (λ b l out. same b (omega arith) (λ low' high'. out (omega arith) (omega arith)))
-    (λ b l h. gap b (omega arith) (omega arith)) (omega arith) (omega arith) in
-    omega arith) (λ t.
-    let ne = other_number a c t in
-    let here : ones (p' a) ≡ ones (p a) = ap ones (same a (omega arith) (λ l h. ne (omega arith))) in
-    let rest = tally_gap p p' c (suc k) (a + 1) n (λ b l. same b (omega arith)) gap (omega arith) (omega arith) in
-    omega arith)
-
-pub node_tally : (g : Graph) → node_count g ≡ count_by (λ b. is_some (g.at b)) (range_with_len 1 g.births)
-node_tally g = sym (all (nodes g) (nodes_live g)) ∙ counted_births is_some refl g
-  where
-    all : (xs : List NodeId) → list_all (is_live g) xs ≡ true → count_by (is_live g) xs ≡ length xs
-    all [] h = refl
-    all (x ∷ xs) h =
-        let t = and_both (is_live g x) (list_all (is_live g) xs) h in
-        let head = count_cons (is_live g) x xs in
-        let here : ones (is_live g x) ≡ 1 = ap ones t.0 in
-        let rest = all xs t.1 in
-        omega arith
 
 -- a test of ids and nodes
 module _ (p : NodeId → Option Node → Bool) where

@@ -10,7 +10,7 @@ use Rattle.gl_graph.specs.declared.node.Body.TheVariants as body
 use Rattle.gl_graph.proofs.Branch.{movable_live, movable_no_record}
 use Rattle.gl_graph.proofs.Changed.{IsAlike, at_other, indexes_same, changed_frames}
 use Rattle.gl_graph.proofs.Counted.{AreKept, are_kept, counted_in, counts_written}
-use Rattle.gl_graph.proofs.Dues.{child_test, record_test, inner_due, intervals_same, children_fit, some_child, own_parents, one_moved}
+use Rattle.gl_graph.proofs.Dues.{child_test, record_test, inner_due, children_fit, some_child, own_parents, one_moved}
 use Rattle.gl_graph.proofs.Held.{IsStored, live_held, node_stored, node_written, sound_held, recounted, recounted_same, recounted_twice, due_after}
 use Rattle.gl_graph.proofs.KindRules.{parents_kept, plain_live, inner_plain, file_plain}
 use Rattle.gl_graph.proofs.Look.{found_at}
@@ -65,7 +65,7 @@ module _ {limits : Limits} {old mid : Slab Stored} {births : ℕ} {g : Graph} (h
           indexes_same g n (node_of n.key (vertex_of was)) (node_of n.key (vertex_of x)) node_was refl alike m,
           count_kept (record_test m) refl g after refl (λ b. split (b == n.birth)
               (λ t. ap (record_test m) (at_n b t).1 ∙ file k ∙ sym (ap (record_test m) (at_n b t).0)) (λ t. ap (record_test m) (at_rest b t))),
-        )) (λ i bs e place low. grind (arith, intervals_same, changed_frames, node_was, alike))
+        ))
         ∙ split (same_node m n) (λ t.
         let is = same_node-equal m n t in
         ap (λ q. due_as after q (shape_of g q)) is ∙ ap (λ o. due_as after n (shape_in o)) node_was ∙ sym kind

@@ -19,16 +19,26 @@ abbrev pub born_nodes : Graph → List Node → Graph
 born_nodes g [] = g
 born_nodes g (n ∷ ns) = born_nodes (born_node g n) ns
 
--- intervals of this index from this place on, with these keys
-abbrev pub interval_nodes : NodeId → ℕ → List ℕ → List Node
-interval_nodes index place [] = []
-interval_nodes index place (key ∷ keys) = record { key = key; shape = Interval place; parents = index ∷ [] } ∷ interval_nodes index (place + 1) keys
+-- intervals of this index, with these keys
+abbrev pub interval_nodes : NodeId → List ℕ → List Node
+interval_nodes index [] = []
+interval_nodes index (key ∷ keys) = record { key = key; shape = Interval; parents = index ∷ [] } ∷ interval_nodes index keys
+
+-- the ids of nodes with these keys and births from this one on
+abbrev pub ids_of : ℕ → List ℕ → List NodeId
+ids_of birth [] = []
+ids_of birth (key ∷ keys) = record { key = key; birth = birth } ∷ ids_of (birth + 1) keys
+
+-- an index as it is born: its intervals have these keys, and the births right after its own
+abbrev pub new_index : NodeId → List NodeId → NodeId → List ℕ → List ℕ → Node
+new_index id parents file bounds interval_keys =
+    record { key = id.key; shape = Index file bounds (ids_of (id.birth + 1) interval_keys); parents = parents }
 
 -- the graph after the index is born, and then its intervals in order
 abbrev pub born_index : Graph → ℕ → List NodeId → NodeId → List ℕ → List ℕ → Graph
 born_index g key parents file bounds interval_keys =
     let id : NodeId = record { key = key; birth = g.births + 1 } in
-    born_nodes g (record { key = key; shape = Index file bounds; parents = parents } ∷ interval_nodes id 0 interval_keys)
+    born_nodes g (new_index id parents file bounds interval_keys ∷ interval_nodes id interval_keys)
 
 -- the keys of these nodes
 abbrev pub keys_of : List Node → List ℕ

@@ -1,9 +1,10 @@
 -- The lock graph: a finite map from births to nodes. An id names a node if key and birth agree.
-use Rattle.std.specs.Prelude.{◌≡◌, ◌≢◌, ℕ, ◌+◌, Bool, true, ◌&&◌, ◌==◌, nat_le, List, [], ◌∷◌, length, Option, Some, None, if◌then◌else◌, is_some}
+use Rattle.std.specs.Prelude.{◌≡◌, ◌≢◌, ℕ, Bool, true, ◌&&◌, ◌==◌, nat_le, List, [], ◌∷◌, length, Option, Some, None, if◌then◌else◌, is_some, position}
+use Rattle.std.specs.Prelude.{slice_get, slice_index_or}
 use Rattle.std.specs.List.{filter, filter_map, list_any, range_with_len, count_by}
 use Rattle.gl_modes.specs.declared.node.NodeId.{NodeId}
 use Rattle.gl_modes.specs.Nodes.{same_node}
-use Rattle.gl_graph.specs.Shapes.{Shape, is_record_shape, is_index_of_shape, is_index_shape, bounds_in}
+use Rattle.gl_graph.specs.Shapes.{Shape, is_record_shape, is_index_of_shape, is_interval_shape, bounds_in, intervals_in}
 
 -- a node's key, its shape, and its parents
 pub record Node : Type 0 where
@@ -78,20 +79,17 @@ indexes_of g f = filter (λ n. is_index_of_shape f (shape_of g n)) (nodes g)
 abbrev pub interval_place : List ℕ → ℕ → ℕ
 interval_place bounds key = count_by (λ b. nat_le b key) bounds
 
--- the key of the node, or 0 if there is none
-abbrev pub key_or_zero : Option Node → ℕ
-key_or_zero None = 0
-key_or_zero (Some n) = n.key
+-- the id that names no node
+abbrev pub no_node : NodeId
+no_node = record { key = 0; birth = 0 }
 
--- the interval of an index at this place: an index is born first, then its intervals in order
+-- the interval of an index at this place; the id that names no node if there is none
 abbrev pub interval : Graph → NodeId → ℕ → NodeId
-interval g index place =
-    let birth = index.birth + 1 + place in record { key = key_or_zero (g.at birth); birth = birth }
+interval g index place = slice_index_or (intervals_in (shape_of g index)) place no_node
 
 -- the interval of an index at this place, if the index lives and has one
 abbrev pub interval_at : Graph → NodeId → ℕ → Option NodeId
-interval_at g index place =
-    if is_index_shape (shape_of g index) && nat_le place (length (bounds_in (shape_of g index))) then Some (interval g index place) else None
+interval_at g index place = slice_get (intervals_in (shape_of g index)) place
 
 -- the interval of an index that contains a key
 abbrev pub interval_of : Graph → NodeId → ℕ → NodeId
@@ -113,9 +111,13 @@ is_record_of g f r = is_record_shape (shape_of g r) && is_child g f r
 
 -- the first of these; the id that names no node if there is none
 abbrev pub first_in : List NodeId → NodeId
-first_in [] = record { key = 0; birth = 0 }
+first_in [] = no_node
 first_in (p ∷ ps) = p
 
 -- the first parent of a node; for a record, its file
 abbrev pub first_parent : Graph → NodeId → NodeId
 first_parent g n = first_in (parents_of g n)
+
+-- the place of an interval among those of its one parent, its index; None for another node
+abbrev pub place_of : Graph → NodeId → Option ℕ
+place_of g n = if is_interval_shape (shape_of g n) then position (λ i. same_node i n) (intervals_in (shape_of g (first_parent g n))) else None

@@ -1,12 +1,12 @@
 -- Intervals are inserted into a slab of nodes one after the other, and removed so.
-use Rattle.std.specs.Prelude.{◌≡◌, ◌≢◌, ◌⊎◌, ℕ, ◌+◌, ◌<◌, true, ◌==◌, List, [], ◌∷◌, length, Some, None, is_some, slice_get}
+use Rattle.std.specs.Prelude.{◌≡◌, ◌≢◌, ◌⊎◌, ℕ, ◌+◌, ◌<◌, true, ◌==◌, List, length, Some, None, is_some, slice_get}
 use Rattle.std.specs.List.{list_any}
 use Rattle.gl_modes.specs.declared.node.NodeId.{NodeId}
 use Rattle.slab.specs.Slab.{Slab, get, slab_len}
 use Rattle.gl_graph.specs.declared.node.Node.{Node as Stored}
 use Rattle.gl_graph.specs.Shapes.{Interval}
 use Rattle.gl_graph.specs.Graph.{Node}
-use Rattle.gl_graph.specs.Changes.{born_nodes, interval_nodes, keys_of, are_apart}
+use Rattle.gl_graph.specs.Changes.{born_nodes, ids_of, interval_nodes, keys_of, are_apart}
 use Rattle.gl_graph.specs.View.{graph_of}
 use Rattle.gl_graph.specs.Seen.{shape_in_body, children_in_body, body_with_children, Limits, seen, AreBornApart, AreBornWithin}
 
@@ -17,21 +17,16 @@ pub record IsGrown (old : Slab Stored) (births : ℕ) (new : Slab Stored) (ns : 
   pub within : AreBornWithin new (births + length ns)
   pub len : slab_len new ≡ slab_len old + length ns
   pub stays : (k : ℕ) (x : Stored) → get old k ≡ Some x → get new k ≡ Some x
-  pub came : (k : ℕ) (x : Stored) → get new k ≡ Some x → (get old k ≡ Some x) ⊎ ((place : ℕ) × (shape_in_body x.body ≡ Interval place))
+  pub came : (k : ℕ) (x : Stored) → get new k ≡ Some x → (get old k ≡ Some x) ⊎ (shape_in_body x.body ≡ Interval)
   pub vacant : (k : ℕ) → list_any (λ y. y == k) (keys_of ns) ≡ true → get old k ≡ None
   pub taken : (k : ℕ) → list_any (λ y. y == k) (keys_of ns) ≡ true → is_some (get new k) ≡ true
   pub keys_apart : are_apart (keys_of ns) ≡ true
-
--- the ids of nodes with these keys and births from this one on
-abbrev pub ids_of : ℕ → List ℕ → List NodeId
-ids_of birth [] = []
-ids_of birth (key ∷ keys) = record { key = key; birth = birth } ∷ ids_of (birth + 1) keys
 
 -- so many intervals of an index were born right after it
 pub record AreIntervalsBorn (old new : Slab Stored) (index : NodeId) (count : ℕ) (ids : List NodeId) : Type 0 where
   pub keys : List ℕ
   pub many : length keys ≡ count
-  pub grown : IsGrown old index.birth new (interval_nodes index 0 keys)
+  pub grown : IsGrown old index.birth new (interval_nodes index keys)
   pub ids_are : ids ≡ ids_of (index.birth + 1) keys
 
 -- the nodes with these ids are stored, each under its own key

@@ -1,10 +1,10 @@
 -- Which graphs are lawful: kinds and limits, records under their file and intervals, no cycles.
-use Rattle.std.specs.Prelude.{◌≡◌, ℕ, ◌^◌, ◌≤◌, Bool, true, not, ◌&&◌, nat_lt, List, [], ◌∷◌, length, Some, is_some, ⊤}
+use Rattle.std.specs.Prelude.{◌≡◌, ℕ, ◌+◌, ◌^◌, ◌≤◌, Bool, true, not, ◌&&◌, nat_lt, List, [], ◌∷◌, length, Some, is_some, ⊤}
 use Rattle.std.specs.List.{list_all, list_any}
 use Rattle.gl_modes.specs.declared.node.NodeId.{NodeId}
 use Rattle.gl_modes.specs.Nodes.{same_node}
-use Rattle.gl_graph.specs.Shapes.{Shape, Inner, File, Index, Interval, Rec, is_inner_shape, is_file_shape, is_index_shape, bounds_in}
-use Rattle.gl_graph.specs.Graph.{Graph, Node, node_at, is_live, shape_of, is_child, node_count, indexes_of, interval, record_parents}
+use Rattle.gl_graph.specs.Shapes.{Shape, Inner, File, Index, Interval, Rec, is_inner_shape, is_file_shape, is_index_shape, intervals_in}
+use Rattle.gl_graph.specs.Graph.{Graph, Node, node_at, is_live, shape_of, is_child, node_count, indexes_of, record_parents}
 use Rattle.gl_graph.specs.Routes.{IsAcyclic}
 
 -- these numbers strictly increase
@@ -28,13 +28,14 @@ pub record AreInnerParents (g : Graph) (least : ℕ) (ps : List NodeId) : Type 0
   pub inner : are_inner g ps ≡ true
   pub distinct : are_distinct ps ≡ true
 
--- an index: its file, its bounds, and born right after it, in order, its intervals
-pub record IsIndexNode (g : Graph) (n f : NodeId) (bs : List ℕ) : Type 0 where
+-- an index: its file, its bounds, and its intervals: one more than bounds, all different, each with the index as its one parent
+pub record IsIndexNode (g : Graph) (n f : NodeId) (bs : List ℕ) (is : List NodeId) : Type 0 where
   pub file : is_file_shape (shape_of g f) ≡ true
   pub few : length bs ≤ g.most_bounds
   pub rising : IsRising (0 ∷ bs)
-  pub intervals : (place : ℕ) → place ≤ length bs
-      → (node_at g (interval g n place) ≡ Some (record { key = (interval g n place).key; shape = Interval place; parents = n ∷ [] }))
+  pub count : length is ≡ length bs + 1
+  pub distinct : are_distinct is ≡ true
+  pub intervals : (i : NodeId) → list_any (same_node i) is ≡ true → node_at g i ≡ Some (record { key = i.key; shape = Interval; parents = n ∷ [] })
 
 -- a record: a key for each index of its file; its parents are the file and the intervals of the keys
 pub record IsRecordNode (g : Graph) (keys : List ℕ) (ps : List NodeId) (file : NodeId) : Type 0 where
@@ -46,9 +47,9 @@ pub record IsRecordNode (g : Graph) (keys : List ℕ) (ps : List NodeId) (file :
 abbrev pub HasShape : Graph → NodeId → Shape → List NodeId → Type 0
 HasShape g n Inner ps = AreInnerParents g 0 ps
 HasShape g n (File adopted) ps = AreInnerParents g 1 ps
-HasShape g n (Index f bs) ps = AreInnerParents g 1 ps × IsIndexNode g n f bs
-HasShape g n (Interval place) ps = (index : NodeId) × (ps ≡ index ∷ []) × (is_index_shape (shape_of g index) ≡ true)
-    × (place ≤ length (bounds_in (shape_of g index))) × (n ≡ interval g index place)
+HasShape g n (Index f bs is) ps = AreInnerParents g 1 ps × IsIndexNode g n f bs is
+HasShape g n Interval ps = (index : NodeId) × (ps ≡ index ∷ []) × (is_index_shape (shape_of g index) ≡ true)
+    × (list_any (same_node n) (intervals_in (shape_of g index)) ≡ true)
 HasShape g n (Rec keys) ps = (file : NodeId) × IsRecordNode g keys ps file
 
 -- the node is as its shape requires

@@ -106,7 +106,7 @@ has_children g n = list_any (is_child g n) (nodes g)
 abbrev pub is_shape_in_use : Graph → NodeId → Option Shape → Bool
 is_shape_in_use g n (Some Inner) = has_children g n
 is_shape_in_use g n (Some (File adopted)) = has_records g n || nat_lt 0 (length (indexes_of g n))
-is_shape_in_use g n (Some (Index file bounds)) = has_records g file
+is_shape_in_use g n (Some (Index file bounds intervals)) = has_records g file
 is_shape_in_use g n s = false
 
 -- the node that the id names is in use

@@ -13,14 +13,14 @@ use Rattle.gl_graph.specs.declared.node.Node.{Node}
 use Rattle.gl_graph.specs.Shapes.{Shape, Inner, File, Index, Interval, Rec}
 use Rattle.gl_graph.specs.Graph.{Graph, node_count}
 use Rattle.gl_graph.specs.Lawful.{IsLawfulGraph}
-use Rattle.gl_graph.specs.View.{Vertex, View, graph_of, Beside, Counts, Lists, Spans, Nothing, due}
+use Rattle.gl_graph.specs.View.{Vertex, View, graph_of, Beside, Counts, Lists, Nothing, due}
 
 -- the shape of a body
 abbrev pub shape_in_body : Body → Shape
 shape_in_body (body.Inner children above) = Inner
 shape_in_body (body.File kept above) = File kept.value.adopted
-shape_in_body (body.Index kept above) = Index kept.value.file kept.value.bounds.items
-shape_in_body (body.Interval place index) = Interval place
+shape_in_body (body.Index kept above) = Index kept.value.file kept.value.bounds.items kept.value.intervals.items
+shape_in_body (body.Interval index) = Interval
 shape_in_body (body.NoKey file) = Rec []
 shape_in_body (body.OneKey key above) = Rec key
 shape_in_body (body.TwoKeys keys above) = Rec keys
@@ -32,7 +32,7 @@ abbrev pub parents_in_body : Body → List NodeId
 parents_in_body (body.Inner children above) = above.items
 parents_in_body (body.File kept above) = above.items
 parents_in_body (body.Index kept above) = above.items
-parents_in_body (body.Interval place index) = index
+parents_in_body (body.Interval index) = index
 parents_in_body (body.NoKey file) = file
 parents_in_body (body.OneKey key above) = above
 parents_in_body (body.TwoKeys keys above) = above.value
@@ -54,11 +54,6 @@ abbrev pub children_in_body : Body → ℕ
 children_in_body (body.Inner children above) = children
 children_in_body b = 0
 
--- an index's intervals, as stored
-abbrev pub intervals_in_body : Body → List NodeId
-intervals_in_body (body.Index kept above) = kept.value.intervals.items
-intervals_in_body b = []
-
 -- what a contract sees of a stored node
 abbrev pub vertex_of : Node → Vertex
 vertex_of x = record {
@@ -67,7 +62,6 @@ vertex_of x = record {
   parents = parents_in_body x.body;
   indexes = indexes_in_body x.body;
   records = records_in_body x.body;
-  intervals = intervals_in_body x.body;
 }
 
 -- the same for a slot
@@ -112,7 +106,6 @@ AreBornWithin nodes births = (k : ℕ) (x : Node) → get nodes k ≡ Some x →
 abbrev pub beside_in_body : Body → Beside
 beside_in_body (body.Inner children above) = Counts children
 beside_in_body (body.File kept above) = Lists kept.value.indexes.items kept.value.records
-beside_in_body (body.Index kept above) = Spans kept.value.intervals.items
 beside_in_body b = Nothing
 
 -- the nodes show this graph, and beside each of them this is stored

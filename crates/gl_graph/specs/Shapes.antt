@@ -5,13 +5,13 @@ use Rattle.gl_modes.specs.Nodes.{same_node}
 use Rattle.gl_graph.specs.declared.kind.Kind.{Kind}
 use Rattle.gl_graph.specs.declared.kind.Kind.TheVariants as kind
 
--- a file has whether rows of it were ever adopted (a record of it was made without a transaction, and may be gone), an index its file and its bounds, an
--- interval its place in the index, a record its keys
+-- a file has whether rows of it were ever adopted (a record of it was made without a transaction, and may be gone), an index its file, its bounds and its
+-- intervals in order, a record its keys
 pub data Shape : Type 0 where
   Inner : Shape
   File : (adopted : Bool) → Shape
-  Index : (file : NodeId) → (bounds : List ℕ) → Shape
-  Interval : (place : ℕ) → Shape
+  Index : (file : NodeId) → (bounds : List ℕ) → (intervals : List NodeId) → Shape
+  Interval : Shape
   Rec : (keys : List ℕ) → Shape
 
 -- the kind of the shape, if there is one
@@ -19,8 +19,8 @@ abbrev pub kind_in : Option Shape → Option Kind
 kind_in None = None
 kind_in (Some Inner) = Some kind.Inner
 kind_in (Some (File adopted)) = Some kind.File
-kind_in (Some (Index file bounds)) = Some kind.Index
-kind_in (Some (Interval place)) = Some kind.Interval
+kind_in (Some (Index file bounds intervals)) = Some kind.Index
+kind_in (Some Interval) = Some kind.Interval
 kind_in (Some (Rec keys)) = Some kind.Rec
 
 -- the shape is an inner node's
@@ -45,24 +45,24 @@ is_record_shape s = false
 
 -- the shape is an index's
 abbrev pub is_index_shape : Option Shape → Bool
-is_index_shape (Some (Index file bounds)) = true
+is_index_shape (Some (Index file bounds intervals)) = true
 is_index_shape s = false
 
--- the place of an interval in its index
-abbrev pub place_in : Option Shape → Option ℕ
-place_in (Some (Interval place)) = Some place
-place_in s = None
+-- the shape is an interval's
+abbrev pub is_interval_shape : Option Shape → Bool
+is_interval_shape (Some Interval) = true
+is_interval_shape s = false
 
 -- the shape is that of an index of this file
 abbrev pub is_index_of_shape : NodeId → Option Shape → Bool
-is_index_of_shape f (Some (Index file bounds)) = same_node f file
+is_index_of_shape f (Some (Index file bounds intervals)) = same_node f file
 is_index_of_shape f s = false
 
 -- a node that can be moved: an inner node, a file, an index
 abbrev pub is_movable_shape : Option Shape → Bool
 is_movable_shape (Some Inner) = true
 is_movable_shape (Some (File adopted)) = true
-is_movable_shape (Some (Index file bounds)) = true
+is_movable_shape (Some (Index file bounds intervals)) = true
 is_movable_shape s = false
 
 -- the least number of parents of a movable node
@@ -72,13 +72,18 @@ least_parents o = 1
 
 -- the file of an index
 abbrev pub file_in : Option Shape → Option NodeId
-file_in (Some (Index file bounds)) = Some file
+file_in (Some (Index file bounds intervals)) = Some file
 file_in s = None
 
 -- the bounds of an index
 abbrev pub bounds_in : Option Shape → List ℕ
-bounds_in (Some (Index file bounds)) = bounds
+bounds_in (Some (Index file bounds intervals)) = bounds
 bounds_in s = []
+
+-- the intervals of an index, in order
+abbrev pub intervals_in : Option Shape → List NodeId
+intervals_in (Some (Index file bounds intervals)) = intervals
+intervals_in s = []
 
 -- the keys of a record
 abbrev pub keys_in : Option Shape → List ℕ

@@ -1,18 +1,17 @@
 -- What a contract sees of a `Graph`: the nodes by key, with what is stored beside them.
-use Rattle.std.specs.Prelude.{ℕ, zero, suc, ◌+◌, ◌==◌, List, [], ◌∷◌, length, Option, Some, None, if◌then◌else◌, count_by}
+use Rattle.std.specs.Prelude.{ℕ, ◌+◌, ◌==◌, List, [], ◌∷◌, Option, Some, None, if◌then◌else◌, count_by}
 use Rattle.std.specs.List.{count_by}
 use Rattle.gl_modes.specs.declared.node.NodeId.{NodeId}
-use Rattle.gl_graph.specs.Shapes.{Shape, Inner, File, Index}
-use Rattle.gl_graph.specs.Graph.{Graph, Node, nodes, shape_of, is_child, indexes_of, interval, is_record_of}
+use Rattle.gl_graph.specs.Shapes.{Shape, Inner, File}
+use Rattle.gl_graph.specs.Graph.{Graph, Node, nodes, shape_of, is_child, indexes_of, is_record_of}
 
--- a node, with what is stored for speed: a file's indexes and the number of its records, an index's intervals
+-- a node, with what is stored for speed: a file's indexes and the number of its records
 pub record Vertex : Type 0 where
   pub birth : ℕ
   pub shape : Shape
   pub parents : List NodeId
   pub indexes : List NodeId
   pub records : ℕ
-  pub intervals : List NodeId
 
 -- the node or nothing at each key from 0 on, the number of births so far, the limits of living nodes and of an index's bounds, and the key that the next node
 -- gets
@@ -45,23 +44,16 @@ record_count g f = count_by (is_record_of g f) (nodes g)
 abbrev pub children_of : Graph → NodeId → ℕ
 children_of g n = count_by (is_child g n) (nodes g)
 
--- so many intervals of an index, from a place on
-abbrev pub intervals_from : Graph → NodeId → ℕ → ℕ → List NodeId
-intervals_from g index place zero = []
-intervals_from g index place (suc count) = interval g index place ∷ intervals_from g index (place + 1) count
-
--- what is stored beside a node: of an inner node the number of its children, of a file its indexes and the number of its records, of an index its intervals
+-- what is stored beside a node: of an inner node the number of its children, of a file its indexes and the number of its records
 pub data Beside : Type 0 where
   Counts : (children : ℕ) → Beside
   Lists : (indexes : List NodeId) → (records : ℕ) → Beside
-  Spans : (intervals : List NodeId) → Beside
   Nothing : Beside
 
 -- what the graph says is to be stored beside a node of this shape
 abbrev pub due_as : Graph → NodeId → Option Shape → Beside
 due_as g n (Some Inner) = Counts (children_of g n)
 due_as g n (Some (File adopted)) = Lists (indexes_of g n) (record_count g n)
-due_as g n (Some (Index file bounds)) = Spans (intervals_from g n 0 (length bounds + 1))
 due_as g n s = Nothing
 
 -- and beside this node

@@ -1,16 +1,17 @@
 //! The nodes of a lock graph. Keys are reused; births are not.
 
-ghost use Rattle.std.specs.Prelude.{◌≡◌, ◌≢◌, ◌≤◌, ◌^◌, ℕ, true, IfSome, Option, None, slice_get};
+ghost use Rattle.std.specs.Prelude.{◌≡◌, ◌≢◌, ◌≤◌, ◌^◌, ℕ, true, IfSome, Option, None, position};
 ghost use Rattle.std.specs.Option.{option_map};
+ghost use Rattle.gl_modes.specs.Nodes.{same_node};
 ghost use Rattle.gl_graph.specs.Shapes.{
   bounds_in,
   file_in,
+  intervals_in,
   is_adopted,
   is_file_shape,
   is_index_shape,
   keys_in,
   kind_in,
-  place_in,
 };
 ghost use Rattle.gl_graph.specs.Graph.{
   indexes_of,
@@ -19,6 +20,7 @@ ghost use Rattle.gl_graph.specs.Graph.{
   node_at,
   node_count,
   parents_of,
+  place_of,
   shape_of,
 };
 ghost use Rattle.gl_graph.specs.Lawful.{IsLawfulGraph};
@@ -39,7 +41,7 @@ mod standing;
 
 use crate::bounds::interval_place;
 use crate::kind::Kind;
-use crate::node::Node;
+use crate::node::{Body, Node};
 use crate::store::find;
 
 /// The default limit of nodes that live at once.
@@ -47,6 +49,13 @@ const MOST_NODES: u32 = 65_536;
 
 /// The default limit of an index's bounds.
 const MOST_BOUNDS: u32 = 256;
+
+/// The first place of the node among these.
+fn place_among(ids: &[NodeId], n: NodeId) -> Option<usize>
+    ensures { result ≡ position (λ id. same_node id n) ids.now }
+{
+    ids.iter().position(|id| *id == n)
+}
 
 /// A lawful lock graph: inner nodes, files and indexes under inner nodes, intervals under their
 /// index, records under their file and under one interval of each of its indexes.
@@ -245,7 +254,7 @@ impl Graph {
 
     /// The intervals of an index, in order; none if the id names no index.
     pub fn intervals(&self, index: NodeId) -> &[NodeId]
-        ensures { (place : ℕ) → slice_get result.now place ≡ interval_at (graph_of self.now) index place }
+        ensures { result.now ≡ intervals_in (shape_of (graph_of self.now) index) }
     {
         match self.node(index) {
             Some(node) => node.body.intervals(),
@@ -264,13 +273,17 @@ impl Graph {
         }
     }
 
-    /// The place of an interval in its index, counted from 0; `None` if the id names no interval.
+    /// The place of an interval in its index, counted from 0; `None` if the id names no interval. Needs
+    /// a step for each interval of the index.
     pub fn place(&self, n: NodeId) -> Option<usize>
-        ensures { result ≡ place_in (shape_of (graph_of self.now) n) }
+        ensures { result ≡ place_of (graph_of self.now) n }
     {
-        match self.node(n) {
-            Some(node) => node.body.place(),
-            None => None,
+        let Some(node) = self.node(n) else {
+            return None;
+        };
+        match &node.body {
+            Body::Interval { index: [index] } => place_among(self.intervals(*index), n),
+            _ => None,
         }
     }
 

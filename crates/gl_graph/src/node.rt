@@ -26,7 +26,6 @@ pub(crate) enum Body {
     },
     /// An interval, whose one parent is its index.
     Interval {
-        place: usize,
         index: [NodeId; 1],
     },
     /// A record of a file without indexes, under its file alone.
@@ -62,7 +61,7 @@ pub(crate) struct FileBody {
     pub(crate) adopted: bool,
 }
 
-/// An index's data. Its intervals are stored for the same reason.
+/// An index's data. Which its intervals are, and their order, is stored only here.
 #[derive(Drop)]
 pub(crate) struct IndexBody {
     pub(crate) file: NodeId,
@@ -84,11 +83,11 @@ impl Body {
       Rec,
       bounds_in,
       file_in,
+      intervals_in,
       is_adopted,
       is_movable_shape,
       keys_in,
       kind_in,
-      place_in,
     };
     ghost use Rattle.gl_graph.specs.Seen.{
       IsPlainBody,
@@ -103,7 +102,6 @@ impl Body {
       body_without_index,
       children_in_body,
       indexes_in_body,
-      intervals_in_body,
       parents_in_body,
       records_in_body,
       shape_in_body,
@@ -200,7 +198,7 @@ impl Body {
             Body::Inner { parents, .. } => parents.as_slice(),
             Body::File { parents, .. } => parents.as_slice(),
             Body::Index { parents, .. } => parents.as_slice(),
-            Body::Interval { index, .. } => index.as_slice(),
+            Body::Interval { index } => index.as_slice(),
             Body::NoKey { file } => file.as_slice(),
             Body::OneKey { parents, .. } => parents.as_slice(),
             Body::TwoKeys { parents, .. } => parents.as_slice(),
@@ -264,20 +262,11 @@ impl Body {
     }
 
     pub(crate) fn intervals(&self) -> &[NodeId]
-        ensures { result.now ≡ intervals_in_body self.now }
+        ensures { result.now ≡ intervals_in (Some (shape_in_body self.now)) }
     {
         match self {
             Body::Index { kept, .. } => kept.intervals.as_slice(),
             _ => &[],
-        }
-    }
-
-    pub(crate) fn place(&self) -> Option<usize>
-        ensures { result ≡ place_in (Some (shape_in_body self.now)) }
-    {
-        match self {
-            Body::Interval { place, .. } => Some(*place),
-            _ => None,
         }
     }
 

@@ -189,10 +189,7 @@ pub(crate) fn insert_intervals(
 {
     for place in 0..count {
         let birth = index.birth + 1 + place as u64;
-        let body = Body::Interval {
-            place,
-            index: [index],
-        };
+        let body = Body::Interval { index: [index] };
         let key = nodes.insert_reserved(Node { birth, body });
         ids.push_reserved(NodeId { key, birth });
     }

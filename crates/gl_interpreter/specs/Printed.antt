@@ -6,8 +6,7 @@ use Rattle.gl_modes.specs.declared.refusal.Refusal.{Refusal}
 use Rattle.gl_modes.specs.declared.refusal.Refusal.TheVariants as no
 use Rattle.gl_modes.specs.Modes.{mode_text}
 use Rattle.gl_modes.specs.Refusals.{refusal_name, refusal_number}
-use Rattle.gl_graph.specs.Graph.{first_parent, shape_of}
-use Rattle.gl_graph.specs.Shapes.{place_in}
+use Rattle.gl_graph.specs.Graph.{first_parent, place_of}
 use Rattle.gl_model.specs.declared.answers.Effect.{Effect}
 use Rattle.gl_model.specs.declared.answers.Effect.TheVariants as effect
 use Rattle.gl_model.specs.declared.answers.Notice.{Notice}
@@ -34,7 +33,7 @@ called_at s n (Some place) = node_text (Interval (s.names.node_name (first_paren
 
 -- the text of a node
 abbrev pub called : Script → NodeId → Text
-called s n = called_at s n (place_in (shape_of s.locks.graph n))
+called s n = called_at s n (place_of s.locks.graph n)
 
 -- the nodes that a line uses, in order, without the one that it declares
 abbrev pub used_nodes : Command → List Node

@@ -6,9 +6,8 @@ use Rattle.gl_modes.specs.declared.node.NodeId.{NodeId}
 use Rattle.gl_modes.specs.declared.refusal.Refusal.{Refusal}
 use Rattle.gl_modes.specs.Modes.{mode_text}
 use Rattle.gl_modes.specs.Nodes.{same_node}
-use Rattle.gl_graph.specs.Graph.{shape_of}
+use Rattle.gl_graph.specs.Graph.{place_of}
 use Rattle.gl_graph.specs.Refusals.{first_refusal}
-use Rattle.gl_graph.specs.Shapes.{place_in}
 use Rattle.gl_header.specs.Header.{Waiter, holds}
 use Rattle.gl_slots.specs.Slots.{has_slot, slot_limit}
 use Rattle.gl_model.specs.declared.deadlock.Stuck.{Stuck}
@@ -101,7 +100,7 @@ kept_at s n None = or_dash (s.names.node_name n)
 kept_at s n (Some place) = called_at s n (Some place)
 
 abbrev pub kept_node : Script → NodeId → Text
-kept_node s n = 32 ∷ kept_at s n (place_in (shape_of s.locks.graph n))
+kept_node s n = 32 ∷ kept_at s n (place_of s.locks.graph n)
 
 -- a transaction of a deadlock waited for another
 abbrev pub wait_row : Script → Stuck → Stuck → Text

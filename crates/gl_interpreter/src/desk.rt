@@ -1,8 +1,7 @@
 //! The state of a script between two lines: the names that it has declared, and its lock manager.
 
 ghost use Rattle.std.specs.Prelude.{◌≡◌, [], false, is_some};
-ghost use Rattle.gl_graph.specs.Graph.{first_parent, shape_of};
-ghost use Rattle.gl_graph.specs.Shapes.{place_in};
+ghost use Rattle.gl_graph.specs.Graph.{first_parent, place_of};
 ghost use Rattle.gl_script.specs.Views.{command_of, node_of, nodes_of};
 ghost use Rattle.gl_interpreter.specs.Names.{no_names};
 ghost use Rattle.gl_interpreter.specs.Rows.{name_at};
@@ -319,7 +318,7 @@ impl Desk {
 
     /// The place of an interval in its index; `None` for any other node.
     pub(crate) fn place(&self, node: NodeId) -> Option<usize>
-        ensures { result ≡ place_in (shape_of (script_of self.now).locks.graph node) }
+        ensures { result ≡ place_of (script_of self.now).locks.graph node }
     {
         self.manager.graph().place(node)
     }

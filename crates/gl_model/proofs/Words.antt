@@ -61,7 +61,8 @@ pub use Rattle.gl_graph.proofs.RouteLengths.{listed, live_end, route_short}
 pub use Rattle.gl_graph.proofs.SoundMoved.{inner_live}
 pub use Rattle.gl_graph.proofs.Unrefused.{index_unrefused, no_cycle, not_false, not_refused, or_no, parents_unrefused, record_unrefused, test_fails}
 pub use Rattle.gl_graph.proofs.Words.{◌^◌}
-pub use Rattle.gl_graph.specs.Changes.{born_nodes, interval_nodes, IsAdopted, IsBorn, IsIndexBorn, marked, rekeyed, rekeyed_keys, rekeyed_parents, with_node}
+pub use Rattle.gl_graph.specs.Changes.{born_nodes, interval_nodes, IsAdopted, IsBorn, IsIndexBorn, marked, new_index, rekeyed, rekeyed_keys, rekeyed_parents}
+pub use Rattle.gl_graph.specs.Changes.{with_node}
 pub use Rattle.gl_graph.specs.Changes.{with_parents, without_node}
 pub use Rattle.gl_graph.specs.Graph.{first_in, first_parent, Graph, indexes_of, interval_of, intervals_of, is_child, is_live, Node, node_at, node_count, nodes}
 pub use Rattle.gl_graph.specs.Graph.{parents_in, parents_of, record_parents, shape_in, shape_of, with_key}

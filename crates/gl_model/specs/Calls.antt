@@ -376,7 +376,7 @@ held_tests s t n = no_txn s t ∷ no_node s n ∷ []
 
 -- the nodes that must be held in X to drop a node: it and, for an index, its file
 abbrev pub locked_to_drop : NodeId → Option Shape → List NodeId
-locked_to_drop n (Some (Index file bounds)) = n ∷ file ∷ []
+locked_to_drop n (Some (Index file bounds intervals)) = n ∷ file ∷ []
 locked_to_drop n o = n ∷ []
 
 -- why a node in use is not dropped: an inner node has a child, else the file has a record or an index

@@ -1,23 +1,22 @@
 -- A node is dropped: a file keeps its other indexes, and if a file and its keys are a row before and after, its parents are the same nodes.
-use Rattle.std.specs.Prelude.{◌≡◌, ℕ, ◌≤◌, Bool, true, false, not, List, [], ◌∷◌, ◌++◌, length, Some, nat_le, if◌then◌else◌}
+use Rattle.std.specs.Prelude.{◌≡◌, ℕ, Bool, true, false, not, List, [], ◌∷◌, ◌++◌, length, Option, slice_index_or, if◌then◌else◌}
 use Rattle.std.specs.List.{filter, list_all, list_any}
-use Rattle.std.proofs.Common.{refl, sym, ap, ◌∙◌, arith}
+use Rattle.std.proofs.Common.{refl, sym, ap, ◌∙◌, arith, rules}
 use Rattle.std.proofs.lemmas.List.{nil_from_length}
 use Rattle.std.proofs.lemmas.List.Elements.{filter-append}
 use Rattle.std.proofs.lemmas.List.Filters.{length-filter_both}
-use Rattle.std.proofs.lemmas.List.Sums.{count_by-le-length}
 use Rattle.gl_modes.proofs.Words.{and_both, clash, no, not_true, split}
 use Rattle.gl_modes.proofs.NodeLemmas.{same_node-equal}
 use Rattle.gl_modes.specs.declared.node.NodeId.{NodeId}
 use Rattle.gl_modes.specs.Nodes.{same_node}
 use Rattle.gl_graph.specs.Changes.{without_branch}
-use Rattle.gl_graph.specs.Graph.{Graph, indexes_of, interval, interval_of, interval_place, nodes, record_parents, shape_in, shape_of}
+use Rattle.gl_graph.specs.Graph.{Graph, indexes_of, interval_of, interval_place, no_node, nodes, record_parents, shape_in, shape_of}
 use Rattle.gl_graph.specs.Lawful.{IsLawfulGraph}
 use Rattle.gl_graph.specs.Refusals.{is_in_use}
-use Rattle.gl_graph.specs.Shapes.{Index, Shape, bounds_in, is_index_of_shape, is_index_shape, is_movable_shape}
-use Rattle.gl_graph.proofs.Branch.{children_are, indexes_left, interval_stays, is_interval_shape, live, stays_left}
+use Rattle.gl_graph.specs.Shapes.{Shape, bounds_in, intervals_in, is_index_of_shape, is_index_shape, is_interval_shape, is_movable_shape}
+use Rattle.gl_graph.proofs.Branch.{children_are, indexes_left, live, stays_left}
 use Rattle.gl_graph.proofs.Distinct.{index_listed}
-use Rattle.gl_graph.proofs.KindRules.{index_of, index_plain, plain_live}
+use Rattle.gl_graph.proofs.KindRules.{index_plain, plain_live}
 use Rattle.gl_graph.proofs.Look.{all_filter}
 use Rattle.gl_graph.proofs.RecordParents.{index_of_index}
 use Rattle.gl_steps.proofs.ToldGrants.{any_filtered}
@@ -35,21 +34,16 @@ module _ (m : Graph) (law : IsLawfulGraph m) (n : NodeId) (movable : is_movable_
   abbrev left : Graph
   left = without_branch m n
 
-  no_interval : (o : Shape) → is_index_shape (Some o) ≡ true → is_interval_shape (Some o) ≡ false
-  no_interval (Index f bs) h = refl
-  no_interval o h = absurd (no h)
+  no_interval : (o : Option Shape) → is_index_shape o ≡ true → is_interval_shape o ≡ false
+  no_interval o h = search rules
 
   -- the intervals of another index
   pub others_stay : (f i : NodeId) (key : ℕ) → is_index_of_shape f (shape_of m i) ≡ true → same_node n i ≡ false → interval_of left i key ≡ interval_of m i key
   others_stay f i key h other =
-      let it = index_of f (shape_of m i) h in
       let on = plain_live m i (index_plain (shape_of m i) (index_of_index f (shape_of m i) h)) in
-      let apart = not_true _ (λ c. clash (children_are m law n movable free i c).1 (ap is_interval_shape it.2)) in
-      let low : interval_place (bounds_in (shape_of m i)) key ≤ length (bounds_in (shape_of m i)) =
-      count_by-le-length (λ b. nat_le b key) (bounds_in (shape_of m i)) in
-      let few : length (bounds_in (shape_of m i)) ≡ length it.1 = ap (λ o. length (bounds_in o)) it.2 in
-      ap (λ o. interval left i (interval_place (bounds_in (shape_in o)) key)) (stays_left m n (live m law n movable free) i on other apart)
-      ∙ (interval_stays m law n movable free i it.0 it.1 it.2 other (interval_place (bounds_in (shape_of m i)) key) (omega arith)).1
+      let apart = not_true _ (λ c. clash (children_are m law n movable free i c).1 (no_interval (shape_of m i) (index_of_index f (shape_of m i) h))) in
+      ap (λ o. slice_index_or (intervals_in (shape_in o)) (interval_place (bounds_in (shape_in o)) key) no_node)
+      (stays_left m n (live m law n movable free) i on other apart)
 
   -- for a file that kept its indexes since g, if this node was none of them
   pub dropped_keeps : (g : Graph) (f : NodeId) → IsLawfulGraph g → KeepsIndexes g m f → is_index_of_shape f (shape_of g n) ≡ false → KeepsIndexes g left f

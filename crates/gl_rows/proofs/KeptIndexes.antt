@@ -1,23 +1,22 @@
 -- The indexes of a file stay, with their intervals: changes of the graph keep them, and a new index is added after those of the file.
-use Rattle.std.specs.Prelude.{◌≡◌, ℕ, ◌+◌, ◌||◌, true, List, [], ◌∷◌, ◌++◌, length, Some, is_some}
+use Rattle.std.specs.Prelude.{◌≡◌, ℕ, ◌+◌, ◌||◌, true, List, [], ◌∷◌, ◌++◌, length, Some, slice_index_or}
 use Rattle.std.specs.List.{list_all, list_any}
 use Rattle.std.proofs.Common.{refl, sym, ap, ap₂, ◌∙◌, arith}
 use Rattle.std.proofs.lemmas.List.{append-nil, append_assoc, length-append, nil_from_length}
 use Rattle.std.proofs.lemmas.List.Folds.{list_any-append}
 use Rattle.gl_modes.proofs.Words.{and_both}
-use Rattle.gl_modes.proofs.NodeLemmas.{node_is}
 use Rattle.gl_modes.specs.Nodes.{same_node}
 use Rattle.gl_modes.specs.declared.node.NodeId.{NodeId}
 use Rattle.gl_graph.specs.Changes.{born_nodes, marked, with_node, without_node}
-use Rattle.gl_graph.specs.Graph.{Graph, Node, indexes_of, interval, interval_of, interval_place, intervals_of, key_or_zero, node_at, nodes, record_parents}
+use Rattle.gl_graph.specs.Graph.{Graph, Node, indexes_of, interval_of, interval_place, intervals_of, no_node, node_at, nodes, record_parents}
 use Rattle.gl_graph.specs.Graph.{shape_in, shape_of}
 use Rattle.gl_graph.specs.Lawful.{IsLawfulGraph}
-use Rattle.gl_graph.specs.Shapes.{Interval, bounds_in, is_index_of_shape, is_record_shape}
+use Rattle.gl_graph.specs.Shapes.{is_index_of_shape, is_record_shape}
 use Rattle.gl_graph.proofs.Born.{indexes_grown, new_indexes, old_same}
 use Rattle.gl_graph.proofs.Changed.{IsAlike, changed_frames, indexes_same}
 use Rattle.gl_graph.proofs.Distinct.{index_listed}
-use Rattle.gl_graph.proofs.KindRules.{AreAlike, Frames, index_plain, interval_is, is_plain, one_shape, plain_live}
-use Rattle.gl_graph.proofs.Look.{all_at, all_filter, found_at}
+use Rattle.gl_graph.proofs.KindRules.{AreAlike, index_plain, is_plain, one_shape, plain_live}
+use Rattle.gl_graph.proofs.Look.{all_at, all_filter}
 use Rattle.gl_graph.proofs.Marked.{marked_indexes, marked_interval_of}
 use Rattle.gl_graph.proofs.RecordParents.{index_of_index}
 use Rattle.gl_graph.proofs.Removed.{indexes_left, removed_frames}
@@ -50,23 +49,15 @@ keeps_trans g m g' f law a b = record {
   intervals = λ i key h. b.intervals i key (index_still g m f law a i h) ∙ a.intervals i key h;
 }
 
--- a node that is no record keeps its shape, and an interval stays as it was
-pub record LooksSame (g g' : Graph) : Type 0 where
-  pub shapes : (q : NodeId) → is_plain (shape_of g q) ≡ true → AreAlike (shape_of g' q) (shape_of g q)
-  pub intervals : (q : NodeId) (place : ℕ) (node : Node) → node_at g q ≡ Some node → node.shape ≡ Interval place → node_at g' q ≡ Some node
+-- a node that is no record keeps its shape
+abbrev pub LooksSame : Graph → Graph → Type 0
+LooksSame g g' = (q : NodeId) → is_plain (shape_of g q) ≡ true → AreAlike (shape_of g' q) (shape_of g q)
 
-frames_same : (g g' : Graph) → Frames g g' → LooksSame g g'
-frames_same g g' frames = record { shapes = frames.shapes; intervals = frames.intervals }
-
-module _ (g g' : Graph) (law : IsLawfulGraph g) (same : LooksSame g g') (f : NodeId) where
+module _ (g g' : Graph) (same : LooksSame g g') (f : NodeId) where
   interval_stays : (i : NodeId) (key : ℕ) → is_index_of_shape f (shape_of g i) ≡ true → interval_of g' i key ≡ interval_of g i key
   interval_stays i key h =
-      let it = interval_is g law f i key h in
-      let place : ℕ = interval_place (bounds_in (shape_of g i)) key in
-      let was = found_at g (interval_of g i key) _ it in
-      let is = found_at g' (interval_of g i key) _ (same.intervals (interval_of g i key) place _ it refl) in
-      ap (λ bs. interval g' i (interval_place bs key)) (same.shapes i (index_plain _ (index_of_index f _ h))).bounds
-      ∙ node_is (interval g' i place) (interval g i place) (ap key_or_zero (is.0 ∙ sym was.0)) refl
+      let alike = same i (index_plain _ (index_of_index f _ h)) in
+      ap₂ (λ bs is. slice_index_or is (interval_place bs key) no_node) alike.bounds alike.intervals
 
   looks_keeps : (more : List NodeId) → indexes_of g' f ≡ indexes_of g f ++ more → KeepsIndexes g g' f
   looks_keeps more indexes = record { indexes = (more, indexes); intervals = interval_stays }
@@ -77,13 +68,9 @@ module _ (g g' : Graph) (law : IsLawfulGraph g) (same : LooksSame g g') (f : Nod
 
 -- nodes are born
 pub born_keeps : (g : Graph) → IsLawfulGraph g → (ns : List Node) (f : NodeId) → KeepsIndexes g (born_nodes g ns) f
-born_keeps g law ns f = looks_keeps g (born_nodes g ns) law by f (new_indexes g law ns f) (indexes_grown g law ns f)
-  where
-    by : LooksSame g (born_nodes g ns)
-    by = record {
-      shapes = λ q h. one_shape _ _ (ap shape_in (old_same g law ns q (plain_live g q h)));
-      intervals = λ q place node e shape. old_same g law ns q (ap is_some e) ∙ e;
-    }
+born_keeps g law ns f =
+    looks_keeps g (born_nodes g ns) (λ q h. one_shape _ _ (ap shape_in (old_same g law ns q (plain_live g q h)))) f (new_indexes g law ns f)
+    (indexes_grown g law ns f)
 
 -- a file is marked as one of which rows were adopted
 pub marked_keeps : (g : Graph) (x f : NodeId) → KeepsIndexes g (marked g x) f
@@ -95,14 +82,13 @@ marked_keeps g x f = record {
 -- a record is removed
 pub removed_keeps : (g : Graph) → IsLawfulGraph g → (r : NodeId) → is_record_shape (shape_of g r) ≡ true → (f : NodeId) → KeepsIndexes g (without_node g r) f
 removed_keeps g law r rec f =
-    stays_keeps g (without_node g r) law (frames_same g (without_node g r) (removed_frames g law r rec)) f (indexes_left g law r rec f)
+    stays_keeps g (without_node g r) (removed_frames g law r rec).shapes f (indexes_left g law r rec f)
 
 -- a node has other parents, a record other keys
 pub changed_keeps : (g : Graph) → IsLawfulGraph g → (n : NodeId) (was is : Node) → node_at g n ≡ Some was → is.key ≡ was.key → IsAlike was.shape is.shape
     → (f : NodeId) → KeepsIndexes g (with_node g n.birth is) f
 changed_keeps g law n was is there key alike f =
-    stays_keeps g (with_node g n.birth is) law (frames_same g (with_node g n.birth is) (changed_frames g n was is there key alike)) f
-    (indexes_same g n was is there key alike f)
+    stays_keeps g (with_node g n.birth is) (changed_frames g n was is there key alike).shapes f (indexes_same g n was is there key alike f)
 
 -- a file and its keys that are a row before and after have the same parents
 module _ (g g' : Graph) (f : NodeId) (kept : KeepsIndexes g g' f) where

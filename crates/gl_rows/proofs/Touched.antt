@@ -8,9 +8,9 @@ use Rattle.gl_modes.specs.declared.node.NodeId.{NodeId}
 use Rattle.gl_graph.specs.Changes.{born_node, born_nodes, marked, with_node, without_branch, without_node}
 use Rattle.gl_graph.specs.Graph.{Graph, Node, first_in, first_parent, node_at, parents_in, shape_in, shape_of}
 use Rattle.gl_graph.specs.Lawful.{IsLawfulGraph}
-use Rattle.gl_graph.specs.Shapes.{Shape, Rec, is_record_shape}
+use Rattle.gl_graph.specs.Shapes.{Shape, Rec, is_interval_shape, is_record_shape}
 use Rattle.gl_graph.proofs.Born.{old_or_new, old_same, place_in}
-use Rattle.gl_graph.proofs.Branch.{children_are, is_interval_shape, left_is, live, movable_no_record, stays_left}
+use Rattle.gl_graph.proofs.Branch.{children_are, left_is, live, movable_no_record, stays_left}
 use Rattle.gl_graph.proofs.Changed.{IsAlike, at_here, at_other, rec_same}
 use Rattle.gl_graph.proofs.Look.{live_node}
 use Rattle.gl_graph.proofs.Marked.{marked_first_parent, marked_record}

@@ -1,11 +1,11 @@
 -- Commands that change the graph: each keeps a transaction that it does not name, if the states before and after are lawful.
 use Rattle.gl_steps.proofs.Words.{◌&&◌, ◌+◌, ◌<◌, ◌==◌, [], ◌∙◌, ◌∷◌, ◌≡◌, ◌≢◌, ◌⊎◌, accepted_once, and_both, ap, ap₂, arith, Bool, born_index, born_node}
-use Rattle.gl_steps.proofs.Words.{born_nodes, clash, deleted, EffX, false, File, filter, freed, freed_unless, fun_ext, Graph, holds_x, if◌then◌else◌, Index}
+use Rattle.gl_steps.proofs.Words.{born_nodes, clash, deleted, EffX, false, File, filter, freed, freed_unless, fun_ext, Graph, holds_x, if◌then◌else◌}
 use Rattle.gl_steps.proofs.Words.{inl, Inner, inr, interval_nodes, is_among_waiters, is_live, is_movable_shape, is_read, is_record_shape, is_some, IsLawful}
-use Rattle.gl_steps.proofs.Words.{IsRoute, List, list_all, list_any, live_by, lives, moved_to, nat_tests, NL, no_parents, Node, node_at, NodeId, None, not}
+use Rattle.gl_steps.proofs.Words.{IsRoute, List, list_all, list_any, live_by, lives, moved_to, nat_tests, new_index, NL, no_parents, Node, node_at, NodeId}
 use Rattle.gl_steps.proofs.Words.{Option, parents_in, parents_of, ReadOn, Rec, refl, rekeyed, rekeyed_node, rekeyed_parents, reparented, same_mode, same_node}
 use Rattle.gl_steps.proofs.Words.{same_node-equal, SameGrants, shape_in, shape_of, Some, some_given, split, State, stays, subst, sym, Told, true, true≢false}
-use Rattle.gl_steps.proofs.Words.{Txn, TxnId, with_grant, with_graph, with_key, with_parents, X, ℕ}
+use Rattle.gl_steps.proofs.Words.{None, not, Txn, TxnId, with_grant, with_graph, with_key, with_parents, X, ℕ}
 use Rattle.gl_graph.specs.Changes.{rekeyed_keys}
 use Rattle.gl_steps.proofs.OtherChanges.{with_grant_same}
 use Rattle.gl_steps.proofs.Made.{made, next_id}
@@ -31,9 +31,9 @@ pub has_parents_lives : (o : Option Node) → not (no_parents (parents_in o)) �
 has_parents_lives None h = h
 has_parents_lives (Some n) h = refl
 
-pub plain_intervals : (index : NodeId) (place : ℕ) (keys : List ℕ) → no_records (interval_nodes index place keys) ≡ true
-plain_intervals index place [] = refl
-plain_intervals index place (k ∷ ks) = plain_intervals index (place + 1) ks
+pub plain_intervals : (index : NodeId) (keys : List ℕ) → no_records (interval_nodes index keys) ≡ true
+plain_intervals index [] = refl
+plain_intervals index (k ∷ ks) = plain_intervals index ks
 
 abbrev pub new_record : ℕ → List ℕ → List NodeId → Node
 new_record key keys ps = record { key = key; shape = Rec keys; parents = ps }
@@ -67,8 +67,8 @@ module _ (s : State) (law : IsLawful s) (t : TxnId) (alive : lives s t ≡ true)
 
   pub index_keeps : (key : ℕ) (ps : List NodeId) (f : NodeId) (bs keys : List ℕ) → next ≡ with_graph s (born_index s.graph key ps f bs keys) → Kept
   index_keeps key ps f bs keys is =
-      made_keeps (record { key = key; shape = Index f bs; parents = ps } ∷ interval_nodes (next_id s key) 0 keys) (ap (λ x. x.graph) is)
-      (plain_intervals (next_id s key) 0 keys) (ap (λ x. x.txns t.slot) is)
+      made_keeps (new_index (next_id s key) ps f bs keys ∷ interval_nodes (next_id s key) keys) (ap (λ x. x.graph) is)
+      (plain_intervals (next_id s key) keys) (ap (λ x. x.txns t.slot) is)
       (λ q. ap (λ x. x.held t.slot q) is)
 
   -- a new record, which another holds in X

@@ -1,10 +1,10 @@
 -- A schema changes under the lock of another: nodes are dropped, and an index is made that its maker holds. What it leaves to a holder t.
 use Rattle.gl_steps.proofs.Words.{◌&&◌, [], ◌∙◌, ◌∷◌, ◌≡◌, ◌≢◌, accepted_once, ap, ap₂, arith, Bool, born_index, clash, dropped, EffX, false, freed_among}
-use Rattle.gl_steps.proofs.Words.{goes_with, Graph, GraphStep, if◌then◌else◌, Index, interval_nodes, IS, is_at_least, is_child, is_in_use, is_live}
-use Rattle.gl_steps.proofs.Words.{is_movable_shape, is_read, is_some, IsLawful, IsRoute, List, list_all, list_any, live_by, lives, Mode, NL, no, no_parents}
+use Rattle.gl_steps.proofs.Words.{goes_with, Graph, GraphStep, if◌then◌else◌, interval_nodes, IS, is_at_least, is_child, is_in_use, is_live}
+use Rattle.gl_steps.proofs.Words.{is_movable_shape, is_read, is_some, IsLawful, IsRoute, List, list_all, list_any, live_by, lives, Mode, new_index, NL, no}
 use Rattle.gl_steps.proofs.Words.{Node, node_at, node_count, NodeId, None, not, Option, or_elim, parents_in, ReadOn, refl, rules, same_mode, same_node}
 use Rattle.gl_steps.proofs.Words.{same_node-equal, SameGrants, shape_of, Some, split, State, subst, sym, Told, true, Txn, TxnId, with_grant, with_graph}
-use Rattle.gl_steps.proofs.Words.{without_branch, X, ℕ}
+use Rattle.gl_steps.proofs.Words.{no_parents, without_branch, X, ℕ}
 use Rattle.gl_modes.proofs.Words.{not_true}
 use Rattle.gl_graph.proofs.Branch.{left_is, left_live, left_was_live, live}
 use Rattle.gl_model.proofs.law.Effects.{none_held}
@@ -119,10 +119,10 @@ module _ (s : State) (law : IsLawful s) (t : TxnId) (alive : lives s t ≡ true)
   pub index_by_keeps : (u key : ℕ) (ps : List NodeId) (f : NodeId) (bs keys : List ℕ) → u ≢ t.slot
       → next ≡ with_grant (with_graph s (born_index s.graph key ps f bs keys)) u (next_id s key) X → Kept
   index_by_keeps u key ps f bs keys ne is =
-      let ns : List Node = record { key = key; shape = Index f bs; parents = ps } ∷ interval_nodes (next_id s key) 0 keys in
+      let ns : List Node = new_index (next_id s key) ps f bs keys ∷ interval_nodes (next_id s key) keys in
       let graph = ap (λ (y : State). y.graph) is in
       keeps_graph s (accepted_once next) t told' (is_new s.graph) law law' (ap (λ (y : State). live_by t.age (y.txns t.slot)) is ∙ alive)
       (born_births s (accepted_once next) law ns graph) (born_old s (accepted_once next) law ns graph)
       (born_kinds s (accepted_once next) law ns graph)
       (λ q. ap (λ (y : State). y.held t.slot q) is ∙ with_grant_same (with_graph s (born_index s.graph key ps f bs keys)) u t.slot (next_id s key) X ne q)
-      (born_step s (accepted_once next) law ns graph t.slot (plain_intervals (next_id s key) 0 keys))
+      (born_step s (accepted_once next) law ns graph t.slot (plain_intervals (next_id s key) keys))

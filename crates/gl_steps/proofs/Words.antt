@@ -11,7 +11,7 @@ pub use Rattle.gl_waits.specs.declared.victims.Victims.TheVariants.{Youngest}
 pub use Rattle.gl_graph.proofs.Removed.{was_live}
 pub use Rattle.gl_graph.proofs.Unrefused.{none_refused}
 pub use Rattle.gl_graph.proofs.Words.{◌-◌, born_index, born_node, cases_eq, is_adopted, is_in_use, map, where_true, without_branch, worn_births}
-pub use Rattle.gl_graph.specs.Changes.{rekeyed_node, reparented}
+pub use Rattle.gl_graph.specs.Changes.{new_index, rekeyed_node, reparented}
 pub use Rattle.gl_graph.specs.Routes.{IsBelow}
 pub use Rattle.gl_model.proofs.Words.{◌&&◌, ◌+◌, ◌++◌, ◌<◌, ◌==◌, [], ◌||◌, ◌∙◌, ◌∷◌, ◌≡◌, ◌≢◌, ◌≤◌, ◌⊎◌, ⊎_elim, addressed, age_in, age_of, and_both, ap, ap₂}
 pub use Rattle.gl_model.proofs.Words.{arith, asked_by_escalation, at_least-refl, begun_at, Bool, born_nodes, both, clash, condemned, condemned_test, deleted}

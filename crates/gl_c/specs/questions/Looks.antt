@@ -6,9 +6,9 @@ use Rattle.gl_modes.specs.declared.node.NodeId.{NodeId}
 use Rattle.gl_modes.specs.declared.refusal.Refusal.TheVariants as no
 use Rattle.gl_graph.specs.declared.kind.Kind.{Kind}
 use Rattle.gl_graph.specs.declared.kind.Kind.TheVariants as kind
-use Rattle.gl_graph.specs.Graph.{Graph, indexes_of, interval_at, interval_of, node_count, parents_of, shape_of}
+use Rattle.gl_graph.specs.Graph.{Graph, indexes_of, interval_at, interval_of, node_count, parents_of, place_of, shape_of}
 use Rattle.gl_graph.specs.Refusals.{first_refusal, has_records}
-use Rattle.gl_graph.specs.Shapes.{is_file_shape, is_index_shape, keys_in, kind_in, place_in}
+use Rattle.gl_graph.specs.Shapes.{is_file_shape, is_index_shape, keys_in, kind_in}
 use Rattle.gl_header.specs.Header.{holds}
 use Rattle.gl_model.specs.declared.answers.Detect.{Detect}
 use Rattle.gl_model.specs.declared.answers.Detect.TheVariants.{AtBlock, ByWatcher}
@@ -79,7 +79,7 @@ looked m (query.Key rec place) = counted (status_reply no_place) (slice_get (key
 looked m (query.Index file place) = index_at (state_of m).graph file place
 looked m (query.Interval index place) = found (interval_at (state_of m).graph index place)
 looked m (query.IntervalOf index key) = interval_with (state_of m).graph index key
-looked m (query.Place n) = counted (refused_reply no.NoSuchNode) (place_in (shape_of (state_of m).graph n))
+looked m (query.Place n) = counted (refused_reply no.NoSuchNode) (place_of (state_of m).graph n)
 looked m (query.HasRecords file) = records_of (state_of m).graph file
 looked m query.Len = count_reply (node_count (state_of m).graph)
 looked m query.Accepted = count_reply m.accepted

@@ -15,18 +15,11 @@ ghost use Rattle.gl_graph.specs.Changes.{marked, rekeyed, without_branch, withou
 ghost use Rattle.gl_graph.specs.Refusals.{is_in_use};
 ghost use Rattle.gl_graph.specs.View.{graph_of};
 
-use super::Graph;
+use super::{Graph, place_among};
 use crate::kind::Kind;
 use crate::node::{Body, Node};
 use crate::store::{count_down, remove_all, unlist_index, write_adopted, write_key, write_records};
 use gl_modes::NodeId;
-
-/// The first place of the node among these.
-fn place_among(ids: &[NodeId], n: NodeId) -> Option<usize>
-    ensures { result ≡ position (λ id. same_node id n) ids.now }
-{
-    ids.iter().position(|id| *id == n)
-}
 
 impl Graph {
     /// Whether the node is in use and cannot be dropped: an inner node has a child, a file has a

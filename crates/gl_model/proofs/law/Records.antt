@@ -1,12 +1,12 @@
 -- Nodes that are born, records that are placed and deleted: the law is kept. For the calls on records.
 use Rattle.gl_model.proofs.Words.{◌&&◌, ◌+◌, ◌<◌, [], ◌∙◌, ◌∷◌, ◌≡◌, ◌≤◌, Active, and_both, ap, ap₂, are_compatible, arith, Bool, born_nodes, both}
 use Rattle.gl_model.proofs.Words.{children_that, clash, cond, count_by, count_none, count_same, deleted, empty-list, false, File, file_lawful, file_refusal}
-use Rattle.gl_model.proofs.Words.{first_not_ix, fits-from_all, fun_ext, Graph, HasNoCycle, holds, Index, index_lawful, index_refusal, index_unrefused}
+use Rattle.gl_model.proofs.Words.{first_not_ix, fits-from_all, fun_ext, Graph, HasNoCycle, holds, index_lawful, index_refusal, index_unrefused}
 use Rattle.gl_model.proofs.Words.{indexes_of, Inner, inner_lawful, inner_refusal, intends, intends_over, interval_nodes, is_among_waiters, is_at_least}
 use Rattle.gl_model.proofs.Words.{is_child, is_empty, is_file_shape, is_idle, is_live, is_plain, is_record_shape, is_some, IsAdopted, IsBorn, IsIndexBorn}
 use Rattle.gl_model.proofs.Words.{IsLawful, IsLawfulGraph, length, List, list_all, list_any, marked, marked_lawful, marked_live, marked_nodes, marked_parents}
-use Rattle.gl_model.proofs.Words.{marked_record, members, Mode, ModeFitsKind, nat_tests, new_id, new_ids, new_node, NL, nobody_holds-all, Node, node_at}
-use Rattle.gl_model.proofs.Words.{node_count, node_is, NodeId, nodes, nodes_grown, nodes_live, None, none_above, not, not_true, number_same, old_below}
+use Rattle.gl_model.proofs.Words.{marked_record, members, Mode, ModeFitsKind, nat_tests, new_id, new_ids, new_index, new_node, NL, nobody_holds-all, Node}
+use Rattle.gl_model.proofs.Words.{node_at, node_count, node_is, NodeId, nodes, nodes_grown, nodes_live, None, none_above, not, not_true, number_same, old_below}
 use Rattle.gl_model.proofs.Words.{old_same, or_left, parent_plain, parents_in, parents_of, parents_unrefused, range-from_each, Rec, rec_not_plain}
 use Rattle.gl_model.proofs.Words.{record_lawful, record_parents, record_refusal, record_unrefused, refl, removed_lawful, same_mode, same_node, same_node-differ}
 use Rattle.gl_model.proofs.Words.{same_node-equal, same_node-other, shape_in, shape_of, Some, split, State, status_of, stays_there, subst, sum_by-append, sym}
@@ -123,7 +123,8 @@ module _ (g g' : Graph) (law : IsLawfulGraph g) (ps : List NodeId) (n : NodeId) 
   index-grows f bs free born =
       let room = index_unrefused g ps f bs free in
       record {
-        ns = record { key = n.key; shape = Index f bs; parents = ps } ∷ interval_nodes (record { key = n.key; birth = g.births + 1 }) 0 born.interval_keys;
+        ns = new_index (record { key = n.key; birth = g.births + 1 }) ps f bs born.interval_keys
+            ∷ interval_nodes (record { key = n.key; birth = g.births + 1 }) born.interval_keys;
         lawful = index_lawful g law n.key ps f bs born.interval_keys room.inner room.file room.few room.rise room.unused room.indexes born.intervals
             born.keys_apart born.keys_free room.room;
         after = born.after;

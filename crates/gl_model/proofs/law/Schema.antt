@@ -1,13 +1,14 @@
 -- A schema changes under the lock of a transaction: nodes are dropped, and an index is made that its maker holds. The law of a state is kept.
 use Rattle.gl_model.proofs.Words.{◌+◌, [], ◌∙◌, ◌∷◌, ◌≡◌, Active, and_both, ap, are_compatible, arith, false, File, first_not_ix, fits-from_all, Graph}
 use Rattle.gl_model.proofs.Words.{HasNoCycle, HasShape, Index, index_lawful, Inner, intends_over, Interval, interval_nodes, is_at_least, is_child, is_live}
-use Rattle.gl_model.proofs.Words.{is_movable_shape, is_some, IsIndexBorn, IsLawful, IsLawfulGraph, List, list_any, members, new_id, new_node, NL, no, Node}
-use Rattle.gl_model.proofs.Words.{node_at, node_is, NodeId, None, not-true, old_below, Option, or_elim, or_no, parents_in, parents_of, Rec, refl, same_node}
-use Rattle.gl_model.proofs.Words.{same_node-equal, Shape, shape_in, shape_of, Some, State, status_of, sym, true, with_grant, with_graph, X, ℕ}
-use Rattle.gl_graph.proofs.Branch.{children_are, is_interval_shape, left_lawful, left_live, live, stays_left}
+use Rattle.gl_model.proofs.Words.{is_movable_shape, is_some, IsIndexBorn, IsLawful, IsLawfulGraph, List, list_any, members, new_id, new_index, new_node, NL, no}
+use Rattle.gl_model.proofs.Words.{Node, node_at, node_is, NodeId, None, not-true, old_below, Option, or_elim, or_no, parents_in, parents_of, Rec, refl}
+use Rattle.gl_model.proofs.Words.{same_node, same_node-equal, Shape, shape_in, shape_of, Some, State, status_of, sym, true, with_grant, with_graph, X, ℕ}
+use Rattle.gl_graph.proofs.Branch.{children_are, left_lawful, left_live, live, stays_left}
 use Rattle.gl_graph.proofs.Unrefused.{IsRoomyIndex}
 use Rattle.gl_graph.specs.Changes.{without_branch}
 use Rattle.gl_graph.specs.Refusals.{is_in_use}
+use Rattle.gl_graph.specs.Shapes.{is_interval_shape}
 use Rattle.gl_model.specs.Calls.{dropped, goes_with}
 use Rattle.gl_model.proofs.law.Departures.{departed-no_cycle, departed_lawful, GoAway}
 use Rattle.gl_model.proofs.law.Keeps.{with_grant-lawful}
@@ -36,8 +37,8 @@ module _ (g : Graph) (law : IsLawfulGraph g) (n : NodeId) (movable : is_movable_
       shaped : (sh : Shape) (ps : List NodeId) → HasShape g q sh ps → is_interval_shape (Some sh) ≡ true → list_any (same_node n) ps ≡ true → ps ≡ n ∷ []
       shaped Inner ps h i l = absurd (no i)
       shaped (File adopted) ps h i l = absurd (no i)
-      shaped (Index f bs) ps h i l = absurd (no i)
-      shaped (Interval place) ps h i l =
+      shaped (Index f bs is) ps h i l = absurd (no i)
+      shaped Interval ps h i l =
           or_elim (same_node n h.0) false (sym (ap (list_any (same_node n)) h.1) ∙ l)
           (λ here. h.1 ∙ ap (λ p. p ∷ []) (sym (same_node-equal n h.0 here))) (λ none. absurd (no none))
       shaped (Rec keys) ps h i l = absurd (no i)
@@ -58,11 +59,14 @@ dropped-no_cycle s n none = departed-no_cycle s (goes_with s.graph n) (without_b
 -- an index of a file is made, held by a transaction
 module _ (s : State) (law : IsLawful s) (ps : List NodeId) (f : NodeId) (bs : List ℕ) (room : IsRoomyIndex s.graph ps f bs)
     (g' : Graph) (n : NodeId) (born : IsIndexBorn s.graph g' n ps f bs) where
+  abbrev id : NodeId
+  id = record { key = n.key; birth = s.graph.births + 1 }
+
   abbrev node : Node
-  node = record { key = n.key; shape = Index f bs; parents = ps }
+  node = new_index id ps f bs born.interval_keys
 
   abbrev pub index_nodes : List Node
-  index_nodes = node ∷ interval_nodes (record { key = n.key; birth = s.graph.births + 1 }) 0 born.interval_keys
+  index_nodes = node ∷ interval_nodes id born.interval_keys
 
   pub roomy_index-grows : Grows s.graph g'
   roomy_index-grows = record {

@@ -45,8 +45,8 @@ module _ (g : Graph) (law : IsLawfulGraph g) where
   distinct_of : (sh : Shape) (ps : List NodeId) (n : NodeId) → HasShape g n sh ps → are_distinct ps ≡ true
   distinct_of Inner ps n h = h.distinct
   distinct_of (File adopted) ps n h = h.distinct
-  distinct_of (Index f bs) ps n h = h.0.distinct
-  distinct_of (Interval place) ps n h = ap are_distinct h.1
+  distinct_of (Index f bs is) ps n h = h.0.distinct
+  distinct_of Interval ps n h = ap are_distinct h.1
   distinct_of (Rec keys) ps n h =
       let indexes = all_filter (λ i. is_index_of_shape h.0 (shape_of g i)) (nodes g) in
       ap are_distinct h.1.parents ∙ both _ _ (ap not (not_true _ (λ k. no (sym (interval_among h.0 h.0 (indexes_of g h.0) keys indexes k).0 ∙ h.1.file_is))))
@@ -55,8 +55,8 @@ module _ (g : Graph) (law : IsLawfulGraph g) where
   few_of : (sh : Shape) (ps : List NodeId) (n : NodeId) → HasShape g n sh ps → length ps ≤ 8
   few_of Inner ps n h = h.few
   few_of (File adopted) ps n h = h.few
-  few_of (Index f bs) ps n h = h.0.few
-  few_of (Interval place) ps n h = let one = ap length h.1 in omega arith
+  few_of (Index f bs is) ps n h = h.0.few
+  few_of Interval ps n h = let one = ap length h.1 in omega arith
   few_of (Rec keys) ps n h =
       let all = ap length h.1.parents in
       let short = short_intervals g (indexes_of g h.0) keys in

@@ -169,8 +169,8 @@ live_kind (Some x) = kinded x.shape
     kinded : (h : Shape) → true ≡ is_some (kind_in (Some h))
     kinded Inner = refl
     kinded (File adopted) = refl
-    kinded (Index file bounds) = refl
-    kinded (Interval place) = refl
+    kinded (Index file bounds intervals) = refl
+    kinded Interval = refl
     kinded (Rec keys) = refl
 
 pub live_by : (x : Option Node) (k : Kind) → Some k ≡ kind_in (shape_in x) → is_some x ≡ true

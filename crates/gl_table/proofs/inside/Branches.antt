@@ -8,22 +8,16 @@ use Rattle.gl_table.proofs.Words.{same_node-sym, shape_of, slice_get, slice_inde
 use Rattle.gl_table.proofs.Words.{status_of, subst, suc, sym, take, TellsGone, Told, true, Txn, View, Waiting, waits_at, zero, ℕ}
 use Rattle.std.proofs.lemmas.List.{take_more}
 use Rattle.std.proofs.lemmas.List.Folds.{list_any-append}
-use Rattle.gl_graph.specs.Graph.{interval_at}
-use Rattle.gl_graph.proofs.Branch.{apart_from, at_child, child_at, children_are, movable_no_interval}
+use Rattle.gl_graph.specs.Shapes.{intervals_in}
+use Rattle.gl_graph.proofs.Branch.{apart_from, child_is, children_are, movable_no_interval}
 use Rattle.gl_model.specs.declared.answers.Notice.TheVariants as notice
 use Rattle.gl_model.proofs.law.Departures.{cleared_orderly, departed_twice}
 
--- an item of a list is among it, and what is among it is an item
+-- an item of a list is among it
 item_among : (xs : List NodeId) (p : ℕ) (x : NodeId) → slice_get xs p ≡ Some x → list_any (same_node x) xs ≡ true
 item_among [] p x e = absurd (cc e)
 item_among (y ∷ ys) zero x e = or_left _ _ (ap (same_node x) (some_is e) ∙ same_node-refl x)
 item_among (y ∷ ys) (suc p) x e = or_right _ _ (item_among ys p x e)
-
-among_item : (xs : List NodeId) (q : NodeId) → list_any (same_node q) xs ≡ true → (p : ℕ) × (slice_get xs p ≡ Some q)
-among_item [] q h = absurd (no h)
-among_item (y ∷ ys) q h =
-    or_elim (same_node q y) (list_any (same_node q) ys) h (λ here. (zero, ap Some (sym (same_node-equal q y here))))
-    (λ there. let it = among_item ys q there in (suc it.0, it.1))
 
 -- if nobody holds a node or waits for it, nothing is removed
 pub departed_nothing : (s : State) → IsOrderly s → (x : NodeId) → ((u : ℕ) → s.held u x ≡ NL) → s.queue x ≡ [] → departed s (λ q. same_node q x) s.graph ≡ s
@@ -63,27 +57,30 @@ pub record MayClear (s : State) (t : ℕ) (n : NodeId) (xs : List NodeId) : Type
   pub orderly : IsOrderly s
   pub active : status_of s t ≡ Some Active
   pub branch : IsBranchLeftTo s t n
-  pub each : (place : ℕ) → slice_get xs place ≡ interval_at s.graph n place
+  pub each : xs ≡ intervals_in (shape_of s.graph n)
 
 module _ {s : State} {t : ℕ} {n : NodeId} {xs : List NodeId} (may : MayClear s t n xs) where
   -- the state once those before this place were cleared
   abbrev pub before : ℕ → State
   before k = departed s (λ q. list_any (same_node q) (take k xs)) s.graph
 
-  child_is : (q : NodeId) → list_any (same_node q) xs ≡ true → is_child s.graph n q ≡ true
-  child_is q h = let it = among_item xs q h in at_child s.graph may.law n may.branch.movable may.branch.free it.0 q (sym (may.each it.0) ∙ it.1)
+  children_listed : (q : NodeId) → is_child s.graph n q ≡ list_any (same_node q) xs
+  children_listed q = child_is s.graph may.law n may.branch.movable may.branch.free q ∙ ap (list_any (same_node q)) (sym may.each)
+
+  listed_child : (q : NodeId) → list_any (same_node q) xs ≡ true → is_child s.graph n q ≡ true
+  listed_child q h = children_listed q ∙ h
 
   is_listed_child : (q : NodeId) → is_child s.graph n q ≡ true → list_any (same_node q) xs ≡ true
-  is_listed_child q c = let it = child_at s.graph may.law n may.branch.movable may.branch.free q c in item_among xs it.0 q (may.each it.0 ∙ it.1)
+  is_listed_child q c = sym (children_listed q) ∙ c
 
   -- the node is no child of its own
   not_itself : list_any (same_node n) xs ≡ false
   not_itself = not_true _ (λ h. no (sym (movable_no_interval (shape_of s.graph n) may.branch.movable)
-      ∙ (children_are s.graph may.law n may.branch.movable may.branch.free n (child_is n h)).1))
+      ∙ (children_are s.graph may.law n may.branch.movable may.branch.free n (listed_child n h)).1))
 
   whole : (q : NodeId) → (same_node q n || list_any (same_node q) xs) ≡ goes_with s.graph n q
   whole q = ap₂ (λ a b. a || b) (same_node-sym q n)
-      (split (list_any (same_node q) xs) (λ e. e ∙ sym (child_is q e))
+      (split (list_any (same_node q) xs) (λ e. e ∙ sym (listed_child q e))
       (λ e. e ∙ sym (not_true (is_child s.graph n q) (λ c. clash (is_listed_child q c) e))))
 
   module _ (k : ℕ) where
@@ -122,7 +119,7 @@ module _ {s : State} {t : ℕ} {n : NodeId} {xs : List NodeId} (may : MayClear s
     -- one of the children
     module _ (x : NodeId) (at : slice_get xs k ≡ Some x) where
       pub child_here : is_child s.graph n x ≡ true
-      child_here = child_is x (item_among xs k x at)
+      child_here = listed_child x (item_among xs k x at)
 
       child_live : is_live s.graph x ≡ true
       child_live = by child_here

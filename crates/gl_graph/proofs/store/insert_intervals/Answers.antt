@@ -19,6 +19,6 @@ loop-place-preserved c =
           ∙ ap (λ n. n + 1) c.loop-place.invariant.listed;
       born = intervals_born c.args.nodes.now c.loop-place.nodes c.insert_reserved-key.new.self c.args.index c.loop-place.place c.loop-place.ids.items
           c.push_reserved.new.self.items c.loop-place.invariant.born c.insert_reserved-key.result
-          (record { birth = c.args.index.birth + 1 + c.loop-place.place; body = body.Interval c.loop-place.place (c.args.index ∷ []) })
+          (record { birth = c.args.index.birth + 1 + c.loop-place.place; body = body.Interval (c.args.index ∷ []) })
           c.insert_reserved-key.ensures.was_vacant c.insert_reserved-key.ensures.updates refl len refl refl c.push_reserved.ensures.items;
     }

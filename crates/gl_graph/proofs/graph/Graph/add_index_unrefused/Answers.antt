@@ -1,4 +1,4 @@
-use Rattle.gl_graph.proofs.Words.{[], ap, ap₂, arith, graph_of, Index, indexes_of, List, NodeId, refl, View, ◌++◌, ◌+◌, ◌∙◌, ◌∷◌}
+use Rattle.gl_graph.proofs.Words.{[], ap, arith, graph_of, Index, indexes_of, List, NodeId, refl, View, ◌++◌, ◌+◌, ◌∙◌, ◌∷◌}
 use Rattle.gl_graph.proofs.Beside.{held, law_of}
 use Rattle.gl_graph.proofs.Indexed.{roomy_sound, roomy_view, roomy, births_left, index_apart, index_within, file_kept, index_parents, index_sound, index_made}
 use Rattle.gl_graph.proofs.Unrefused.{reindex_unrefused}
@@ -37,7 +37,7 @@ write_indexes-requires c =
     file_kept (roomy c.self.inside c.self.invariant c.args.self.now c.self.view_is c.reserve.new.self c.reserve.ensures.rest_kept)
     (law_of c.self.inside c.self.invariant c.args.self.now c.self.view_is) _ _
     c.insert_reserved-key.ensures.was_vacant c.insert_reserved-key.ensures.updates refl c.insert_reserved-key.ensures.len _ _ _
-    (ap₂ Index made.file_is made.bounds) made.parents (reindex_unrefused (graph_of c.args.self.now) _ _ _ c.requires)
+    (λ i. Index (made.file_is i) (made.bounds i) (made.unlisted i)) made.parents (reindex_unrefused (graph_of c.args.self.now) _ _ _ c.requires)
     _ _ c.insert_intervals.ensures.born _ refl _ c.write_intervals.ensures.written c.write_intervals.ensures.len
 
 pub count_up-requires : goal.count_up-requires
@@ -50,7 +50,7 @@ count_up-requires c =
     let kept = index_parents (roomy c.self.inside c.self.invariant c.args.self.now c.self.view_is c.reserve.new.self c.reserve.ensures.rest_kept)
     (law_of c.self.inside c.self.invariant c.args.self.now c.self.view_is) _ _
     c.insert_reserved-key.ensures.was_vacant c.insert_reserved-key.ensures.updates refl c.insert_reserved-key.ensures.len _ _ _
-    (ap₂ Index made.file_is made.bounds) made.parents (reindex_unrefused (graph_of c.args.self.now) _ _ _ c.requires)
+    (λ i. Index (made.file_is i) (made.bounds i) (made.unlisted i)) made.parents (reindex_unrefused (graph_of c.args.self.now) _ _ _ c.requires)
     _ _ c.insert_intervals.ensures.born _ refl _ c.write_intervals.ensures.written c.write_intervals.ensures.len
     _ listed _ c.write_indexes.ensures.written c.write_indexes.ensures.len in
     record { stored = kept.stored; room = kept.each }
@@ -65,7 +65,7 @@ invariant_of-self-3 c =
     index_sound (roomy c.self.inside c.self.invariant c.args.self.now c.self.view_is c.reserve.new.self c.reserve.ensures.rest_kept)
     (law_of c.self.inside c.self.invariant c.args.self.now c.self.view_is) _ _
     c.insert_reserved-key.ensures.was_vacant c.insert_reserved-key.ensures.updates refl c.insert_reserved-key.ensures.len _ _ _
-    (ap₂ Index made.file_is made.bounds) made.parents (reindex_unrefused (graph_of c.args.self.now) _ _ _ c.requires)
+    (λ i. Index (made.file_is i) (made.bounds i) (made.unlisted i)) made.parents (reindex_unrefused (graph_of c.args.self.now) _ _ _ c.requires)
     _ _ c.insert_intervals.ensures.born _ refl _ c.write_intervals.ensures.written c.write_intervals.ensures.len
     _ listed _ c.write_indexes.ensures.written c.write_indexes.ensures.len _ c.count_up.ensures.counted
 
@@ -79,6 +79,6 @@ returns-clause-made c =
     index_made (roomy c.self.inside c.self.invariant c.args.self.now c.self.view_is c.reserve.new.self c.reserve.ensures.rest_kept)
     (law_of c.self.inside c.self.invariant c.args.self.now c.self.view_is) _ _
     c.insert_reserved-key.ensures.was_vacant c.insert_reserved-key.ensures.updates refl c.insert_reserved-key.ensures.len _ _ _
-    (ap₂ Index made.file_is made.bounds) made.parents (reindex_unrefused (graph_of c.args.self.now) _ _ _ c.requires)
+    (λ i. Index (made.file_is i) (made.bounds i) (made.unlisted i)) made.parents (reindex_unrefused (graph_of c.args.self.now) _ _ _ c.requires)
     _ _ c.insert_intervals.ensures.born _ refl _ c.write_intervals.ensures.written c.write_intervals.ensures.len
     _ listed _ c.write_indexes.ensures.written c.write_indexes.ensures.len _ c.count_up.ensures.counted
