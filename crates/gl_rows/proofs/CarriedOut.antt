@@ -40,16 +40,16 @@ use Rattle.gl_rows.specs.Files.{MakesFile}
 use Rattle.gl_rows.specs.Locking.{Does, IsRefused, LocksBy, LocksRow, NamesNew, Registers, SameAccount, Wish, forgets}
 use Rattle.gl_rows.specs.Names.{NamesHold}
 use Rattle.gl_rows.specs.Releasing.{LetsEachGo, RekeysBy, UnlocksBy, named_or_none, no_node, node_for, node_or_no}
-use Rattle.gl_rows.specs.Rows.{RowsView, has_rows, name_of, same_row}
+use Rattle.gl_rows.specs.Rows.{RowsView, has_rows, name_of, rows_left, same_row}
 use Rattle.gl_rows.proofs.Accepted.{accepted_of, lock_answers}
 use Rattle.gl_rows.proofs.Adopted.{adopted_placed, enters_new, new_dead, node_is, replaced_placed}
 use Rattle.gl_rows.proofs.GraphChanges.{is_of_nodes, step_graph, touches}
-use Rattle.gl_rows.proofs.LettingGo.{let_go_changes, one_goes}
+use Rattle.gl_rows.proofs.LettingGo.{each_then, let_go_changes, one_goes}
 use Rattle.gl_rows.proofs.NameChanges.{ChangesNames, names_same, names_stay, same_records}
 use Rattle.gl_rows.proofs.RowNames.{keeps_name, same_row-refl}
 use Rattle.gl_rows.proofs.Tidied.{each_goes}
 use Rattle.gl_rows.proofs.Touched.{step_records}
-use Rattle.gl_rows.proofs.Upkeep.{upkeep_none, upkeep_one}
+use Rattle.gl_rows.proofs.Upkeep.{upkeep_law, upkeep_none, upkeep_one}
 
 -- what a command records of deadlocks, by its answer
 kept_by : (c : Command) (m m' : ManagerView) (a : Answer) → refuses a ≡ false → KeepsAccepted c m m'
@@ -143,10 +143,14 @@ module _ (m m' : ManagerView) (v v' : RowsView) (law : IsLawful (state_of m)) (h
     unlocks (Err r) e (Err (row_no.Refused q)) h = refused _ q h.nobody_told h.same_manager h.same_rows
     unlocks (Err r) e (Err row_no.NotRows) h = not_rows _ h.nobody_told h.same_manager h.same_rows
     unlocks (Ok n) e (Ok u) h =
+        let released = steps_keep_law (state_of m) (state_of h.mid) (command.Unlock t n) answer.Done told law h.unlocks.step in
+        let own = one_goes (state_of h.mid) (state_of h.after) released v.names h.rest.names row h.own.gone h.own.goes in
+        let lawful = upkeep_law (state_of h.mid) (state_of h.after) released
+        (each_goes (state_of h.mid) (state_of h.after) v.names h.rest.names (row ∷ []) own) in
         on_node (command.Unlock t) (Some answer.Done) n e
-        (lets_go h.mid (command.Unlock t n) answer.Done refl refl h.unlocks h.account h.files (row ∷ [])
-        (one_goes (state_of h.mid) (state_of m') (steps_keep_law (state_of m) (state_of h.mid) (command.Unlock t n) answer.Done told law h.unlocks.step)
-        v.names v'.names row h.gone h.goes))
+        (lets_go h.mid (command.Unlock t n) answer.Done refl refl h.unlocks
+        (h.others.account.0 ∙ h.own.account.0, h.others.account.1 ∙ h.own.account.1) (h.others.files ∙ h.own.files) (row ∷ rows_left h.rest)
+        (each_then (state_of h.mid) (state_of h.after) (state_of m') lawful v.names h.rest.names v'.names (row ∷ []) (rows_left h.rest) own h.others.goes))
     unlocks (Ok n) e (Err (row_no.Refused r)) h = is_refused _ (command.Unlock t n) r h
     unlocks (Ok n) e (Err row_no.NotRows) h = absurd h
 

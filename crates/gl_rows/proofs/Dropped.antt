@@ -1,5 +1,5 @@
 -- Commands that touch no row: how the nodes of rows change. A dropped file is no file of rows any more, and no row of it has a node, since it has no record.
-use Rattle.std.specs.Prelude.{◌≡◌, ℕ, false, not, [], ◌&&◌, ◌||◌, Some, get_or}
+use Rattle.std.specs.Prelude.{◌≡◌, ℕ, Bool, false, not, List, [], ◌&&◌, ◌||◌, ◌==◌, ◌++◌, Some}
 use Rattle.std.specs.Map.{lookup}
 use Rattle.std.proofs.Common.{refl, sym, ap, ap₂, subst, ◌∙◌}
 use Rattle.std.proofs.Math.Bool.{and-false}
@@ -23,15 +23,15 @@ use Rattle.gl_steps.specs.Step.{Step}
 use Rattle.gl_catalog.specs.Counters.{refuses}
 use Rattle.gl_catalog.specs.Manager.{ManagerView, state_of}
 use Rattle.gl_rows.specs.Names.{NamesHold}
-use Rattle.gl_rows.specs.Rows.{RegistryView, RowsView, has_rows, name_of, same_row}
-use Rattle.gl_rows.specs.Releasing.{LetsGoAsked}
-use Rattle.gl_rows.specs.Serving.{Dropped, Ended, ForgetsFile, GaveBack, IsServed, Nothing, Remains, TidiesUp, remains_after, touches_rows}
+use Rattle.gl_rows.specs.Rows.{RegistryView, RowsView, has_rows, name_of, rows_at, rows_left, same_row}
+use Rattle.gl_rows.specs.Releasing.{LetsLeftGo, no_end}
+use Rattle.gl_rows.specs.Serving.{Dropped, Ended, ForgetsFile, GaveBack, IsServed, Nothing, Released, Remains, TidiesUp, remains_after, touches_rows}
 use Rattle.gl_rows.specs.declared.row.Row.{Row}
 use Rattle.gl_rows.proofs.Accepted.{accepted_of}
 use Rattle.gl_rows.proofs.GraphChanges.{step_graph, touches}
 use Rattle.gl_rows.proofs.LettingGo.{let_go_changes}
 use Rattle.gl_rows.proofs.NameChanges.{ChangesNames, SameRecords, names_same, names_stay}
-use Rattle.gl_rows.proofs.Tidied.{IsOfLocks, dropped_so, ended_so, gave_back_so, refuses_is}
+use Rattle.gl_rows.proofs.Tidied.{IsOfLocks, dropped_so, ended_so, gave_back_so, refuses_is, released_so}
 use Rattle.gl_rows.proofs.Touched.{step_records}
 
 -- a command that touches no row
@@ -85,10 +85,10 @@ module _ (v v' : RegistryView) (law : IsLawful (state_of v.manager)) (holds : Na
             not_true (same_node n q.file) (λ e. clash (file_stands (state_of h.mid).graph mid_law.graph r still.rec)
             (ap (is_live (state_of h.mid).graph) (still.file ∙ stands.1 ∙ sym (same_node-equal n q.file e)) ∙ dead))
 
-    lets_go : (slot : ℕ) → IsOfLocks c → LetsGoAsked h.mid v.rows slot v'.manager v'.rows → Changes
-    lets_go slot of_locks goes =
+    lets_go : (rows : List Row) (ended : ℕ → Bool) → IsOfLocks c → LetsLeftGo h.mid v.rows rows ended v'.manager v'.rows → Changes
+    lets_go rows ended of_locks goes =
         let_go_changes v.rows v'.rows s.graph (state_of h.mid) s' (step_graph s c a told (state_of h.mid) of_locks.nodes h.applies.step) mid_law holds
-        goes.files (get_or v.rows.asked slot []) goes.goes
+        goes.files (rows ++ rows_left v.rows) goes.goes
 
     tidied : (x : Remains) → remains_after c a ≡ x → TidiesUp x h.mid v.rows v'.manager v'.rows → Changes
     tidied Nothing e done =
@@ -98,8 +98,9 @@ module _ (v v' : RegistryView) (law : IsLawful (state_of v.manager)) (holds : Na
         let it = dropped_so c a n e in
         drops n (gone (state_of h.mid) it.0 n a told (refuses_is a ∙ it.2)
         (subst (λ d. Step s d a told (state_of h.mid)) it.1 h.applies.step)) done.0 done.1
-    tidied (Ended slot) e done = lets_go slot (ended_so c a slot e) done.0
-    tidied (GaveBack slot) e done = lets_go slot (gave_back_so c a slot e) done.0
+    tidied (Ended slot) e done = lets_go (rows_at v.rows slot) (λ w. w == slot) (ended_so c a slot e) done
+    tidied (GaveBack slot) e done = lets_go (rows_at v.rows slot) no_end (gave_back_so c a slot e) done
+    tidied Released e done = lets_go [] no_end (released_so c a e) done
 
     pub served_changes : Changes
     served_changes = tidied (remains_after c a) refl h.tidies

@@ -1,6 +1,6 @@
 -- After a transaction rolls back to a savepoint, or commits and keeps locks: the nodes of rows, and the effective modes of others on rows. For
 -- Registry.release_since and Registry.commit_keeping.
-use Rattle.std.specs.Prelude.{◌≡◌, ℕ, true, false, List, [], ◌∷◌, Option, Some, None, Result, Ok, Err, get_or, map}
+use Rattle.std.specs.Prelude.{◌≡◌, ℕ, true, false, List, [], ◌∷◌, ◌++◌, Option, Some, None, Result, Ok, Err, map}
 use Rattle.std.proofs.Common.{refl, sym, ap, ◌∙◌}
 use Rattle.std.proofs.Math.Bool.{or-false}
 use Rattle.gl_modes.specs.declared.node.NodeId.{NodeId}
@@ -25,7 +25,7 @@ use Rattle.gl_rows.specs.Applying.{Upkeep}
 use Rattle.gl_rows.specs.Names.{NamesHold}
 use Rattle.gl_rows.specs.Promises.{BacksKeepOnRows, KeepingsKeepOnRows, is_granted}
 use Rattle.gl_rows.specs.Releasing.{CommitsAndKeeps, GoesBackTo}
-use Rattle.gl_rows.specs.Rows.{RowsView}
+use Rattle.gl_rows.specs.Rows.{RowsView, rows_at, rows_left}
 use Rattle.gl_rows.proofs.CarriedOut.{unchanged}
 use Rattle.gl_rows.proofs.GraphChanges.{step_graph}
 use Rattle.gl_rows.proofs.LettingGo.{let_go_changes}
@@ -64,7 +64,7 @@ pub back_changes : (m m' : ManagerView) (v v' : RowsView) (t : TxnId) (mark : �
     → NamesHold v (state_of m).graph → GoesBackTo t mark m v result told m' v' → ChangesNames v v' (state_of m).graph (state_of m').graph
 back_changes m m' v v' t mark (Ok k) told law holds h =
     let_go_changes v v' (state_of m).graph (state_of h.0) (state_of m') (back_graph m h.0 t mark k told law h.1) (back_lawful m h.0 t mark k told law h.1) holds
-    h.2.0.files (get_or v.asked t.slot []) h.2.0.goes
+    h.2.files (rows_at v t.slot ++ rows_left v) h.2.goes
 back_changes m m' v v' t mark (Err r) told law holds h = unchanged m m' v v' law holds told h.1.same_manager h.1.same_rows
 
 -- what another keeps, it keeps while rows are let go
@@ -121,7 +121,7 @@ pub keeping_changes : (m m' : ManagerView) (v v' : RowsView) (t : TxnId) (keep s
     → ChangesNames v v' (state_of m).graph (state_of m').graph
 keeping_changes m m' v v' t keep since (Ok next) told law holds h =
     let_go_changes v v' (state_of m).graph (state_of h.0) (state_of m') (keeping_graph m h.0 t keep since next told law h.1)
-    (keeping_lawful m h.0 t keep since next told law h.1) holds h.2.0.files (get_or v.asked t.slot []) h.2.0.goes
+    (keeping_lawful m h.0 t keep since next told law h.1) holds h.2.files (rows_at v t.slot ++ rows_left v) h.2.goes
 keeping_changes m m' v v' t keep since (Err r) told law holds h = unchanged m m' v v' law holds told h.1.same_manager h.1.same_rows
 
 pub keepings_keep_on_rows : KeepingsKeepOnRows

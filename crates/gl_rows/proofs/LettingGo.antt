@@ -269,6 +269,15 @@ module _ (s₀ s s' : State) (law : IsLawful s) (ns₀ ns ns' : Names) (done mor
       (after q false f ∙ on.is, λ n _ now. on.stuck n (sym (after q false f) ∙ now))
   named q false false e f = (after q false f ∙ before q false e, λ n h. absurd (never h))
 
+  -- a row that was let go before keeps its node, if it still has one
+  pub done_stays : (q : Row) → is_among done q ≡ true → node_in ns' q ≡ node_in ns q
+  done_stays q e =
+      let on = settled_stays s s' go.forgotten.0 leaves_more (node_in ns₀ q) (node_in ns q)
+      (record { is = before q true e; stuck = λ n. far.kept q n e }) in
+      split (is_among more q)
+      (λ f. after q true f ∙ ap (living s'.graph) (before q true e) ∙ twice (node_in ns₀ q) ∙ sym on.is)
+      (λ f. after q false f)
+
   among_more : (q : Row) → is_among (done ++ more) q ≡ (is_among done q || is_among more q)
   among_more q = list_any-append (same_row q) done more
 

@@ -3,6 +3,7 @@ mod Accepted
 mod Adopted
 mod GraphChanges
 mod LettingGo
+mod LeftRows
 mod NameChanges
 mod RowLocks
 mod RowNames

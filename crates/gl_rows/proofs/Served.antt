@@ -31,7 +31,7 @@ use Rattle.gl_rows.specs.Applying.{CarriesOut, Stays, StepsAmid, Upkeep, answer_
 use Rattle.gl_rows.specs.Locking.{Line, Runs}
 use Rattle.gl_rows.specs.Promises.{CallsKeepOnRows, CommandsKeepOnRows, IsRegistry, KeepsOnRows, PathsKeepOnRows, drops_index_of, is_granted, names_in}
 use Rattle.gl_rows.specs.Rows.{RegistryView, RowsView, has_rows, name_of}
-use Rattle.gl_rows.specs.Serving.{Dropped, Ended, GaveBack, IsServed, Nothing, Remains, ServesBy, TidiesUp, remains_after, touches_rows}
+use Rattle.gl_rows.specs.Serving.{Dropped, Ended, GaveBack, IsServed, Nothing, Released, Remains, ServesBy, TidiesUp, remains_after, touches_rows}
 use Rattle.gl_rows.proofs.CarriedOut.{call_course, unchanged}
 use Rattle.gl_rows.proofs.Dropped.{served_changes}
 use Rattle.gl_rows.proofs.GraphChanges.{step_graph}
@@ -39,7 +39,7 @@ use Rattle.gl_rows.proofs.KeptIndexes.{keeps_trans, same_parents}
 use Rattle.gl_rows.proofs.KeptOnRows.{keeps_on_rows}
 use Rattle.gl_rows.proofs.NameChanges.{ChangesNames, names_stay, same_records}
 use Rattle.gl_rows.proofs.RunsKeepIndexes.{KeepsAll, is_drop, run_keeps as run_keeps_indexes, step_parents}
-use Rattle.gl_rows.proofs.Tidied.{IsOfLocks, ended_so, gave_back_so, tidy_upkeep}
+use Rattle.gl_rows.proofs.Tidied.{IsOfLocks, ended_so, gave_back_so, released_so, tidy_upkeep}
 
 -- what commands keep that do not name t and drop nothing: the law of a state, what t keeps, and indexes
 pub record Over (s s' : State) (t : TxnId) (granted : Bool) : Type 0 where
@@ -215,6 +215,7 @@ module _ (v v' : RegistryView) (c : Command) (a : Answer) (told : Told) (t : Txn
   served_keeps (Dropped n) e done = alone done.0
   served_keeps (Ended slot) e done = goes (ended_so c a slot e) (tidy_upkeep (Ended slot) h.mid v'.manager v.rows v'.rows done)
   served_keeps (GaveBack slot) e done = goes (gave_back_so c a slot e) (tidy_upkeep (GaveBack slot) h.mid v'.manager v.rows v'.rows done)
+  served_keeps Released e done = goes (released_so c a e) (tidy_upkeep Released h.mid v'.manager v.rows v'.rows done)
 
 pub commands_keep_on_rows : CommandsKeepOnRows
 commands_keep_on_rows v v' c result told t is serves alive apart = by (touches_rows v c) refl serves

@@ -1,16 +1,50 @@
 -- Sets of rows by slot: one of them is written.
-use Rattle.std.specs.Prelude.{◌≡◌, ◌<◌, ◌==◌, ◌&&◌, ◌||◌, ℕ, zero, suc, Bool, not, true, false, [], ◌∷◌, get_or, length, slice_set, cond}
+use Rattle.std.specs.Prelude.{◌≡◌, ◌<◌, ◌==◌, ◌&&◌, ◌||◌, ℕ, zero, suc, Bool, not, true, false, List, [], ◌∷◌, filter, get_or, length, slice_set, cond}
 use Rattle.std.specs.List.{list_any}
 use Rattle.std.proofs.Common.{refl, sym, ap, ◌∙◌, subst}
 use Rattle.std.proofs.Math.Bool.{and-false, and-true, or-false, or-true}
 use Rattle.std.proofs.lemmas.List.{get_or-map, get_or-set_other, get_or-set_same, length-map, map-set}
 use Rattle.indexmap.specs.IndexSet.{IndexSet, spare}
 use Rattle.gl_modes.proofs.Words.{clash, number_same, same_number, some_is, split}
-use Rattle.gl_rows.specs.Rows.{same_row}
+use Rattle.gl_rows.specs.Rows.{is_in_any, same_row}
 use Rattle.gl_rows.specs.Sound.{HasRoom, Sets, is_in, rows_of}
 use Rattle.gl_rows.specs.declared.row.Row.{Row}
 
+-- a set is replaced twice
+pub set_twice : {A : Type 0} (xs : List A) (i : ℕ) (a b : A) → slice_set (slice_set xs i a) i b ≡ slice_set xs i b
+set_twice [] i a b = refl
+set_twice (x ∷ xs) zero a b = refl
+set_twice (x ∷ xs) (suc i) a b = ap (λ ys. x ∷ ys) (set_twice xs i a b)
+
+-- nothing in it
+pub none_of : {A : Type 0} (xs : List A) → length xs ≡ 0 → xs ≡ []
+none_of [] e = refl
+none_of (x ∷ xs) e = absurd (cc e)
+
 module _ {H : Type 0} where
+  -- the rows after a set is replaced
+  pub rows_set : (sets : Sets H) (i : ℕ) (new : IndexSet Row H) (rows : List Row) → new.keys ≡ rows
+      → rows_of (slice_set sets i new) ≡ slice_set (rows_of sets) i rows
+  rows_set sets i new rows are = map-set (λ s. s.keys) sets i new ∙ ap (slice_set (rows_of sets) i) are
+
+  -- the row is in one of the sets
+  pub in_any : (sets : Sets H) (q : Row) → list_any (λ s. list_any (same_row q) s.keys) sets ≡ is_in_any (rows_of sets) q
+  in_any [] q = refl
+  in_any (s ∷ sets) q = ap (λ b. list_any (same_row q) s.keys || b) (in_any sets q)
+
+  -- the rows of a set
+  pub rows_there : (sets : Sets H) (i : ℕ) (d : IndexSet Row H) → i < length sets → get_or (rows_of sets) i [] ≡ (get_or sets i d).keys
+  rows_there sets i d less = get_or-map (λ s. s.keys) sets i d [] less
+
+  -- a set is taken out, keeps the rows that pass, and is put back
+  pub kept_alone : (sets : Sets H) (i : ℕ) (d none kept : IndexSet Row H) (p : List (List Row) → Row → Bool) → i < length sets → none.keys ≡ []
+      → kept.keys ≡ filter (p (rows_of (slice_set sets i none))) (get_or sets i d).keys
+      → rows_of (slice_set (slice_set sets i none) i kept)
+      ≡ slice_set (rows_of sets) i (filter (p (slice_set (rows_of sets) i [])) (get_or (rows_of sets) i []))
+  kept_alone sets i d none kept p less empty keeps =
+      ap rows_of (set_twice sets i none kept) ∙ rows_set sets i kept _ (keeps ∙ ap (λ xs. filter (p xs) (get_or sets i d).keys) (rows_set sets i none [] empty)
+      ∙ ap (filter (p (slice_set (rows_of sets) i []))) (sym (rows_there sets i d less)))
+
   pub room_at : (sets : Sets H) (i : ℕ) (new : IndexSet Row H) → 0 < spare new → HasRoom (slice_set sets i new) i
   room_at [] i new room set e = absurd (cc e)
   room_at (s ∷ ss) zero new room set e = subst (λ (x : IndexSet Row H). 0 < spare x) (some_is e) room
@@ -36,10 +70,6 @@ module _ {H : Type 0} where
     is_in_updated d row x has u q =
         replaced (λ b a. cond (b && same_row row q) x a) (λ a. refl) q
         (has q ∙ ap (λ ks. cond (same_row row q) x (list_any (same_row q) ks)) (sym (get_or-map (λ s. s.keys) sets i d [] less))) u
-
-    -- all are removed
-    pub is_in_cleared : new.keys ≡ [] → (u : ℕ) (q : Row) → is_in (slice_set sets i new) u q ≡ (is_in sets u q && not (u == i))
-    is_in_cleared empty u q = replaced (λ b a. a && not b) and-true q (ap (list_any (same_row q)) empty ∙ sym (and-false (is_in sets i q))) u
 
 pub cond-true : (a b : Bool) → cond b true a ≡ (a || b)
 cond-true a true = sym (or-true a)

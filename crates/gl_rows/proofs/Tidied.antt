@@ -16,9 +16,9 @@ use Rattle.gl_catalog.specs.Counters.{refuses}
 use Rattle.gl_catalog.specs.Manager.{ManagerView, state_of}
 use Rattle.gl_rows.specs.Applying.{Upkeep, is_upkeep}
 use Rattle.gl_rows.specs.Locking.{Names, forgets}
-use Rattle.gl_rows.specs.Releasing.{LetsEachGo, LetsGoAtEnd, LetsGoMeanwhile}
+use Rattle.gl_rows.specs.Releasing.{LetsEachGo, LetsGoAtEnd, LetsGoMeanwhile, LetsLeftGo, no_end}
 use Rattle.gl_rows.specs.Rows.{RegistryView, RowsView}
-use Rattle.gl_rows.specs.Serving.{Applies, Dropped, Ended, GaveBack, IsServed, Nothing, Remains, TidiesUp, lets_go, remains_after, remains_of}
+use Rattle.gl_rows.specs.Serving.{Applies, Dropped, Ended, GaveBack, IsServed, Nothing, Released, Remains, TidiesUp, lets_go, remains_after, remains_of}
 use Rattle.gl_rows.specs.declared.row.Row.{Row}
 use Rattle.gl_rows.proofs.GraphChanges.{is_of_nodes}
 use Rattle.gl_rows.proofs.RunsKeepIndexes.{is_drop}
@@ -32,12 +32,17 @@ all_forget (n ∷ gone) = all_forget gone
 pub each_goes : (s s' : State) (ns ns' : Names) (rows : List Row) → LetsEachGo s ns rows s' ns' → Upkeep s s'
 each_goes s s' ns ns' rows lets = record { lines = map forgets lets.forgotten.0; run = lets.forgotten.1; kept = all_forget lets.forgotten.0 }
 
+-- and those left
+pub left_upkeep : (m m' : ManagerView) (v v' : RowsView) (rows : List Row) (ended : ℕ → Bool) → LetsLeftGo m v rows ended m' v'
+    → Upkeep (state_of m) (state_of m')
+left_upkeep m m' v v' rows ended h = each_goes (state_of m) (state_of m') v.names v'.names _ h.goes
+
 -- those that a transaction asked for, when it ends or meanwhile
 pub at_end_upkeep : (m m' : ManagerView) (v v' : RowsView) (slot : ℕ) → LetsGoAtEnd m v slot m' v' → Upkeep (state_of m) (state_of m')
-at_end_upkeep m m' v v' slot h = each_goes (state_of m) (state_of m') v.names v'.names _ h.0.goes
+at_end_upkeep m m' v v' slot h = left_upkeep m m' v v' _ _ h
 
 pub meanwhile_upkeep : (m m' : ManagerView) (v v' : RowsView) (slot : ℕ) → LetsGoMeanwhile m v slot m' v' → Upkeep (state_of m) (state_of m')
-meanwhile_upkeep m m' v v' slot h = each_goes (state_of m) (state_of m') v.names v'.names _ h.0.goes
+meanwhile_upkeep m m' v v' slot h = left_upkeep m m' v v' _ _ h
 
 -- what is done for rows
 pub tidy_upkeep : (x : Remains) (m m' : ManagerView) (v v' : RowsView) → TidiesUp x m v m' v' → Upkeep (state_of m) (state_of m')
@@ -45,6 +50,7 @@ tidy_upkeep Nothing m m' v v' h = upkeep_none (state_of m) (state_of m') (ap sta
 tidy_upkeep (Dropped n) m m' v v' h = upkeep_none (state_of m) (state_of m') (ap state_of h.0)
 tidy_upkeep (Ended slot) m m' v v' h = at_end_upkeep m m' v v' slot h
 tidy_upkeep (GaveBack slot) m m' v v' h = meanwhile_upkeep m m' v v' slot h
+tidy_upkeep Released m m' v v' h = left_upkeep m m' v v' [] no_end h
 
 -- two words for a refusal
 pub refuses_is : (a : Answer) → refuses a ≡ is_refused a
@@ -66,6 +72,7 @@ none_remains c a not_so = split (is_refused a) (remains_if c a true)
     query (command.Abort t) e = absurd (never (sym e))
     query (command.Cancel t) e = absurd (never (sym e))
     query (command.Escalate t n) e = absurd (never (sym e))
+    query (command.Unlock t n) e = absurd (never (sym e))
     query c e = refl
 
 -- what a command was that leaves this to be done
@@ -107,6 +114,13 @@ gave_back_so c a slot e = by c (leaves c a (GaveBack slot) (λ x. cc x) e).remai
     by (command.Escalate t n) e = record { nodes = refl; drops = refl }
     by c e = absurd (cc e)
 
+pub released_so : (c : Command) (a : Answer) → remains_after c a ≡ Released → IsOfLocks c
+released_so c a e = by c (leaves c a Released (λ x. cc x) e).remains
+  where
+    by : (c : Command) → remains_of c ≡ Released → IsOfLocks c
+    by (command.Unlock t n) e = record { nodes = refl; drops = refl }
+    by c e = absurd (cc e)
+
 -- A command that leaves nothing to be done is its step alone.
 
 remains_nothing : (c : Command) (a : Answer) → remains_of c ≡ Nothing → remains_after c a ≡ Nothing
@@ -143,3 +157,4 @@ served_kept v v' c a told h quiet = by (remains_after c a) quiet h.tidies
     by (Dropped n) quiet done = done.0
     by (Ended slot) quiet done = absurd (never (sym quiet))
     by (GaveBack slot) quiet done = absurd (never (sym quiet))
+    by Released quiet done = absurd (never (sym quiet))

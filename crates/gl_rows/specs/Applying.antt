@@ -3,6 +3,7 @@ use Rattle.std.specs.Prelude.{◌≡◌, ◌⊎◌, Bool, true, false, List, [],
 use Rattle.std.specs.List.{list_all}
 use Rattle.gl_modes.specs.declared.node.NodeId.{NodeId}
 use Rattle.gl_modes.specs.declared.refusal.Refusal.{Refusal}
+use Rattle.gl_slots.specs.Slots.{no_slots}
 use Rattle.gl_model.specs.State.{State}
 use Rattle.gl_model.specs.Tellings.{Told}
 use Rattle.gl_steps.specs.declared.command.Answer.{Answer}
@@ -56,7 +57,7 @@ own_command v (call.Rekey t row index key) = command.Rekey t (named_or_none v ro
 
 -- no row has a node
 abbrev pub unnamed : RowsView
-unnamed = record { files = []; names = []; asked = [] }
+unnamed = record { files = []; names = []; asked = []; left = no_slots }
 
 -- the rows that give a call its node: for a lock those after it, for any other call those before it
 abbrev pub naming : RowCall → RowsView → RowsView → RowsView

@@ -16,6 +16,7 @@ pub record AddsFile (v : RowsView) (f : NodeId) (v' : RowsView) : Type 0 where
   pub files : (n : NodeId) → has_rows v' n ≡ (same_node f n || has_rows v n)
   pub names : v'.names ≡ v.names
   pub asked : v'.asked ≡ v.asked
+  pub left : v'.left ≡ v.left
 
 -- a file of rows is made; or the manager or lack of memory refuses it
 abbrev pub MakesFile : ManagerView → RowsView → Bor (List NodeId) → Result NodeId Refusal → ManagerView → RowsView → Type 0

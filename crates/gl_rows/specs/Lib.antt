@@ -3,6 +3,7 @@ pub mod Sound
 pub mod Answers
 pub mod Locking
 pub mod Releasing
+pub mod Leaving
 pub mod Files
 pub mod Naming
 pub mod Applying

@@ -58,6 +58,7 @@ pub record Registers (v v' : RowsView) (slot : ℕ) (row : Row) (n : NodeId) : T
   pub files : v'.files ≡ v.files
   pub names : Renames v.names v'.names row (Some n)
   pub asked : (u : ℕ) (q : Row) → has_asked v' u q ≡ (has_asked v u q || ((u == slot) && same_row q row))
+  pub left : v'.left ≡ v.left
 
 -- one command of the manager: one step, counted, with all that it must keep
 pub record Does (m : ManagerView) (c : Command) (r : Says) (m' : ManagerView) : Type 0 where

@@ -1,5 +1,5 @@
 -- What the calls do that release locks or rekey a row: rows that nobody holds any more lose their nodes.
-use Rattle.std.specs.Prelude.{◌≡◌, ℕ, Bool, true, not, ◌&&◌, ◌==◌, List, [], ◌∷◌, Option, Some, None, Result, Ok, Err, map, is_some, get_or}
+use Rattle.std.specs.Prelude.{◌≡◌, ℕ, Bool, true, false, not, ◌&&◌, ◌||◌, ◌==◌, ◌++◌, List, [], ◌∷◌, Option, Some, None, Result, Ok, Err, map, is_some}
 use Rattle.std.specs.Prelude.{unwrap_or, if◌then◌else◌}
 use Rattle.std.specs.List.{list_any}
 use Rattle.std.specs.Map.{lookup}
@@ -7,6 +7,7 @@ use Rattle.gl_modes.specs.declared.node.NodeId.{NodeId}
 use Rattle.gl_modes.specs.declared.refusal.Refusal.{Refusal}
 use Rattle.gl_graph.specs.Graph.{Graph, is_live}
 use Rattle.gl_graph.specs.Refusals.{first_refusal}
+use Rattle.gl_slots.specs.Slots.{has_slot}
 use Rattle.gl_model.specs.declared.txn.TxnId.{TxnId}
 use Rattle.gl_model.specs.State.{State}
 use Rattle.gl_model.specs.Tellings.{Told}
@@ -20,7 +21,7 @@ use Rattle.gl_rows.specs.declared.answer.RowRefusal.{RowRefusal}
 use Rattle.gl_rows.specs.declared.answer.RowRefusal.TheVariants as row_no
 use Rattle.gl_rows.specs.declared.row.Row.{Row}
 use Rattle.gl_rows.specs.Locking.{Does, IsRefused, LetsGo, Names, Refused, Runs, SameAccount, forgets}
-use Rattle.gl_rows.specs.Rows.{RowsView, has_asked, has_rows, name_of, same_row}
+use Rattle.gl_rows.specs.Rows.{RowsView, asked_beside, has_any, has_asked, has_rows, name_of, rows_at, rows_left, same_row}
 
 -- the node, if it lives
 abbrev pub living : Graph → Option NodeId → Option NodeId
@@ -60,19 +61,42 @@ node_or_no None has = if has then Ok no_node else Err row_no.NotRows
 abbrev pub node_for : RowsView → Row → Result NodeId RowRefusal
 node_for v row = node_or_no (name_of v row) (has_rows v row.file)
 
--- the slot's transaction no longer asks for the row
-abbrev pub Unasks : RowsView → RowsView → ℕ → Row → Type 0
-Unasks v v' slot row = (w : ℕ) (q : Row) → has_asked v' w q ≡ (has_asked v w q && not ((w == slot) && same_row row q))
+-- these rows are let go, and those left. So are the rows of a slot whose transaction has ended: it keeps those that still have a node and that no other slot
+-- has. A slot with rows left keeps those that still have a node. Those are now the rows left
+pub record LetsLeftGo (m : ManagerView) (v : RowsView) (rows : List Row) (ended : ℕ → Bool) (m' : ManagerView) (v' : RowsView) : Type 0 where
+  pub goes : LetsEachGo (state_of m) v.names (rows ++ rows_left v) (state_of m') v'.names
+  pub account : SameAccount m m'
+  pub files : v'.files ≡ v.files
+  pub asked : (w : ℕ) (q : Row) → has_asked v' w q
+      ≡ (has_asked v w q && ((not (ended w || has_slot v.left w) || is_some (name_of v' q)) && not (ended w && asked_beside v' w q)))
+  pub left : (w : ℕ) → has_slot v'.left w ≡ ((ended w || has_slot v.left w) && has_any v' w)
 
--- a row's node is unlocked, and forgotten if it can be
+-- no transaction has ended
+abbrev pub no_end : ℕ → Bool
+no_end w = false
+
+-- the slot's transaction no longer asks for the row, unless the row kept its node
+abbrev pub Unasks : Result (Unit {0}) Refusal → RowsView → RowsView → ℕ → Row → Type 0
+Unasks (Ok u) v v' slot row = (w : ℕ) (q : Row) → has_asked v' w q ≡ (has_asked v w q && not ((w == slot) && same_row row q))
+Unasks (Err r) v v' slot row = v'.asked ≡ v.asked
+
+-- a row is let go, which its transaction released
+pub record LetsOwnGo (m : ManagerView) (v : RowsView) (slot : ℕ) (row : Row) (m' : ManagerView) (v' : RowsView) : Type 0 where
+  pub gone : Result (Unit {0}) Refusal
+  pub goes : LetsGo (state_of m) v.names row gone (state_of m') v'.names
+  pub account : SameAccount m m'
+  pub files : v'.files ≡ v.files
+  pub asked : Unasks gone v v' slot row
+  pub left : v'.left ≡ v.left
+
+-- a row's node is unlocked, and the row is let go, and those left
 pub record Unlocks (m : ManagerView) (v : RowsView) (t : TxnId) (row : Row) (n : NodeId) (told : Told) (m' : ManagerView) (v' : RowsView) : Type 0 where
   pub mid : ManagerView
-  pub gone : Result (Unit {0}) Refusal
+  pub after : ManagerView
+  pub rest : RowsView
   pub unlocks : Does m (command.Unlock t n) (doing told tt) mid
-  pub goes : LetsGo (state_of mid) v.names row gone (state_of m') v'.names
-  pub account : SameAccount mid m'
-  pub files : v'.files ≡ v.files
-  pub asked : Unasks v v' t.slot row
+  pub own : LetsOwnGo mid v t.slot row after rest
+  pub others : LetsLeftGo after rest [] no_end m' v'
 
 -- the same, or a refusal
 abbrev pub UnlocksBy : Result NodeId RowRefusal → ManagerView → RowsView → TxnId → Row → Result (Unit {0}) RowRefusal → Told → ManagerView → RowsView → Type 0
@@ -97,26 +121,20 @@ RekeysBy (Ok n) m v t index key (Err row_no.NotRows) told m' v' = ⊥
 abbrev pub RekeysRow : ManagerView → RowsView → TxnId → Row → NodeId → ℕ → Result (Unit {0}) RowRefusal → Told → ManagerView → RowsView → Type 0
 RekeysRow m v t row index key result told m' v' = RekeysBy (node_for v row) m v t index key result told m' v'
 
--- the rows that the slot's transaction asked for are let go
-pub record LetsGoAsked (m : ManagerView) (v : RowsView) (slot : ℕ) (m' : ManagerView) (v' : RowsView) : Type 0 where
-  pub goes : LetsEachGo (state_of m) v.names (get_or v.asked slot []) (state_of m') v'.names
-  pub account : SameAccount m m'
-  pub files : v'.files ≡ v.files
-
--- so they are when that transaction ends, which then asks for no row
+-- the rows of a slot are let go when its transaction ends
 abbrev pub LetsGoAtEnd : ManagerView → RowsView → ℕ → ManagerView → RowsView → Type 0
-LetsGoAtEnd m v slot m' v' = LetsGoAsked m v slot m' v' × ((w : ℕ) (q : Row) → has_asked v' w q ≡ (has_asked v w q && not (w == slot)))
+LetsGoAtEnd m v slot m' v' = LetsLeftGo m v (rows_at v slot) (λ w. w == slot) m' v'
 
 -- so they are while it goes on, and it still asks for them
 abbrev pub LetsGoMeanwhile : ManagerView → RowsView → ℕ → ManagerView → RowsView → Type 0
-LetsGoMeanwhile m v slot m' v' = LetsGoAsked m v slot m' v' × (v'.asked ≡ v.asked)
+LetsGoMeanwhile m v slot m' v' = LetsLeftGo m v (rows_at v slot) no_end m' v'
 
 -- a transaction rolls back to a mark, and the rows that it asked for are let go
 abbrev pub GoesBackTo : TxnId → ℕ → ManagerView → RowsView → Result ℕ Refusal → Told → ManagerView → RowsView → Type 0
 GoesBackTo t mark m v (Ok k) told m' v' = (mid : ManagerView) × TakesBack t mark k m told mid × LetsGoMeanwhile mid v t.slot m' v'
 GoesBackTo t mark m v (Err r) told m' v' = (first_refusal (back_tests m t mark) ≡ Some r) × Refused {A = ℕ} m v r (Err r) told m' v'
 
--- a transaction commits, and another begins in its slot that keeps its first locks; the rows that it asked for are let go, and it asks for none any more
+-- a transaction commits, and another begins in its slot that keeps its first locks; the rows that it asked for are let go, as at any end
 abbrev pub CommitsAndKeeps : TxnId → ℕ → ℕ → ManagerView → RowsView → Result (Option TxnId) Refusal → Told → ManagerView → RowsView → Type 0
 CommitsAndKeeps t keep since m v (Ok next) told m' v' =
     (mid : ManagerView) × CompletesKeeping t keep since m next told mid × LetsGoAtEnd mid v t.slot m' v'

@@ -20,7 +20,7 @@ use Rattle.gl_steps.specs.Promises.{KeepsCaller, SettlesIdle, StepLeavesOthers}
 use Rattle.gl_catalog.specs.Replies.{said}
 use Rattle.gl_steps.specs.Served.{is_refused}
 use Rattle.gl_steps.specs.Step.{Step}
-use Rattle.gl_rows.specs.Releasing.{LetsGoAtEnd, LetsGoMeanwhile}
+use Rattle.gl_rows.specs.Releasing.{LetsGoAtEnd, LetsGoMeanwhile, LetsLeftGo, no_end}
 use Rattle.gl_rows.specs.Rows.{RegistryView, RowsView, has_rows}
 
 -- the command would make, remove or rekey a record of a file of rows
@@ -49,14 +49,16 @@ pub record ForgetsFile (v : RowsView) (n : NodeId) (v' : RowsView) : Type 0 wher
   pub files : (f : NodeId) → has_rows v' f ≡ (has_rows v f && not (same_node n f))
   pub names : v'.names ≡ v.names
   pub asked : v'.asked ≡ v.asked
+  pub left : v'.left ≡ v.left
 
 -- what a command leaves to be done for rows: nothing, or the node that it dropped, or the slot of the transaction that it ended, or of one whose locks or wait
--- it gave back
+-- it gave back, or it released one node
 pub data Remains : Type 0 where
   Nothing : Remains
   Dropped : (node : NodeId) → Remains
   Ended : (slot : ℕ) → Remains
   GaveBack : (slot : ℕ) → Remains
+  Released : Remains
 
 -- if it is not refused
 abbrev pub remains_of : Command → Remains
@@ -65,6 +67,7 @@ remains_of (command.Commit t) = Ended t.slot
 remains_of (command.Abort t) = Ended t.slot
 remains_of (command.Cancel t) = GaveBack t.slot
 remains_of (command.Escalate t n) = GaveBack t.slot
+remains_of (command.Unlock t n) = Released
 remains_of c = Nothing
 
 -- and by its answer
@@ -75,15 +78,17 @@ remains_after c a = if is_refused a then Nothing else remains_of c
 abbrev pub lets_go : Remains → Bool
 lets_go (Ended slot) = true
 lets_go (GaveBack slot) = true
+lets_go Released = true
 lets_go x = false
 
 -- what is done for rows. A dropped node is no file of rows any more; its rows have no nodes, since it had no record, and its id is never given again. The
--- rows that a transaction asked for are let go; one that has ended asks for none any more
+-- rows that a transaction asked for are let go, and the rows left
 abbrev pub TidiesUp : Remains → ManagerView → RowsView → ManagerView → RowsView → Type 0
 TidiesUp Nothing m v m' v' = (m' ≡ m) × (v' ≡ v)
 TidiesUp (Dropped n) m v m' v' = (m' ≡ m) × ForgetsFile v n v'
 TidiesUp (Ended slot) m v m' v' = LetsGoAtEnd m v slot m' v'
 TidiesUp (GaveBack slot) m v m' v' = LetsGoMeanwhile m v slot m' v'
+TidiesUp Released m v m' v' = LetsLeftGo m v [] no_end m' v'
 
 -- a command is carried out, and then what it leaves to be done for rows
 pub record IsServed (v : RegistryView) (c : Command) (a : Answer) (told : Told) (v' : RegistryView) : Type 0 where

@@ -3,6 +3,7 @@ use Rattle.std.specs.Prelude.{◌≡◌, ◌<◌, ℕ, Bool, List, [], Some, get
 use Rattle.std.specs.List.{list_any}
 use Rattle.indexmap.specs.IndexSet.{IndexSet, spare}
 use Rattle.gl_slots.specs.Limit.{most_slots}
+use Rattle.gl_slots.specs.declared.slots.Slots.{Slots}
 use Rattle.gl_modes.specs.declared.node.NodeId.{NodeId}
 use Rattle.gl_rows.specs.Rows.{RowsView, same_row}
 use Rattle.gl_rows.specs.declared.row.Row.{Row}
@@ -25,13 +26,13 @@ module _ {H : Type 0} (sets : Sets H) where
   abbrev pub HasRoom : ℕ → Type 0
   HasRoom slot = (set : IndexSet Row H) → slice_get sets slot ≡ Some set → 0 < spare set
 
--- files, names and sets as a contract sees them
-abbrev pub viewed : {H : Type 0} → List NodeId → List (Row × NodeId) → Sets H → RowsView
-viewed files names sets = record { files = files; names = names; asked = rows_of sets }
+-- files, names, sets and slots with rows left, as a contract sees them
+abbrev pub viewed : {H : Type 0} → List NodeId → List (Row × NodeId) → Sets H → Slots → RowsView
+viewed files names sets left = record { files = files; names = names; asked = rows_of sets; left = left }
 
 -- what a contract sees
 abbrev pub view_of : Inside → RowsView
-view_of m = viewed m.files.keys m.names.entries m.asked.items
+view_of m = viewed m.files.keys m.names.entries m.asked.items m.left
 
 -- there is a set for each slot
 abbrev pub IsSound : Inside → Type 0

@@ -10,6 +10,7 @@ ghost use Rattle.gl_graph.specs.View.{graph_of};
 ghost use Rattle.gl_rows.specs.Applying.{AppliesCall, AppliesRow, CarriesOut, answer_in, naming, own_command};
 ghost use Rattle.gl_rows.specs.Names.{NameWell, NamesHold};
 ghost use Rattle.gl_rows.specs.Releasing.{CommitsAndKeeps, GoesBackTo};
+ghost use Rattle.gl_slots.specs.Slots.{HasNoSlot};
 ghost use Rattle.gl_rows.specs.Rows.{has_asked, has_rows, name_of};
 ghost use Rattle.gl_rows.specs.Serving.{PathLeavesRows, ServesBy, touches_rows};
 
@@ -29,7 +30,8 @@ use std::marker::Model;
 /// alone.
 ///
 /// A row gets its node from the call that locks it. It loses the node by a later command that releases
-/// locks, if nobody holds the node or waits for it any more. The registry owns the manager, lends it
+/// locks, if nobody holds the node or waits for it any more, also if its last holder locked it by the
+/// node. The registry owns the manager, lends it
 /// for reading and serves every command. So each row's node is a living record of the row's file, no
 /// two rows have the same node, and each record of a file of rows is the node of one of its rows.
 #[derive(Drop)]
@@ -57,6 +59,7 @@ impl Registry {
         ensures fileless { IfOk result (λ registry. (file : ANode) → has_rows registry.rows file ≡ false) }
         ensures unnamed { IfOk result (λ registry. (row : ARow) → name_of registry.rows row ≡ None) }
         ensures unasked { IfOk result (λ registry. (slot : ℕ) (row : ARow) → has_asked registry.rows slot row ≡ false) }
+        ensures none_left { IfOk result (λ registry. HasNoSlot registry.rows.left) }
         ensures refused { IfErr result (λ refusal. refusal ≡ ARefusal.NoMemory) }
     {
         let rows = Rows::new(alloc)?;
@@ -104,7 +107,8 @@ impl Registry {
     /// nothing if the command would make, remove or rekey a record of a file of rows by its node, even
     /// if other refusals apply. A dropped file is no file of rows any more. After a commit, an abort, a
     /// cancel and an escalation, rows that the transaction asked for and that nobody holds or waits for
-    /// any more lose their nodes. `told` must be empty, and receives the notices.
+    /// any more lose their nodes; so do rows left by earlier ones, also after an unlock. `told` must be
+    /// empty, and receives the notices.
     #[inline(always)]
     pub fn serve(&mut self, command: Command<'_>, told: &mut Told) -> Option<Answer>
         requires empty { told.old.items ≡ [] }
@@ -134,7 +138,7 @@ impl Registry {
     }
 
     /// Rolls back to a savepoint, as `Manager::release_since_telling`. Rows that the transaction asked
-    /// for and that nobody holds or waits for any more lose their nodes.
+    /// for or earlier ones left, and that nobody holds or waits for any more, lose their nodes.
     pub fn release_since(
         &mut self,
         t: TxnId,
@@ -149,8 +153,8 @@ impl Registry {
     }
 
     /// Commits a transaction and begins another in its slot that keeps its first `keep` locks, as
-    /// `Manager::commit_keeping_telling`. Rows that the transaction asked for and that nobody holds or
-    /// waits for any more lose their nodes.
+    /// `Manager::commit_keeping_telling`. Rows that the transaction asked for or earlier ones left, and
+    /// that nobody holds or waits for any more, lose their nodes.
     pub fn commit_keeping(
         &mut self,
         t: TxnId,

@@ -10,6 +10,7 @@ ghost use Rattle.gl_modes.specs.Nodes.{same_node};
 ghost use Rattle.gl_rows.specs.declared.row.Row.{Row as ARow};
 ghost use Rattle.gl_rows.specs.Files.{MakesFile};
 ghost use Rattle.gl_rows.specs.Releasing.{node_for};
+ghost use Rattle.gl_slots.specs.Slots.{HasNoSlot};
 ghost use Rattle.gl_rows.specs.Rows.{has_asked, has_rows, name_of};
 ghost use Rattle.gl_rows.specs.Serving.{ForgetsFile, TidiesUp, remains_after};
 
@@ -18,6 +19,7 @@ use crate::row::Row;
 use crate::sets::empty_sets;
 use gl_catalog::{Answer, Command, Manager};
 use gl_modes::{NodeId, Refusal};
+use gl_slots::Slots;
 use indexmap::{IndexMap, IndexSet};
 use std::alloc::Global;
 use std::marker::Model;
@@ -28,13 +30,14 @@ mod release;
 /// The most files that are searched without hashing.
 const FEW: usize = 8;
 
-/// The files of rows, the node of each row that has one, and for each slot the rows that its
-/// transaction asked for.
+/// The files of rows, the node of each row that has one, for each slot the rows that its transaction
+/// asked for or earlier ones left, and the slots with rows left.
 #[derive(Drop)]
 pub(crate) struct Rows {
     files: IndexSet<NodeId>,
     names: IndexMap<Row, NodeId>,
     asked: Vec<IndexSet<Row>>,
+    left: Slots,
 }
 
 impl Model for Rows {
@@ -55,12 +58,14 @@ impl Rows {
         ensures fileless { IfOk result (λ rows. (file : ANode) → has_rows rows file ≡ false) }
         ensures unnamed { IfOk result (λ rows. (row : ARow) → name_of rows row ≡ None) }
         ensures unasked { IfOk result (λ rows. (slot : ℕ) (row : ARow) → has_asked rows slot row ≡ false) }
+        ensures none_left { IfOk result (λ rows. HasNoSlot rows.left) }
         ensures refused { IfErr result (λ refusal. refusal ≡ ARefusal.NoMemory) }
     {
         Ok(Rows {
             files: IndexSet::new(alloc),
             names: IndexMap::new(alloc),
             asked: empty_sets(alloc)?,
+            left: Slots::empty(),
         })
     }
 
@@ -113,8 +118,8 @@ impl Rows {
     }
 
     /// Does for rows what a command with this answer leaves to be done: a dropped node is no file of
-    /// rows any more, and rows that the transaction of a command that releases locks asked for, and
-    /// that nobody holds or waits for any more, lose their nodes.
+    /// rows any more. After a command that releases locks, rows that its transaction asked for or that
+    /// earlier ones left, and that nobody holds or waits for any more, lose their nodes.
     #[inline(always)]
     pub(crate) fn tidy_up(&mut self, manager: &mut Manager, command: &Command<'_>, answer: Answer)
         ensures { TidiesUp (remains_after command.now answer) manager.old self.old manager.new self.new }
@@ -130,6 +135,7 @@ impl Rows {
             Command::Cancel { txn } | Command::Escalate { txn, .. } => {
                 self.let_go_asked(manager, txn.slot);
             }
+            Command::Unlock { .. } => self.let_left_go(manager),
             _ => {}
         }
     }

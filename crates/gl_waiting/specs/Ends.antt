@@ -10,7 +10,7 @@ use Rattle.gl_steps.specs.Promises.{names, same_txn}
 use Rattle.gl_model.specs.declared.txn.TxnId.{TxnId}
 use Rattle.gl_steps.specs.declared.command.Answer.{Answer}
 use Rattle.gl_steps.specs.declared.command.Command.TheVariants as command
-use Rattle.gl_rows.specs.Serving.{Applies, PathLeavesRows}
+use Rattle.gl_rows.specs.Serving.{IsServed, PathLeavesRows}
 use Rattle.gl_rows.specs.declared.answer.RowLocked.{RowLocked}
 use Rattle.gl_rows.specs.declared.answer.RowRefusal.{RowRefusal}
 use Rattle.gl_waiting.specs.Delivering.{DeliveryView, registry_in}
@@ -26,10 +26,8 @@ use Rattle.gl_waiting.specs.declared.waiter.Next.TheVariants as next
 use Rattle.gl_waiting.specs.declared.waiter.Waiter.{Waiter}
 
 -- a node is unlocked, as a command of the registry
-pub record Unlocks (t : TxnId) (node : NodeId) (told : Told) (d d' : DeliveryView) : Type 0 where
-  pub answer : Answer
-  pub applies : Applies d.manager (command.Unlock t node) answer told d'.manager
-  pub rows : d'.rows ≡ d.rows
+abbrev pub Unlocks : TxnId → NodeId → Told → DeliveryView → DeliveryView → Type 0
+Unlocks t node told d d' = (a : Answer) × IsServed (registry_in d) (command.Unlock t node) a told (registry_in d')
 
 -- a waiter does what comes next, and its request came to this: it ends, after its lock is given back if that was for an instant; the next part of its path is
 -- locked; its row is locked again; or its row is locked

@@ -1,17 +1,21 @@
 //! Releasing and rekeying rows. Rows that nobody holds or waits for any more lose their nodes.
 //!
 //! A row keeps its node if the manager would refuse to forget it: a transaction still holds it or
-//! waits for it, or no command can be counted any more. `told` must be empty before each call. A
+//! waits for it, or no command can be counted any more. If the last transaction that asked for it ends
+//! before the others, the row is left in its slot's set, and let go by a later release. `told` must be empty before each call. A
 //! refused call changes nothing.
 
-ghost use Rattle.std.specs.Prelude.{◌≡◌, []};
-ghost use Rattle.gl_rows.specs.Releasing.{CommitsAndKeeps, GoesBackTo, LetsGoAtEnd, LetsGoMeanwhile, RekeysRow, UnlocksRow};
+ghost use Rattle.std.specs.Prelude.{◌≡◌, None, [], true};
+ghost use Rattle.gl_rows.specs.declared.row.Row.{Row as ARow};
+ghost use Rattle.gl_rows.specs.Leaving.{LetsGoIn};
+ghost use Rattle.gl_rows.specs.Releasing.{CommitsAndKeeps, GoesBackTo, LetsGoAtEnd, LetsGoMeanwhile, LetsLeftGo, LetsOwnGo, RekeysRow, UnlocksRow, no_end};
+ghost use Rattle.gl_rows.specs.Rows.{has_asked, name_of};
 
 use super::Rows;
 use crate::answer::RowRefusal;
 use crate::names::{let_each_go, let_go};
 use crate::row::Row;
-use crate::sets::{clear, rows_in, take};
+use crate::sets::{end_asking, keep_named, rows_in, take};
 use gl_catalog::Manager;
 use gl_modes::{NodeId, Refusal};
 use gl_slots::Slot;
@@ -32,8 +36,8 @@ impl Rows {
     {
         let node = self.node_for(row)?;
         manager.unlock_telling(t, node, told)?;
-        let _ = let_go(&mut self.names, manager, row);
-        take(&mut self.asked, t.slot, row);
+        self.let_own_go(manager, t.slot, row);
+        self.let_left_go(manager);
         Ok(())
     }
 
@@ -56,26 +60,75 @@ impl Rows {
         Ok(())
     }
 
-    /// Lets go the rows that the transaction in a slot asked for, which has ended.
+    /// Lets go a row that the transaction in a slot released. It still asks for the row if that kept
+    /// its node.
+    fn let_own_go(&mut self, manager: &mut Manager, slot: Slot, row: Row)
+        ensures { LetsOwnGo manager.old self.old slot row manager.new self.new }
+    {
+        if let_go(&mut self.names, manager, row).is_ok() {
+            take(&mut self.asked, slot, row);
+        }
+    }
+
+    /// Lets go the rows that the transaction in a slot asked for, which has ended, and the rows left.
     #[inline(always)]
     pub(super) fn let_go_at_end(&mut self, manager: &mut Manager, slot: Slot)
         ensures { LetsGoAtEnd manager.old self.old slot manager.new self.new }
     {
-        if rows_in(&self.asked, slot).is_empty() {
+        if rows_in(&self.asked, slot).is_empty() && self.left.is_empty() {
             return; // The usual case.
         }
-        self.let_go_asked(manager, slot);
-        clear(&mut self.asked, slot);
+        let all = self.let_go_asked(manager, slot);
+        end_asking(&mut self.asked, slot, &self.names, all);
+        if rows_in(&self.asked, slot).is_empty() {
+            self.left.remove(slot);
+        } else {
+            self.left.insert(slot);
+        }
     }
 
-    /// Lets go the rows that the transaction in a slot asked for. It still asks for them.
+    /// Lets go the rows that the transaction in a slot asked for, and the rows left. It still asks for
+    /// them. Whether none of them has a node any more.
     #[inline(always)]
-    pub(super) fn let_go_asked(&mut self, manager: &mut Manager, slot: Slot)
-        ensures { LetsGoMeanwhile manager.old self.old slot manager.new self.new }
+    pub(super) fn let_go_asked(&mut self, manager: &mut Manager, slot: Slot) -> bool
+        ensures goes { LetsGoMeanwhile manager.old self.old slot manager.new self.new }
+        ensures gone { result ≡ true → (row : ARow) → has_asked self.old slot row ≡ true → name_of self.new row ≡ None }
     {
-        let asked = rows_in(&self.asked, slot);
-        if !asked.is_empty() {
-            let_each_go(&mut self.names, manager, asked);
+        manager.law();
+        let all = let_each_go(&mut self.names, manager, rows_in(&self.asked, slot));
+        self.let_left_go(manager);
+        all
+    }
+
+    /// Lets go the rows left.
+    #[inline(always)]
+    pub(super) fn let_left_go(&mut self, manager: &mut Manager)
+        ensures { LetsLeftGo manager.old self.old [] no_end manager.new self.new }
+    {
+        if !self.left.is_empty() {
+            self.let_each_left_go(manager);
+        }
+    }
+
+    /// Lets go the rows left, slot by slot.
+    fn let_each_left_go(&mut self, manager: &mut Manager)
+        ensures { LetsLeftGo manager.old self.old [] no_end manager.new self.new }
+    {
+        let mut slots = self.left;
+        while let Some(slot) = slots.take_lowest() {
+            manager.law();
+            self.let_go_in(manager, slot);
+        }
+    }
+
+    /// Lets go the rows of a slot with rows left.
+    fn let_go_in(&mut self, manager: &mut Manager, slot: Slot)
+        ensures { LetsGoIn manager.old self.old slot manager.new self.new }
+    {
+        let_each_go(&mut self.names, manager, rows_in(&self.asked, slot));
+        keep_named(&mut self.asked, slot, &self.names);
+        if rows_in(&self.asked, slot).is_empty() {
+            self.left.remove(slot);
         }
     }
 

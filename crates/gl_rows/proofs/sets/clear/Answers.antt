@@ -1,11 +1,12 @@
-use Rattle.std.proofs.Common.{arith}
-use Rattle.gl_rows.proofs.SlotSets.{is_in_cleared}
+use Rattle.gl_rows.proofs.SlotSets.{none_of, rows_set}
 use Rattle.gl_rows.proofs.sets.clear.Goals as goal
 
-pub returns-then-len-capacity-clause-has : goal.returns-then-len-capacity-clause-has
-returns-then-len-capacity-clause-has c =
-    is_in_cleared c.args.sets.now.items c.args.slot c.truncate.new.self (omega arith) c.truncate.ensures.keys
+pub returns-then-len-capacity-clause-rows : goal.returns-then-len-capacity-clause-rows
+returns-then-len-capacity-clause-rows c = rows_set c.args.sets.now.items c.args.slot c.truncate.new.self _ c.truncate.ensures.keys
 
-pub returns-else-len-capacity-clause-has : goal.returns-else-len-capacity-clause-has
-returns-else-len-capacity-clause-has c =
-    is_in_cleared c.args.sets.now.items c.args.slot c.clear.new.self (omega arith) c.clear.ensures.empty
+pub returns-else-len-capacity-clause-rows : goal.returns-else-len-capacity-clause-rows
+returns-else-len-capacity-clause-rows c = rows_set c.args.sets.now.items c.args.slot c.clear.new.self _ c.clear.ensures.empty
+
+pub returns-then-is_empty-clause-rows : goal.returns-then-is_empty-clause-rows
+returns-then-is_empty-clause-rows c =
+    rows_set c.args.sets.now.items c.args.slot c.index_mut-set.result.now _ (none_of _ (c.is_empty.ensures.0 c.if-is_empty.true))

@@ -1,7 +1,4 @@
 use Rattle.std.proofs.Common.{refl}
-use Rattle.gl_steps.specs.declared.command.Command.TheVariants as command
-use Rattle.gl_rows.proofs.Tidied.{served_alone}
-use Rattle.gl_waiting.specs.Delivering.{registry_in}
 use Rattle.gl_waiting.proofs.Runs.{call_made}
 use Rattle.gl_waiting.proofs.waiters.unlock.Goals as goal
 
@@ -16,7 +13,4 @@ returns-clause-call c = (
 
 pub returns-clause-unlocks : goal.returns-clause-unlocks
 returns-clause-unlocks c =
-    let made = c.serve-answer.ensures.serves in
-    let alone = served_alone (registry_in c.args.delivery.now) (registry_in c.serve-answer.new.self) (command.Unlock c.args.txn c.args.node) made.0
-    c.serve-answer.new.told.items refl made.2 in
-    record { answer = made.0; applies = alone.applies; rows = alone.rows }
+    let made = c.serve-answer.ensures.serves in (made.0, made.2)
