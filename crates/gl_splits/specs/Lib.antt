@@ -1,0 +1,4 @@
+pub mod Splits
+pub mod GraphLaws
+pub mod Steps
+pub mod StateLaws
