@@ -112,6 +112,8 @@ bs_found bs_call_holders(const bs_manager *manager, bs_node node);
 bs_reply bs_call_queue_len(const bs_manager *manager, bs_node node);
 bs_reply bs_call_queue_at(const bs_manager *manager, bs_node node, size_t place);
 bs_found bs_call_waits_for(const bs_manager *manager, bs_txn txn);
+bs_reply bs_call_next_copy(const bs_manager *manager, bs_node node, const bs_manager *part, bs_node in_part);
+bs_reply bs_call_is_clear(const bs_manager *manager, bs_node node);
 bs_reply bs_call_last_deadlock(const bs_manager *manager, bs_deadlock *deadlock);
 bs_reply bs_call_counters(const bs_manager *manager, bs_counts *counts);
 bs_reply bs_call_board(const bs_manager *manager, bs_board *board);

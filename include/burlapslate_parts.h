@@ -18,4 +18,28 @@ static inline bs_reply bs_join(bs_manager *manager, uint32_t slot, uint64_t sinc
   return manager == NULL ? bs_call_null() : bs_call_join(manager, slot, since);
 }
 
+/* ------------------------------------------------------------------------------------------------
+ * Visits. One manager is the main one, and has each node that is in several. More than an intention on such a node is
+ * requested there alone, and before that each part that has the node is visited: what is held on the node in the part is
+ * copied to the main manager, that on its parents first. From then on an intention on it is requested in the main
+ * manager before it is requested in the part, until the node is clear. These two are questions.
+ */
+
+/* What is to be copied next of a node, which is `node` in the main manager and `in_part` in the part: of the
+ * transactions whose mode in the part is not covered by their mode in the main manager, the lowest slot, in `count`, and
+ * its mode in the part, in `mode`. Who has not joined holds nothing. Refused with BS_IN_USE if both are one manager, with
+ * BS_NO_SUCH_NODE if the node is not in both, and with BS_NO_PLACE if nothing is left to copy. Costs two look-ups for
+ * each holder of the node in the part. */
+static inline bs_reply bs_next_copy(const bs_manager *manager, bs_node node, const bs_manager *part, bs_node in_part) {
+  if (manager == NULL || part == NULL) return bs_call_null();
+  if (!manager->is_open || !part->is_open) return bs_call_only(BS_NO_MANAGER);
+  return manager == part ? bs_call_only(BS_IN_USE) : bs_call_next_copy(manager, node, part, in_part);
+}
+
+/* Whether a node is clear, in `count`: 1 if nobody holds more than an intention on it or waits there for more, else 0.
+ * Refused with BS_NO_SUCH_NODE. Costs a look-up for each holder of the node, and a step for each that waits for it. */
+static inline bs_reply bs_is_clear(const bs_manager *manager, bs_node node) {
+  return bs_call_can_ask(manager) ? bs_call_is_clear(manager, node) : bs_call_unasked(manager);
+}
+
 #endif

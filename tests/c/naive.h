@@ -66,8 +66,8 @@ typedef struct naive_wait {
   bs_mode mode;
 } naive_wait;
 
-/* A row that a transaction has asked for. Those of one transaction are in the order in which their nodes are removed.
- * */
+/* A row that a transaction has asked for, or an earlier one in its slot has left there. Those of one slot are in the
+ * order in which their nodes are removed. */
 typedef struct naive_asked {
   uint32_t slot;
   uint64_t file;
@@ -84,6 +84,7 @@ typedef struct naive {
   naive_wait waits[NAIVE_TXNS];
   size_t asked_count;
   naive_asked asked[NAIVE_ASKED];
+  bool has_left[NAIVE_TXNS]; /* whether rows of the slot were left there */
   uint64_t births, begins;
   size_t key_count, freed_count;
   size_t freed[NAIVE_NODES]; /* the keys of removed nodes, the last one last */

@@ -117,6 +117,8 @@ static bool keeps() {
   if (bs_table_ask_begin(table, NULL, NULL).status != BS_NULL_POINTER) return false;
   if (bs_table_ask_begin_again(table, 1, NULL, NULL).status != BS_NULL_POINTER) return false;
   if (bs_join(NULL, 0, 1).status != BS_NULL_POINTER) return false;
+  if (bs_next_copy(NULL, root, NULL, root).status != BS_NULL_POINTER) return false;
+  if (bs_is_clear(NULL, root).status != BS_NULL_POINTER) return false;
   if (bs_table_cancel_begin(table, NULL).status != BS_NOT_WAITING) return false;
   bs_session session = bs_session_of(table, 1);
   bs_txn first = bs_session_begin(&session, NULL).txn;

@@ -842,22 +842,46 @@ static void a_savepoint_of_a_wait(void) {
   DONE(bs_end(&m));
 }
 
-/* A row whose last transaction locked it only by its node keeps the node, until one that requested it by number
- * ends. */
+/* A row whose last holder locked it only by its node loses the node when that holder gives it back. */
 static void a_row_that_is_locked_by_its_node(void) {
   bs_manager m = BS_NO_MANAGER_HERE;
   struct file f = begin_rows(&m);
   bs_txn a = begin(&m), b = begin(&m), c = begin(&m);
-  bs_node row;
-  DONE(lock_row(&m, a, f, 1, 10, BS_S));
-  row = DONE(bs_row_node(&m, f.file, 1)).node;
+  bs_node row = DONE(lock_row(&m, a, f, 1, 10, BS_S)).node;
   DONE(bs_lock_path(&m, b, row, BS_S, &told));
   DONE(bs_commit(&m, a, &told));
-  DONE(bs_commit(&m, b, &told));
   WANT(has_node(&m, f, 1));
-  DONE(lock_row(&m, c, f, 1, 10, BS_S));
-  DONE(bs_commit(&m, c, &told));
+  DONE(bs_commit(&m, b, &told));
+  WANT(!has_node(&m, f, 1) && bs_kind(&m, row).status == BS_NO_SUCH_NODE);
+  a = begin(&m), b = begin(&m);
+  row = DONE(lock_row(&m, a, f, 1, 10, BS_S)).node;
+  DONE(bs_lock_path(&m, b, row, BS_S, &told));
+  DONE(bs_unlock_row(&m, a, f.file, 1, &told));
+  DONE(bs_lock_path(&m, c, row, BS_S, &told));
+  DONE(bs_commit(&m, a, &told));
+  DONE(bs_unlock(&m, b, row, &told));
+  WANT(has_node(&m, f, 1));
+  DONE(bs_unlock(&m, c, row, &told));
   WANT(!has_node(&m, f, 1));
+  DONE(bs_end(&m));
+}
+
+/* The transaction that takes the slot of the one that left a row lets it go too, and another that has asked for it. */
+static void a_row_that_was_left(void) {
+  bs_manager m = BS_NO_MANAGER_HERE;
+  struct file f = begin_rows(&m);
+  bs_txn a = begin(&m), b = begin(&m), c;
+  bs_node row = DONE(lock_row(&m, a, f, 1, 10, BS_S)).node;
+  DONE(bs_lock_path(&m, b, row, BS_S, &told));
+  DONE(bs_commit(&m, a, &told));
+  c = begin(&m);
+  WANT(c.slot == a.slot);
+  DONE(lock_row(&m, c, f, 2, 20, BS_S));
+  WANT(same_node(DONE(lock_row(&m, c, f, 1, 10, BS_S)).node, row));
+  DONE(bs_commit(&m, b, &told));
+  WANT(has_node(&m, f, 1) && has_node(&m, f, 2));
+  DONE(bs_commit(&m, c, &told));
+  WANT(!has_node(&m, f, 1) && !has_node(&m, f, 2));
   DONE(bs_end(&m));
 }
 
@@ -1382,6 +1406,80 @@ static void a_constant_place(void) {
   WANT(bs_last_deadlock(&never, &last).status == BS_NO_MANAGER && bs_counters(&never, &counts).status == BS_NO_MANAGER);
 }
 
+/* Copies to the main manager what is held on a node in a part; returns how many locks that took. */
+static size_t visit(bs_manager *m, bs_node node, const bs_manager *part, bs_node in_part) {
+  size_t copied = 0;
+  bs_reply next = bs_next_copy(m, node, part, in_part);
+  for (; next.status == BS_DONE; next = bs_next_copy(m, node, part, in_part)) {
+    uint32_t slot = (uint32_t)next.count;
+    bs_txn there = DONE(bs_living(part, slot)).txn;
+    bs_reply here = bs_living(m, slot);
+    if (here.status == BS_NO_PLACE) here = bs_join(m, slot, there.age);
+    WANT(next.mode == bs_held(part, there, in_part).mode && copied < BS_SLOTS);
+    WANT(DONE(bs_lock(m, DONE(here).txn, node, next.mode, &told)).mode == next.mode && told.count == 0);
+    copied++;
+  }
+  WANT(next.status == BS_NO_PLACE && next.count == 0 && next.mode == BS_NL);
+  return copied;
+}
+
+/* Ends in both managers the transaction that has this slot. */
+static void commit_in_both(bs_manager *m, bs_manager *part, uint32_t slot) {
+  DONE(bs_commit(part, DONE(bs_living(part, slot)).txn, &told));
+  DONE(bs_commit(m, DONE(bs_living(m, slot)).txn, &told));
+}
+
+static bool is_next(bs_reply next, bs_txn txn, bs_mode mode) {
+  return next.status == BS_DONE && next.count == txn.slot && next.mode == mode;
+}
+
+/* Three have intentions on a file in a part, and a fourth is to read it in the main manager. */
+static void a_part_is_visited(void) {
+  bs_manager m = BS_NO_MANAGER_HERE, part = BS_NO_MANAGER_HERE;
+  bs_node root = begin_manager(&m, BS_AT_BLOCK), in_part = begin_manager(&part, BS_AT_BLOCK);
+  bs_node file = DONE(bs_add_file(&m, &root, 1)).node, there = DONE(bs_add_file(&part, &in_part, 1)).node;
+  bs_txn a = begin(&part), b = begin(&part), c = begin(&part), reader;
+  DONE(bs_lock_path(&part, a, there, BS_IS, &told));
+  DONE(bs_lock_path(&part, b, there, BS_IX, &told));
+  DONE(bs_lock_path(&part, c, there, BS_IX, &told));
+  reader = DONE(bs_join(&m, 3, 4)).txn;
+  WANT(is_next(bs_next_copy(&m, file, &part, there), a, BS_IS));
+  WANT(visit(&m, root, &part, in_part) == 3 && visit(&m, file, &part, there) == 3);
+  WANT(DONE(bs_is_clear(&m, file)).count == 1);
+  WANT(bs_lock_path(&m, reader, file, BS_S, &told).status == BS_WAITING);
+  WANT(DONE(bs_is_clear(&m, file)).count == 0 && DONE(bs_is_clear(&m, root)).count == 1);
+  commit_in_both(&m, &part, b.slot);
+  WANT(told.count == 0 && DONE(bs_is_clear(&m, file)).count == 0);
+  commit_in_both(&m, &part, c.slot);
+  WANT(told.count == 1 && is_told(0, reader, BS_TOLD_GRANTED) && DONE(bs_is_clear(&m, file)).count == 0);
+  DONE(bs_commit(&m, reader, &told));
+  WANT(DONE(bs_is_clear(&m, file)).count == 1 && bs_next_copy(&m, file, &part, there).status == BS_NO_PLACE);
+  DONE(bs_lock_path(&part, a, there, BS_IX, &told));
+  WANT(is_next(bs_next_copy(&m, file, &part, there), a, BS_IX) && visit(&m, root, &part, in_part) == 1);
+  DONE(bs_end(&m));
+  DONE(bs_end(&part));
+}
+
+/* Refused questions about visits. */
+static void visits_are_refused(void) {
+  bs_node nothing = { 0, 0 };
+  bs_manager m = BS_NO_MANAGER_HERE, part = BS_NO_MANAGER_HERE;
+  bs_node root = begin_manager(&m, BS_AT_BLOCK), in_part;
+  WANT(bs_next_copy(NULL, root, &part, root).status == BS_NULL_POINTER);
+  WANT(bs_next_copy(&part, root, NULL, root).status == BS_NULL_POINTER);
+  WANT(bs_next_copy(&m, root, &part, root).status == BS_NO_MANAGER);
+  WANT(bs_next_copy(&part, root, &m, root).status == BS_NO_MANAGER);
+  WANT(bs_is_clear(NULL, root).status == BS_NULL_POINTER && bs_is_clear(&part, root).status == BS_NO_MANAGER);
+  in_part = begin_manager(&part, BS_AT_BLOCK);
+  WANT(bs_next_copy(&m, nothing, &m, nothing).status == BS_IN_USE);
+  WANT(bs_next_copy(&m, nothing, &part, in_part).status == BS_NO_SUCH_NODE);
+  WANT(bs_next_copy(&m, root, &part, nothing).status == BS_NO_SUCH_NODE);
+  WANT(bs_next_copy(&m, root, &part, in_part).status == BS_NO_PLACE);
+  WANT(bs_is_clear(&m, nothing).status == BS_NO_SUCH_NODE && DONE(bs_is_clear(&m, root)).count == 1);
+  DONE(bs_end(&m));
+  DONE(bs_end(&part));
+}
+
 /* A name that names nothing is refused so, whatever the question; that there are fewer is another answer. */
 static void names_that_name_nothing(void) {
   bs_node nothing = { 0, 0 };
@@ -1843,6 +1941,7 @@ int main(void) {
   TELL(a_savepoint_that_is_spoilt);
   TELL(a_savepoint_of_a_wait);
   TELL(a_row_that_is_locked_by_its_node);
+  TELL(a_row_that_was_left);
   TELL(a_savepoint_of_rows);
   TELL(a_savepoint_is_refused);
   TELL(a_file_moves);
@@ -1863,6 +1962,8 @@ int main(void) {
   TELL(places_without_a_manager);
   TELL(a_constant_place);
   TELL(names_that_name_nothing);
+  TELL(a_part_is_visited);
+  TELL(visits_are_refused);
   TELL(a_refused_call_tells_nobody);
   TELL(null_pointers);
   TELL(everybody_is_told);

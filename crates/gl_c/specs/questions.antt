@@ -3,3 +3,4 @@ pub mod Counts
 pub mod Deadlocks
 pub mod Listings
 pub mod Looks
+pub mod Visits

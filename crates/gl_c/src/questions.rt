@@ -6,3 +6,4 @@ mod listing;
 mod listings;
 pub(crate) mod look;
 mod queries;
+pub(crate) mod visits;

@@ -14,16 +14,13 @@ use Rattle.gl_model.specs.Lawful.{GrantsGoTogether, GrantsIntend}
 use Rattle.gl_model.specs.State.{intends_over, is_write, no_parents}
 use Rattle.gl_model.proofs.law.Effects.{no_conflict_on}
 use Rattle.gl_parts.specs.Whole.{Each, HasParentsOf, IsInOne, Part, held_at, held_by_name, held_in, is_in, is_intention, whole}
+use Rattle.gl_parts.proofs.Lists.{each_both, each_map}
 use Rattle.gl_parts.specs.Laws.{GrantsOfOnePart, ModesOfTheWhole, PartsGoTogether, PartsHaveNoConflict, PartsIntend, holds_somewhere}
-
-pub each_map : {P Q : Part → Type 0} → ((p : Part) → P p → Q p) → (ps : List Part) → Each P ps → Each Q ps
-each_map f [] h = h
-each_map f (p ∷ ps) h = (f p h.0, each_map f ps h.1)
 
 -- Modes of one manager and of several.
 
 -- a supremum has a mode exactly if one of the two has it
-supremum_has : (m : Mode) → m ≢ SIX → (a b : Mode) → is_at_least (supremum a b) m ≡ (is_at_least a m || is_at_least b m)
+pub supremum_has : (m : Mode) → m ≢ SIX → (a b : Mode) → is_at_least (supremum a b) m ≡ (is_at_least a m || is_at_least b m)
 supremum_has SIX ne a b = absurd (ne refl)
 supremum_has NL ne a b = refl
 supremum_has IS ne a b = same-equal _ _ (every2-true (λ x y. same (is_at_least (supremum x y) IS) (is_at_least x IS || is_at_least y IS)) refl a b)
@@ -65,7 +62,7 @@ fits_less : (a b c d : Mode) → is_at_least a b ≡ true → is_at_least c d �
 fits_less a b c d ab cd fit =
     compatible-symmetric b d ∙ lesser-compatible c d b cd (compatible-symmetric c b ∙ lesser-compatible a b c ab fit)
 
-intentions_fit : (a b : Mode) → is_intention a ≡ true → is_intention b ≡ true → are_compatible a b ≡ true
+pub intentions_fit : (a b : Mode) → is_intention a ≡ true → is_intention b ≡ true → are_compatible a b ≡ true
 intentions_fit a b h k = fits_less IX a IX b h k refl
 
 -- what is held in no manager above a mode is not above it in the whole
@@ -84,12 +81,12 @@ most_of c (p ∷ ps) t n h = supremum-least c (held_at p t n) (held_in ps t n) �
 
 -- a node of one part
 
-neither : (a b : Bool) → (a || b) ≡ false → (a ≡ false) × (b ≡ false)
+pub neither : (a b : Bool) → (a || b) ≡ false → (a ≡ false) × (b ≡ false)
 neither true b h = cc
 neither false b h = (refl, h)
 
 -- nothing is held of a node in a manager without it
-not_there : (p : Part) (t : ℕ) (n : NodeId) → is_in n p ≡ false → held_at p t n ≡ NL
+pub not_there : (p : Part) (t : ℕ) (n : NodeId) → is_in n p ≡ false → held_at p t n ≡ NL
 not_there p t n h = ap (held_by_name (p.state.held t)) (no_name (p.name n) h)
   where
     no_name : (o : Option NodeId) → is_some o ≡ false → o ≡ None
@@ -161,11 +158,11 @@ each_among : (f : NodeId → Part → Bool) (ps : List Part) → Each (λ p. (q 
 each_among f [] = tt
 each_among f (p ∷ ps) = (λ q h. or_left _ _ h, each_map (λ p' keeps q h. or_right (f q p) _ (keeps q h)) ps (each_among f ps))
 
-heads : {x y : Option NodeId} {xs ys : List (Option NodeId)} → (x ∷ xs) ≡ (y ∷ ys) → (x ≡ y) × (xs ≡ ys)
+pub heads : {x y : Option NodeId} {xs ys : List (Option NodeId)} → (x ∷ xs) ≡ (y ∷ ys) → (x ≡ y) × (xs ≡ ys)
 heads e = (cc, cc)
 
 -- by the names that they have in a part
-all_named : (held : NodeId → Mode) (name : NodeId → Option NodeId) (f k : Mode → Bool) (top : NodeId → Mode)
+pub all_named : (held : NodeId → Mode) (name : NodeId → Option NodeId) (f k : Mode → Bool) (top : NodeId → Mode)
     → ((q : NodeId) → f (held_by_name held (name q)) ≡ true → k (top q) ≡ true)
     → (ms ns : List NodeId) → map (λ q. Some q) ms ≡ map name ns → list_all (λ q. f (held q)) ms ≡ true → list_all (λ q. k (top q)) ns ≡ true
 all_named held name f k top up [] [] e h = refl
@@ -176,7 +173,7 @@ all_named held name f k top up (m ∷ ms) (n ∷ ns) e h =
     let es = heads e in
     both _ _ (up n (ap (λ o. f (held_by_name held o)) (sym es.0) ∙ it.0)) (all_named held name f k top up ms ns es.1 it.1)
 
-any_named : (held : NodeId → Mode) (name : NodeId → Option NodeId) (f k : Mode → Bool) (top : NodeId → Mode)
+pub any_named : (held : NodeId → Mode) (name : NodeId → Option NodeId) (f k : Mode → Bool) (top : NodeId → Mode)
     → ((q : NodeId) → f (held_by_name held (name q)) ≡ true → k (top q) ≡ true)
     → (ms ns : List NodeId) → map (λ q. Some q) ms ≡ map name ns → list_any (λ q. f (held q)) ms ≡ true → list_any (λ q. k (top q)) ns ≡ true
 any_named held name f k top up [] ns e h = cc
@@ -187,7 +184,7 @@ any_named held name f k top up (m ∷ ms) (n ∷ ns) e h =
     (λ later. or_right (k (top n)) _ (any_named held name f k top up ms ns es.1 later))
 
 -- a root in the part is one in the whole
-root_named : (name : NodeId → Option NodeId) (ms ns : List NodeId) → map (λ q. Some q) ms ≡ map name ns → no_parents ms ≡ true → no_parents ns ≡ true
+pub root_named : (name : NodeId → Option NodeId) (ms ns : List NodeId) → map (λ q. Some q) ms ≡ map name ns → no_parents ms ≡ true → no_parents ns ≡ true
 root_named name [] [] e h = refl
 root_named name [] (n ∷ ns) e h = cc
 root_named name (m ∷ ms) ns e h = cc
@@ -199,16 +196,12 @@ record Within (g : Graph) (all : List Part) (t : ℕ) (p : Part) : Type 0 where
   pub writes : (q : NodeId) → is_at_least (held_at p t q) IX ≡ true → is_at_least (held_in all t q) IX ≡ true
   pub reads : (q : NodeId) → is_at_least (held_at p t q) IS ≡ true → is_at_least (held_in all t q) IS ≡ true
 
-holds_is : (m : Mode) → is_at_least m IS ≡ not (same_mode m NL)
+pub holds_is : (m : Mode) → is_at_least m IS ≡ not (same_mode m NL)
 holds_is m = same-equal _ _ (every-true (λ x. same (is_at_least x IS) (not (same_mode x NL))) refl m)
 
-writes_holds : (m : Mode) → is_at_least m IX ≡ true → not (same_mode m NL) ≡ true
+pub writes_holds : (m : Mode) → is_at_least m IX ≡ true → not (same_mode m NL) ≡ true
 writes_holds NL h = cc
 writes_holds m h = refl
-
-each_both : (P Q : Part → Type 0) (ps : List Part) → Each P ps → Each Q ps → Each (λ p. P p × Q p) ps
-each_both P Q [] h k = tt
-each_both P Q (p ∷ ps) h k = ((h.0, k.0), each_both P Q ps h.1 k.1)
 
 each_within : (g : Graph) (ps : List Part) (t : ℕ) → Each (λ p. GrantsIntend p.state × HasParentsOf g p) ps → Each (Within g ps t) ps
 each_within g ps t h =
@@ -226,27 +219,27 @@ abbrev rule_by : (NodeId → Mode) → List NodeId → Bool → Bool
 rule_by held ps b = if b then list_all (λ p. is_at_least (held p) IX) ps else (no_parents ps || list_any (λ p. is_at_least (held p) IS) ps)
 
 -- the rule for a mode that writes, and for one that does not
-intends_writing : (held : NodeId → Mode) (ps : List NodeId) (m : Mode) → is_write m ≡ true → list_all (λ p. is_at_least (held p) IX) ps ≡ true
+pub intends_writing : (held : NodeId → Mode) (ps : List NodeId) (m : Mode) → is_write m ≡ true → list_all (λ p. is_at_least (held p) IX) ps ≡ true
     → intends_over held ps m ≡ true
 intends_writing held ps m w h = ap (rule_by held ps) w ∙ h
 
-intends_reading : (held : NodeId → Mode) (ps : List NodeId) (m : Mode) → is_write m ≡ false
+pub intends_reading : (held : NodeId → Mode) (ps : List NodeId) (m : Mode) → is_write m ≡ false
     → (no_parents ps || list_any (λ p. is_at_least (held p) IS) ps) ≡ true
     → intends_over held ps m ≡ true
 intends_reading held ps m w h = ap (rule_by held ps) w ∙ h
 
-writing_intends : (held : NodeId → Mode) (ps : List NodeId) (m : Mode) → is_write m ≡ true → intends_over held ps m ≡ true
+pub writing_intends : (held : NodeId → Mode) (ps : List NodeId) (m : Mode) → is_write m ≡ true → intends_over held ps m ≡ true
     → list_all (λ p. is_at_least (held p) IX) ps ≡ true
 writing_intends held ps m w h =
     sym (ap (rule_by held ps) w) ∙ h
 
-reading_intends : (held : NodeId → Mode) (ps : List NodeId) (m : Mode) → is_write m ≡ false → intends_over held ps m ≡ true
+pub reading_intends : (held : NodeId → Mode) (ps : List NodeId) (m : Mode) → is_write m ≡ false → intends_over held ps m ≡ true
     → (no_parents ps || list_any (λ p. is_at_least (held p) IS) ps) ≡ true
 reading_intends held ps m w h =
     sym (ap (rule_by held ps) w) ∙ h
 
 -- a node that is held in a part has a name there
-named : (p : Part) (t : ℕ) (n : NodeId) → not (same_mode (held_at p t n) NL) ≡ true → (m : NodeId) × (p.name n ≡ Some m)
+pub named : (p : Part) (t : ℕ) (n : NodeId) → not (same_mode (held_at p t n) NL) ≡ true → (m : NodeId) × (p.name n ≡ Some m)
 named p t n h = cases_of (p.name n) (λ e. clash h (ap (λ o. not (same_mode (held_by_name (p.state.held t) o) NL)) e)) (λ m e. (m, e))
 
 -- who may write n in some part may write all parents in the whole

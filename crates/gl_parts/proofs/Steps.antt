@@ -1,5 +1,5 @@
 -- A step of one manager, and cycles of waits in one.
-use Rattle.std.specs.Prelude.{◌≡◌, ℕ, true, List, [], ◌∷◌, ◌++◌, Some, map}
+use Rattle.std.specs.Prelude.{◌≡◌, ℕ, true, List, [], ◌∷◌, Some, map}
 use Rattle.std.proofs.Common.{ap, ◌∙◌}
 use Rattle.gl_modes.proofs.Words.{or_left, or_right}
 use Rattle.gl_graph.specs.Graph.{parents_of}
@@ -7,13 +7,8 @@ use Rattle.gl_waits.proofs.WalkLemmas.{reaches_more}
 use Rattle.gl_model.specs.State.{waits_for}
 use Rattle.gl_steps.proofs.StepsKeepLaw.{steps_keep_law}
 use Rattle.gl_parts.specs.Whole.{Each, Part, waits_in}
-use Rattle.gl_parts.proofs.Grants.{each_map}
+use Rattle.gl_parts.proofs.Lists.{each_map, each_with}
 use Rattle.gl_parts.specs.Laws.{CyclesOfPartsAreCycles, IsPartOf, StepsKeepParts}
-
--- another manager in the place of one
-each_with : (P : Part → Type 0) (before after : List Part) (p p' : Part) → (P p → P p') → Each P (before ++ p ∷ after) → Each P (before ++ p' ∷ after)
-each_with P [] after p p' f h = (f h.0, h.1)
-each_with P (b ∷ before) after p p' f h = (h.0, each_with P before after p p' f h.1)
 
 pub steps_keep_parts : StepsKeepParts
 steps_keep_parts g before after p s' c a told h step same =

@@ -1,2 +1,6 @@
 pub mod Whole
 pub mod Laws
+pub mod Leading
+pub mod Actions
+pub mod Visiting
+pub mod Promises

@@ -14,8 +14,8 @@ pub record Part : Type 0 where
   pub state : State
   pub name : NodeId → Option NodeId
 
--- the property holds of each part
-abbrev pub Each : (Part → Type 0) → List Part → Type 0
+-- the property holds of each
+abbrev pub Each : {A : Type 0} → (A → Type 0) → List A → Type 0
 Each P [] = ⊤
 Each P (p ∷ ps) = P p × Each P ps
 

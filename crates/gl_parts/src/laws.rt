@@ -2,10 +2,14 @@
 
 ghost use Rattle.gl_parts.specs.Laws.{CyclesOfPartsAreCycles, GrantsOfOnePart, ModesOfTheWhole, PartsGoTogether, PartsHaveNoConflict, PartsIntend};
 ghost use Rattle.gl_parts.specs.Laws.{StepsKeepParts};
+ghost use Rattle.gl_parts.specs.Promises.{ActionsKeepLaw, CopiesAreGranted, IntentionsEnter, LeadersLead, MainStepsCanCopy, OthersStayCovered};
+ghost use Rattle.gl_parts.specs.Promises.{PartStepsAct, PlainMainSteps, PlainPartSteps, PlainStepsAgree, RequestsCanCopy, RequestsObey};
+ghost use Rattle.gl_parts.specs.Promises.{RunsHaveNoConflict, UnusedWorkAsOne, VisitorsJoin, VisitsNeverWait};
+ghost use Rattle.gl_parts.specs.Promises.{AfterMainIsAllowed, ClearMayUnmark, CopiedMayMark, HereIsAllowed, InMainIsRefused, NextIsUncovered};
 
 /// Several managers work as one: a main one and parts. The main manager has each node that is in
 /// several, and the parts hold intentions alone on such a node. Before anybody requests more on it in
-/// the main manager, the intentions that others hold in parts are copied there, and later ones are
+/// the main manager, all intentions on it that are held in parts are copied there, and later ones are
 /// acquired there first. If each manager then grants compatible modes by the rule of the graph, so
 /// does the whole, and no two transactions have conflicting effective modes on any node of it.
 pub fn no_conflict()
@@ -31,4 +35,74 @@ pub fn steps_keep_parts()
 /// cycle of the whole, it is on none of any manager.
 pub fn cycles()
     ensures { CyclesOfPartsAreCycles }
+{}
+
+/// Managers work as one if the main one leads the parts: a part has intentions alone on the nodes that
+/// the main manager has too, and nobody waits there for one; the part is marked for those of them on
+/// which anybody has more than an intention in the main manager, or waits there for it; and on a node
+/// for which a part is marked, everybody holds in the main manager what it holds in the part. Unused
+/// managers do. Each step of a part and of the main manager that may be taken, each visit and each
+/// clear leaves them so, and no two transactions ever have conflicting effective modes on any node.
+pub fn work_as_one()
+    ensures leads { LeadersLead }
+    ensures start { UnusedWorkAsOne }
+    ensures actions { ActionsKeepLaw }
+    ensures runs { RunsHaveNoConflict }
+{}
+
+/// A part may carry out any command that requests, on a node that the main manager has too, an
+/// intention alone, and if the part is marked for the node, only what its transaction holds in the main
+/// manager. Every command but a lock, a try and an escalation requests nothing. Such an intention is
+/// granted at once. A node that is new in a part is in no other manager.
+pub fn part_steps()
+    ensures action { PartStepsAct }
+    ensures plain { PlainPartSteps }
+    ensures at_once { IntentionsEnter }
+    ensures obeys { RequestsObey }
+    ensures agrees { PlainStepsAgree }
+{}
+
+/// The main manager may carry out any command that requests, on a node that a part has too, an intention
+/// alone, or for which all parts that have the node are marked; but before its transaction releases a
+/// grant on a node there, it releases what it has on it in parts that are marked. A step lowers a grant
+/// only if its command releases or ends something, and then only grants of the transaction that the
+/// command names; others keep theirs, and may be granted more.
+pub fn main_steps()
+    ensures action { PlainMainSteps }
+    ensures others { OthersStayCovered }
+{}
+
+/// Before a transaction requests more than an intention on a node in the main manager, parts are visited
+/// that are not marked for it, and what anybody has there, that transaction too, is copied. A copy is
+/// never refused for a parent, and never waits, if its transaction is active in the main manager and
+/// the parents were copied first.
+pub fn copies()
+    ensures granted { CopiesAreGranted }
+    ensures visits { VisitsNeverWait }
+    ensures joins { VisitorsJoin }
+{}
+
+/// What a transaction has in a part alone can be copied as long as it neither waits nor is condemned in
+/// the main manager. So it is copied before the transaction waits there. All other steps leave that so.
+pub fn can_copy()
+    ensures parts { RequestsCanCopy }
+    ensures main { MainStepsCanCopy }
+{}
+
+/// What `next_copy` answers is held in the part alone, so it can be copied. If nothing is left to copy,
+/// the part may be marked for the node; and if the node is clear in the main manager, a part may lose
+/// its mark for it.
+pub fn marks()
+    ensures next { NextIsUncovered }
+    ensures copied { CopiedMayMark }
+    ensures clear { ClearMayUnmark }
+{}
+
+/// A lock or a try of a node that goes by `way_for` is one that the part may carry out: `Here`,
+/// whatever the main manager has, and `AfterMain`, if its transaction holds the mode there. One that
+/// goes `InMain` is one that the part may never carry out.
+pub fn ways()
+    ensures here { HereIsAllowed }
+    ensures after_main { AfterMainIsAllowed }
+    ensures in_main { InMainIsRefused }
 {}

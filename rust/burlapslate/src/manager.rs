@@ -816,11 +816,12 @@ impl Manager {
 ///
 /// A [`Row`] of a file of rows ([`add_row_file`](Manager::add_row_file)) has a node while some transaction
 /// holds it or waits for it. [`lock_row`](Manager::lock_row) makes the node.
-/// [`unlock_row`](Manager::unlock_row), [`commit`](Manager::commit), [`abort`](Manager::abort),
-/// [`cancel`](Manager::cancel), [`escalate`](Manager::escalate) and
-/// [`release_since`](Manager::release_since) let a row go: after the last transaction that holds it or waits
-/// for it they remove its node, if that transaction asked for the row by number. No row has two nodes, and
-/// no two rows have one.
+/// [`unlock_row`](Manager::unlock_row) lets its row go; [`commit`](Manager::commit),
+/// [`abort`](Manager::abort), [`cancel`](Manager::cancel), [`escalate`](Manager::escalate) and
+/// [`release_since`](Manager::release_since) let all rows go that the transaction asked for by number: they
+/// remove the node of a row that nobody holds or waits for any more. No row has two nodes, and no two rows
+/// have one. If all that asked for a row have ended, each of these calls and [`unlock`](Manager::unlock)
+/// lets it go too, whoever makes it.
 ///
 /// The keys are the row's own, one for each index of its file in the order of making. Only the engine knows
 /// them. It reads them before it locks the row, and again after each grant. If they differ by then it
@@ -830,8 +831,8 @@ impl Manager {
 /// To insert a row, lock it in [`X`](Mode::X) by its number, with the keys that it will have. To delete one,
 /// lock it in `X` too; it keeps its lock, its node and its number until its transaction ends.
 ///
-/// [`unlock`](Manager::unlock) of the row's node lets no row go: the node then stays until the row is next
-/// let go. Each call is one command, and each node that it makes or removes is one more. Calls that end a
+/// [`unlock`](Manager::unlock) of a row's node lets go no other row: the node then stays until the row is
+/// next let go. Each call is one command, and each node that it makes or removes is one more. Calls that end a
 /// transaction, an escalation and a cancel visit all rows that the transaction asked for: a look-up for
 /// each, and a step for each removed node.
 impl Manager {
@@ -1016,7 +1017,8 @@ impl Manager {
 
     /// The place of an interval in its index.
     ///
-    /// Refused with [`NoSuchNode`](Refusal::NoSuchNode) if the name names no interval.
+    /// Refused with [`NoSuchNode`](Refusal::NoSuchNode) if the name names no interval. Costs a step
+    /// for each interval before it.
     pub fn place(&self, interval: Node) -> Result<usize, Refusal> {
         let reply = sys::bs_call_place(self.pinned.place(), interval);
         accepted(reply).map(|reply| reply.count as usize)
@@ -1069,6 +1071,63 @@ impl Manager {
     /// Costs as [`board`](Manager::board), without the making of one.
     pub fn read_board(&self, board: &mut Board) {
         answered(sys::bs_call_board(self.pinned.place(), board.as_sys()));
+    }
+}
+
+/// # Visits
+///
+/// Questions of several managers that work as one. One is the main one, and has each node that is in
+/// several. More than an intention on such a node is requested there alone, and before that each part that
+/// has the node is visited: what is held on the node in the part is copied to the main manager, that on its
+/// parents first. From then on an intention on it is requested in the main manager before it is requested
+/// in the part, until the node is clear.
+impl Manager {
+    /// What is to be copied next to this manager of a node, which is `in_part` in the part: of the
+    /// transactions whose mode in the part is not covered by their mode in this manager, the lowest slot, and
+    /// its mode in the part. Who has not joined holds nothing. `None` if nothing is left to copy.
+    ///
+    /// Refused with [`InUse`](Refusal::InUse) if both are one manager, [`NoSuchNode`](Refusal::NoSuchNode) if
+    /// the node is not in both. Costs two look-ups for each holder of the node in the part.
+    ///
+    /// ```
+    /// # use burlapslate::{Detect, Manager, Mode, Refusal, SLOTS};
+    /// let mut main = Manager::new(Detect::AtBlock, SLOTS)?;
+    /// let mut part = Manager::new(Detect::AtBlock, SLOTS)?;
+    /// let (node, in_part) = (main.add_inner(&[])?, part.add_inner(&[])?);
+    /// let txn = part.begin()?;
+    /// let _ = part.lock(txn, in_part, Mode::IX)?;
+    /// assert_eq!(main.next_copy(node, &part, in_part)?, Some((txn.slot(), Mode::IX)));
+    /// let joined = main.join(txn.slot(), txn.age())?;
+    /// let _ = main.lock(joined, node, Mode::IX)?;
+    /// assert_eq!(main.next_copy(node, &part, in_part)?, None);
+    /// assert!(main.is_clear(node)?);
+    /// let _ = main.lock(joined, node, Mode::SIX)?;
+    /// assert!(!main.is_clear(node)?);
+    /// assert_eq!(main.next_copy(node, &main, node), Err(Refusal::InUse));
+    /// # Ok::<(), burlapslate::Refusal>(())
+    /// ```
+    pub fn next_copy(
+        &self,
+        node: Node,
+        part: &Manager,
+        in_part: Node,
+    ) -> Result<Option<(usize, Mode)>, Refusal> {
+        if std::ptr::eq(self, part) {
+            return Err(Refusal::InUse);
+        }
+        let reply = sys::bs_call_next_copy(self.pinned.place(), node, part.pinned.place(), in_part);
+        if reply.status == sys::NO_PLACE {
+            return Ok(None);
+        }
+        accepted(reply).map(|reply| Some((reply.count as usize, Mode::of(reply.mode))))
+    }
+
+    /// Whether nobody holds more than an intention on a node, or waits there for more.
+    ///
+    /// Refused with [`NoSuchNode`](Refusal::NoSuchNode). Costs a look-up for each holder of the node, and a
+    /// step for each that waits for it.
+    pub fn is_clear(&self, node: Node) -> Result<bool, Refusal> {
+        accepted(sys::bs_call_is_clear(self.pinned.place(), node)).map(|reply| reply.count == 1)
     }
 }
 

@@ -67,7 +67,8 @@ pub enum Refusal {
     /// There are [`MOST_WATCHERS`](crate::MOST_WATCHERS) watchers already.
     TooManyWatchers,
     /// A call that could sleep, in a waker or while the thread holds a table
-    /// ([`Table::with`](crate::Table::with)); or any call of the table that the thread holds.
+    /// ([`Table::with`](crate::Table::with)); or any call of the table that the thread holds; or the part of
+    /// [`Manager::next_copy`](crate::Manager::next_copy) is the manager itself.
     InUse,
     /// More than 8 parents, or a manager for none or more than [`SLOTS`](crate::SLOTS) transactions. It
     /// is answered before all other refusals. Or a file that cannot be written to.

@@ -480,6 +480,13 @@ unsafe extern "C" {
     pub(crate) safe fn bs_call_queue_len(manager: &Place, node: Node) -> Reply;
     pub(crate) safe fn bs_call_queue_at(manager: &Place, node: Node, place: usize) -> Reply;
     pub(crate) safe fn bs_call_waits_for(manager: &Place, txn: Txn) -> Found;
+    pub(crate) safe fn bs_call_next_copy(
+        manager: &Place,
+        node: Node,
+        part: &Place,
+        in_part: Node,
+    ) -> Reply;
+    pub(crate) safe fn bs_call_is_clear(manager: &Place, node: Node) -> Reply;
     pub(crate) safe fn bs_call_last_deadlock(manager: &Place, deadlock: &mut Deadlock) -> Reply;
     pub(crate) safe fn bs_call_counters(manager: &Place, counts: &mut Counters) -> Reply;
 

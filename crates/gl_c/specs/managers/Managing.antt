@@ -1,5 +1,5 @@
 -- Calls that make and end managers.
-use Rattle.gl_slots.specs.Slots.{no_slots}
+use Rattle.gl_slots.specs.Slots.{HasNoSlot, no_slots}
 use Rattle.gl_slots.specs.Limit.{most_slots}
 use Rattle.std.specs.Prelude.{◌≡◌, ◌⊎◌, ℕ, ◌+◌, Bool, false, ◌&&◌, Option, Some, None, [], if◌then◌else◌, nat_lt, replicate}
 use Rattle.gl_modes.specs.declared.node.NodeId.{NodeId}
@@ -38,6 +38,7 @@ pub record IsNew (detect : Detect) (victims : Victims) (most nodes bounds : ℕ)
   pub fileless : (file : NodeId) → has_rows g.rows file ≡ false
   pub unnamed : (row : Row) → name_of g.rows row ≡ None
   pub unasked : (slot : ℕ) (row : Row) → has_asked g.rows slot row ≡ false
+  pub none_left : HasNoSlot g.rows.left
 
 -- there is a new manager, or none for lack of memory
 abbrev pub Begins : Detect → Victims → ℕ → ℕ → ℕ → Reply → Option GuardedView → Type 0

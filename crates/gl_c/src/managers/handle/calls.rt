@@ -12,8 +12,9 @@ ghost use Rattle.gl_graph.specs.Refusals.{first_refusal};
 ghost use Rattle.gl_header.specs.Header.{holds};
 ghost use Rattle.gl_model.specs.Calls.{group_tests, living_tests};
 ghost use Rattle.gl_model.specs.State.{members, waits_for};
-ghost use Rattle.gl_catalog.specs.Manager.{IsLawfulManager};
+ghost use Rattle.gl_catalog.specs.Manager.{IsLawfulManager, state_of};
 ghost use Rattle.gl_c.specs.questions.Looks.{Looks};
+ghost use Rattle.gl_c.specs.questions.Visits.{AsksClear, AsksNext, FindsNext};
 ghost use Rattle.gl_c.specs.locks.Paths.{path_call};
 ghost use Rattle.gl_c.specs.locks.Resting.{CountsIntentionsIn, FindsResting, RestsIn, WakesIn, end_call};
 ghost use Rattle.gl_c.specs.locks.Savepoints.{back_call, keeping_call};
@@ -39,7 +40,8 @@ use crate::numbers::{DONE, NO_MANAGER};
 use crate::questions::counts::Counts;
 use crate::questions::deadlock::Deadlock;
 use crate::questions::look::Query;
-use gl_catalog::Command;
+use crate::questions::visits::{is_clear_reply, next_copy_reply};
+use gl_catalog::{Command, Manager};
 use gl_modes::{Mode, NodeId};
 use gl_rows::{Row, RowCall};
 use gl_table::TxnId;
@@ -582,6 +584,45 @@ impl Handle {
         let found = waits_for(session.manager(), txn);
         *self = Handle::of(alloc, session);
         found
+    }
+
+    /// What a visit of a part is to copy next to this manager.
+    pub(crate) fn next_copy(&mut self, node: NodeId, part: &mut Handle, in_part: NodeId) -> Reply
+        ensures { AsksNext (guarded_in self.old) node (guarded_in part.old) in_part result (guarded_in self.new) (guarded_in part.new) }
+    {
+        let alloc = self.alloc;
+        let Some(session) = self.take() else {
+            return Reply::with_status(NO_MANAGER);
+        };
+        let reply = part.next_copy_to(session.manager(), node, in_part);
+        *self = Handle::of(alloc, session);
+        reply
+    }
+
+    /// What a visit of this part is to copy next to a main manager.
+    fn next_copy_to(&mut self, main: &Manager, in_main: NodeId, in_part: NodeId) -> Reply
+        ensures { FindsNext (state_of main.now) in_main (guarded_in self.old) in_part result (guarded_in self.new) }
+    {
+        let alloc = self.alloc;
+        let Some(session) = self.take() else {
+            return Reply::with_status(NO_MANAGER);
+        };
+        let reply = next_copy_reply(main, in_main, session.manager(), in_part);
+        *self = Handle::of(alloc, session);
+        reply
+    }
+
+    /// Whether a node is clear.
+    pub(crate) fn is_clear(&mut self, node: NodeId) -> Reply
+        ensures { AsksClear (guarded_in self.old) node result (guarded_in self.new) }
+    {
+        let alloc = self.alloc;
+        let Some(session) = self.take() else {
+            return Reply::with_status(NO_MANAGER);
+        };
+        let reply = is_clear_reply(session.manager(), node);
+        *self = Handle::of(alloc, session);
+        reply
     }
 
     /// Writes the last deadlock.

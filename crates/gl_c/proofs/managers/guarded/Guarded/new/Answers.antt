@@ -34,4 +34,5 @@ returns-clause-made c = record {
   fileless = λ file. ap (λ (rows : RowsView). has_rows rows file) (rows_are c) ∙ c.in_ok-registry.ensures.fileless file;
   unnamed = λ row. ap (λ (rows : RowsView). name_of rows row) (rows_are c) ∙ c.in_ok-registry.ensures.unnamed row;
   unasked = λ slot row. ap (λ (rows : RowsView). has_asked rows slot row) (rows_are c) ∙ c.in_ok-registry.ensures.unasked slot row;
+  none_left = subst HasNoSlot (sym (ap (λ (rows : RowsView). rows.left) (rows_are c))) c.in_ok-registry.ensures.none_left;
 }
