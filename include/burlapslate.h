@@ -66,7 +66,7 @@ extern "C" {
 /* The version of these declarations. The first number rises if programs must be changed, or the second while the first
  * is 0. The second rises if something is added, the third if neither. */
 #define BS_VERSION_MAJOR 0
-#define BS_VERSION_MINOR 29
+#define BS_VERSION_MINOR 30
 #define BS_VERSION_PATCH 0
 
 /* How many transactions can live at once, and so how many notices a call can have. A library can be built for another
@@ -561,10 +561,11 @@ static inline bs_reply bs_index_by(bs_manager *manager, bs_txn txn, const bs_nod
  * Rows by the engine's own numbers. A row is a file of bs_add_row_file and a number, any number at all. For a file of
  * records, or a name that names no file, calls about a row are refused with BS_NOT_ROWS.
  *
- * A row has a node while some transaction holds it or waits for it. bs_lock_row makes the node. bs_unlock_row,
- * bs_commit, bs_abort, bs_cancel, bs_escalate and bs_release_since let a row go. That means: after the last transaction
- * that holds it or waits for it they remove its node, if that transaction has requested the row by bs_lock_row. No row
- * has two nodes, and no two rows share one. A row can be locked by its node, and asked about by it, like any record.
+ * A row has a node while some transaction holds it or waits for it. bs_lock_row makes the node. bs_unlock_row lets its
+ * row go; bs_commit, bs_abort, bs_cancel, bs_escalate and bs_release_since let all rows go that the transaction has
+ * requested by bs_lock_row. That means: they remove the node of a row that nobody holds or waits for any more. No row
+ * has two nodes, and no two rows share one. A row can be locked by its node, and asked about by it, like any record. If
+ * all that requested a row have ended, each of these calls and bs_unlock lets it go too, whoever makes it.
  *
  * The keys are the row's own, one for each index of its file in the order of making. Only the engine knows them. It
  * reads them before it locks the row, and reads them again after each grant. If they have changed by then, it releases
@@ -574,9 +575,9 @@ static inline bs_reply bs_index_by(bs_manager *manager, bs_txn txn, const bs_nod
  * too. It keeps its lock, its node and its number until its transaction ends: nobody else gets the row, or its number,
  * before the commit.
  *
- * bs_unlock, of the row's node, lets no row go: the node stays, and is removed when the row is next let go. Each call
- * is one command, and each node that it makes or removes is one more. A commit, an abort, an escalation and a cancel
- * look at all rows that the transaction requested: a look-up for each, and a step for each node that is removed.
+ * bs_unlock, of a row's node, lets go no other row: the node stays, and is removed when the row is next let go. Each
+ * call is one command, and each node that it makes or removes is one more. A commit, an abort, an escalation and a
+ * cancel look at all rows that the transaction requested: a look-up for each, and a step for each node that is removed.
  */
 
 /* Locks a row by its node, as bs_lock locks a node. A row without a node gets one with these keys; so does a row whose
@@ -599,8 +600,9 @@ static inline bs_reply bs_lock_row(bs_manager *manager, bs_txn txn, bs_node file
   return bs_call_lock_row(manager, txn, file, number, bs_call_numbers(keys), count, mode, told);
 }
 
-/* Releases a row, as bs_unlock releases its node. The node is removed if nobody else holds it or waits for it. A row
- * without a node is refused as a node that is gone, here and in the call below. */
+/* Releases a row, as bs_unlock releases its node. The node is removed if nobody else holds it or waits for it; else the
+ * transaction counts as one that requested the row, until it ends. A row without a node is refused as a node that is
+ * gone, here and in the call below. */
 static inline bs_reply bs_unlock_row(bs_manager *manager, bs_txn txn, bs_node file, uint64_t number, bs_notices *told) {
   if (bs_call_lacks(manager, told)) return bs_call_null();
   return bs_call_unlock_row(manager, txn, file, number, told);
@@ -747,7 +749,8 @@ static inline bs_reply bs_interval_of(const bs_manager *manager, bs_node index, 
   return bs_call_can_ask(manager) ? bs_call_interval_of(manager, index, key) : bs_call_unasked(manager);
 }
 
-/* The place of an interval in its index, in `count`. Refused with BS_NO_SUCH_NODE if the name names no interval. */
+/* The place of an interval in its index, in `count`. Refused with BS_NO_SUCH_NODE if the name names no interval. Costs a
+ * step for each interval before it. */
 static inline bs_reply bs_place(const bs_manager *manager, bs_node interval) {
   return bs_call_can_ask(manager) ? bs_call_place(manager, interval) : bs_call_unasked(manager);
 }

@@ -230,8 +230,7 @@ fn form(verb: &[u8]) -> Option<&'static [u8]> {
         b"file" => b"file NODE : PARENT..",
         b"index" =>
             b"index NODE : PARENT.. on FILE at BOUND.., or by --schema index TXN NODE : PARENT.. on FILE at BOUND..",
-        b"begin" =>
-            b"begin TXN, or by --trace begin TXN again AGE or begin TXN join SLOT AGE",
+        b"begin" => b"begin TXN, or by --trace begin TXN again AGE or begin TXN join SLOT AGE",
         b"commit" => b"commit TXN",
         b"abort" => b"abort TXN",
         b"cancel" => b"cancel TXN",
