@@ -27,9 +27,9 @@ static inline bs_reply bs_join(bs_manager *manager, uint32_t slot, uint64_t sinc
 
 /* What is to be copied next of a node, which is `node` in the main manager and `in_part` in the part: of the
  * transactions whose mode in the part is not covered by their mode in the main manager, the lowest slot, in `count`, and
- * its mode in the part, in `mode`. Who has not joined holds nothing. Refused with BS_IN_USE if both are one manager, with
- * BS_NO_SUCH_NODE if the node is not in both, and with BS_NO_PLACE if nothing is left to copy. Costs two look-ups for
- * each holder of the node in the part. */
+ * its mode in the part, in `mode`. A transaction that has not joined holds nothing. Refused with BS_IN_USE if both are
+ * one manager, with BS_NO_SUCH_NODE if the node is not in both, and with BS_NO_PLACE if nothing is left to copy. Costs
+ * two look-ups for each holder of the node in the part. */
 static inline bs_reply bs_next_copy(const bs_manager *manager, bs_node node, const bs_manager *part, bs_node in_part) {
   if (manager == NULL || part == NULL) return bs_call_null();
   if (!manager->is_open || !part->is_open) return bs_call_only(BS_NO_MANAGER);

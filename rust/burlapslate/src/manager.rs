@@ -1084,7 +1084,8 @@ impl Manager {
 impl Manager {
     /// What is to be copied next to this manager of a node, which is `in_part` in the part: of the
     /// transactions whose mode in the part is not covered by their mode in this manager, the lowest slot, and
-    /// its mode in the part. Who has not joined holds nothing. `None` if nothing is left to copy.
+    /// its mode in the part. A transaction that has not joined holds nothing. `None` if nothing is left to
+    /// copy.
     ///
     /// Refused with [`InUse`](Refusal::InUse) if both are one manager, [`NoSuchNode`](Refusal::NoSuchNode) if
     /// the node is not in both. Costs two look-ups for each holder of the node in the part.
