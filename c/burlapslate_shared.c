@@ -230,7 +230,7 @@ static inline bs_reply table_make_begin(bs_table *table) {
  * hold is mostly over by the first retry, and to sleep and be woken takes longer than all. With more retries each would
  * get the latch sooner, but all together would do less: between two retries a thread makes several calls, and what they
  * write stays in its own cache. With one processor no thread releases the latch meanwhile, and none retries. */
-enum { TABLE_LOOKS = 10, TABLE_PAUSES = 200 };
+enum { TABLE_LOOKS = 10, TABLE_PAUSES = 400 };
 
 static inline void table_pause(void) {
 #if defined(__x86_64__)
