@@ -1,5 +1,5 @@
 -- One node with another shape or other parents: the law of the graph is kept.
-use Rattle.gl_graph.proofs.Words.{◌∙◌, ◌≡◌, ◌≢◌, ◌≤◌, ap, arith, filter_map, fun_ext, Graph, id_of, if◌then◌else◌, indexes_of, Interval, is_child}
+use Rattle.gl_graph.proofs.Words.{◌∙◌, ◌≡◌, ◌≢◌, ◌≤◌, ap, arith, filter_map, fun_ext, Graph, id_of, indexes_of, Interval, is_child}
 use Rattle.gl_graph.proofs.Words.{is_index_of_shape, is_live, is_record_shape, IsLawfulGraph, IsRoute, IsWellFormed, length, List, list_any, nat_tests, Node}
 use Rattle.gl_graph.proofs.Words.{node_at, NodeId, nodes, Option, parents_in, range_with_len, same_node, same_node-equal, same_node-other, Shape, shape_of}
 use Rattle.gl_graph.proofs.Words.{Some, some_is, subst, sym, true, with_node, ℕ}

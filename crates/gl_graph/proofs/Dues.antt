@@ -5,7 +5,6 @@ use Rattle.gl_graph.proofs.Words.{is_child, is_file_shape, is_index_of_shape, is
 use Rattle.gl_graph.proofs.Words.{IsLawfulGraph, List, list_any, Lists, no, Node, node_at, NodeId, nodes, None, not_true, number_other, number_same}
 use Rattle.gl_graph.proofs.Words.{Option, parents_in, parents_of, record_count, record_parents, refl, rules, same_node, Shape, shape_in, shape_of}
 use Rattle.gl_graph.proofs.Words.{Some, sym, true, without_node, ℕ, ◌&&◌, ◌+◌, ◌-◌, ◌<◌, ◌^◌, ◌∙◌, ◌∷◌, ◌≡◌, ◌≢◌, ◌≤◌}
-use Rattle.gl_graph.specs.declared.node.Body.TheVariants as body
 use Rattle.gl_graph.proofs.Born.{born_frames, old_same}
 use Rattle.gl_graph.proofs.Counts.{count_none, nodes_live}
 use Rattle.gl_graph.proofs.Held.{recounted, due_after}

@@ -61,7 +61,7 @@ body_keys (body.Index kept above) place key h = absurd (no h)
 body_keys (body.Interval index) place key h = absurd (no h)
 body_keys _ place key h = refl
 
-record_body : (sh : Shape) → is_record_shape (Some sh) ≡ true → sh ≡ Rec (keys_in (Some sh))
+pub record_body : (sh : Shape) → is_record_shape (Some sh) ≡ true → sh ≡ Rec (keys_in (Some sh))
 record_body (Rec keys) h = refl
 record_body _ h = absurd (no h)
 

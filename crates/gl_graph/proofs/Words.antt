@@ -33,7 +33,7 @@ pub use Rattle.gl_graph.specs.Changes.{without_node}
 pub use Rattle.gl_graph.specs.Graph.{first_in, first_parent, Graph, id_of, indexes_of, interval, interval_at, interval_of, interval_place, intervals_of}
 pub use Rattle.gl_graph.specs.Graph.{is_child, is_live, is_record_of, IsFreeKey, no_node, Node, node_at, node_count, nodes, parents_in, parents_of}
 pub use Rattle.gl_graph.specs.Graph.{record_parents, shape_in, shape_of, with_key}
-pub use Rattle.gl_graph.specs.Grown.{AreGone, AreIntervalsBorn, AreRecounted, AreStored, EachKeeps, IsGrown}
+pub use Rattle.gl_graph.specs.Grown.{AreGone, AreIntervalsBorn, AreRecounted, AreStored, EachKeeps, IsGrown, LosesCut}
 pub use Rattle.gl_graph.specs.Lawful.{are_distinct, are_inner, AreInnerParents, HasShape, IsIndexNode, IsLawfulGraph, IsRising, IsWellFormed}
 pub use Rattle.gl_graph.specs.Laws.{IntervalsHoldKeys, KeysHaveIntervals, NodesHaveRootPaths, RootPathsGrow, RootPathsShrink}
 pub use Rattle.gl_graph.specs.Refusals.{bad_bounds, bad_index_place, bad_parents, first_cycle, first_refusal, has_records, index_refusal, is_in_use, is_rising}
@@ -42,7 +42,8 @@ pub use Rattle.gl_graph.specs.Refusals.{verdict, where_true, worn_births}
 pub use Rattle.gl_graph.specs.Routes.{is_at_or_below, IsAcyclic, IsRoute}
 pub use Rattle.gl_graph.specs.Seen.{AreBornApart, AreBornWithin, AreSound, beside_in_body, body_adopted, body_rekeyed, body_with_children, body_with_indexes}
 pub use Rattle.gl_graph.specs.Seen.{body_with_intervals, body_with_key, body_with_parent, body_with_parents, body_with_records, body_without_index}
-pub use Rattle.gl_graph.specs.Seen.{children_in_body, Holds, indexes_in_body, IsPlainBody, Limits, named, named_in, parents_in_body}
+pub use Rattle.gl_graph.specs.Seen.{body_with_cuts, children_in_body, Holds, indexes_in_body, is_passed, is_past, IsPlainBody, Limits, named, named_in}
+pub use Rattle.gl_graph.specs.Seen.{node_passed, parents_in_body}
 pub use Rattle.gl_graph.specs.Seen.{records_in_body, see, seen, shape_in_body, vertex_of, with_all}
 pub use Rattle.gl_graph.specs.Shapes.{bounds_in, File, Index, Inner, Interval, intervals_in, is_adopted, is_file_shape, is_index_of_shape, is_index_shape}
 pub use Rattle.gl_graph.specs.Shapes.{is_inner_shape, is_interval_shape, is_movable_shape, is_record_shape, keys_in, kind_in, least_parents, Rec, Shape}

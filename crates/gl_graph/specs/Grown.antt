@@ -2,13 +2,15 @@
 use Rattle.std.specs.Prelude.{◌≡◌, ◌≢◌, ◌⊎◌, ℕ, ◌+◌, ◌<◌, true, ◌==◌, List, length, Some, None, is_some, slice_get}
 use Rattle.std.specs.List.{list_any}
 use Rattle.gl_modes.specs.declared.node.NodeId.{NodeId}
-use Rattle.slab.specs.Slab.{Slab, get, slab_len}
+use Rattle.slab.specs.Slab.{Slab, Updates, get, slab_len}
+use Rattle.gl_graph.specs.declared.node.Body.{Body}
 use Rattle.gl_graph.specs.declared.node.Node.{Node as Stored}
 use Rattle.gl_graph.specs.Shapes.{Interval}
 use Rattle.gl_graph.specs.Graph.{Node}
 use Rattle.gl_graph.specs.Changes.{born_nodes, ids_of, interval_nodes, keys_of, are_apart}
 use Rattle.gl_graph.specs.View.{graph_of}
-use Rattle.gl_graph.specs.Seen.{shape_in_body, children_in_body, body_with_children, Limits, seen, AreBornApart, AreBornWithin}
+use Rattle.gl_graph.specs.Splits.{merged_shape}
+use Rattle.gl_graph.specs.Seen.{beside_in_body, shape_in_body, parents_in_body, children_in_body, body_with_children, Limits, seen, AreBornApart, AreBornWithin}
 
 -- these nodes were born, in this order, and all others stay as they were
 pub record IsGrown (old : Slab Stored) (births : ℕ) (new : Slab Stored) (ns : List Node) : Type 0 where
@@ -50,3 +52,11 @@ pub record AreGone (old new : Slab Stored) (ids : List NodeId) (count : ℕ) : T
   pub gone : (place : ℕ) (n : NodeId) → place < count → slice_get ids place ≡ Some n → get new n.key ≡ None
   pub stays : (key : ℕ) → ((place : ℕ) (n : NodeId) → place < count → slice_get ids place ≡ Some n → n.key ≢ key) → get new key ≡ get old key
   pub len : slab_len new + count ≡ slab_len old
+
+-- this index loses the bound at this place, and the interval that begins there
+pub record LosesCut (old new : Slab Stored) (key place : ℕ) (x : Stored) : Type 0 where
+  pub body : Body
+  pub updates : Updates old new key (Some (record x { body = body }))
+  pub shape : shape_in_body body ≡ merged_shape place (shape_in_body x.body)
+  pub parents : parents_in_body body ≡ parents_in_body x.body
+  pub beside : beside_in_body body ≡ beside_in_body x.body

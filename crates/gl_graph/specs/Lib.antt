@@ -11,3 +11,5 @@ pub mod Grown
 pub mod Parts
 pub mod Sound
 pub mod Laws
+pub mod Splits
+pub mod SplitLaws

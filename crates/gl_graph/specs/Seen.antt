@@ -1,6 +1,6 @@
 -- What a contract sees of a slab of nodes, and what always holds of it.
 use Rattle.std.specs.Prelude.{◌≡◌, ℕ, true, not, ◌==◌, List, [], ◌∷◌, ◌++◌, map, Option, Some, None, if◌then◌else◌, slice_set}
-use Rattle.std.specs.Prelude.{◌+◌, ◌≤◌, Vec}
+use Rattle.std.specs.Prelude.{◌+◌, ◌≤◌, ◌&&◌, Bool, Vec, false, nat_le, slice_get}
 use Rattle.std.specs.List.{filter, list_any}
 use Rattle.gl_modes.specs.declared.node.NodeId.{NodeId}
 use Rattle.gl_modes.specs.Nodes.{same_node}
@@ -10,7 +10,7 @@ use Rattle.slab.specs.Slab.{Slab, get, slab_len}
 use Rattle.gl_graph.specs.declared.node.Body.{Body}
 use Rattle.gl_graph.specs.declared.node.Body.TheVariants as body
 use Rattle.gl_graph.specs.declared.node.Node.{Node}
-use Rattle.gl_graph.specs.Shapes.{Shape, Inner, File, Index, Interval, Rec}
+use Rattle.gl_graph.specs.Shapes.{Shape, Inner, File, Index, Interval, Rec, keys_in}
 use Rattle.gl_graph.specs.Graph.{Graph, node_count}
 use Rattle.gl_graph.specs.Lawful.{IsLawfulGraph}
 use Rattle.gl_graph.specs.View.{Vertex, View, graph_of, Beside, Counts, Lists, Nothing, due}
@@ -169,6 +169,25 @@ body_rekeyed b place key interval = body_with_parent (body_with_key b place key)
 abbrev pub body_with_intervals : Body → Vec NodeId Global → Body
 body_with_intervals (body.Index kept above) fresh = body.Index (record kept { value = record kept.value { intervals = fresh } }) above
 body_with_intervals b fresh = b
+
+-- an index with these bounds and intervals
+abbrev pub body_with_cuts : Body → Vec ℕ Global → Vec NodeId Global → Body
+body_with_cuts (body.Index kept above) bounds intervals =
+    body.Index (record kept { value = record kept.value { bounds = bounds; intervals = intervals } }) above
+body_with_cuts b bounds intervals = b
+
+-- there is a key at or above the bound, and a parent that is this interval
+abbrev pub is_past : NodeId → ℕ → Option ℕ → Option NodeId → Bool
+is_past from bound (Some key) (Some parent) = nat_le bound key && same_node parent from
+is_past from bound key parent = false
+
+-- a record with a key at this place at or above the bound, and with this interval as the parent for it
+abbrev pub is_passed : ℕ → NodeId → ℕ → Body → Bool
+is_passed place from bound b = is_past from bound (slice_get (keys_in (Some (shape_in_body b))) place) (slice_get (parents_in_body b) (place + 1))
+
+-- the node, and if it is such a record, with another interval for that key
+abbrev pub node_passed : ℕ → NodeId → ℕ → NodeId → Node → Node
+node_passed place from bound to x = record x { body = if is_passed place from bound x.body then body_with_parent x.body (place + 1) to else x.body }
 
 -- a file with these indexes
 abbrev pub body_with_indexes : Body → SmallVec NodeId → Body

@@ -35,6 +35,7 @@ use std::marker::Model;
 
 mod change;
 mod checks;
+mod cuts;
 mod make;
 mod moves;
 mod standing;

@@ -76,7 +76,8 @@ pub(crate) struct Node {
 }
 
 impl Body {
-    ghost use Rattle.std.specs.Prelude.{◌≡◌, ◌<◌, IfOk, Some, false, length, true};
+    ghost use Rattle.std.specs.Prelude.{◌+◌, ◌<◌, ◌^◌, ◌≡◌, IfOk, Some, false, length, true};
+    ghost use Rattle.gl_graph.specs.Splits.{merged_shape};
     ghost use Rattle.gl_graph.specs.Shapes.{
       File,
       Inner,
@@ -91,8 +92,10 @@ impl Body {
     };
     ghost use Rattle.gl_graph.specs.Seen.{
       IsPlainBody,
+      beside_in_body,
       body_adopted,
       body_with_children,
+      body_with_cuts,
       body_with_indexes,
       body_with_intervals,
       body_with_key,
@@ -102,6 +105,7 @@ impl Body {
       body_without_index,
       children_in_body,
       indexes_in_body,
+      is_passed,
       parents_in_body,
       records_in_body,
       shape_in_body,
@@ -358,6 +362,43 @@ impl Body {
     {
         if let Body::Index { kept, .. } = self {
             kept.intervals = fresh;
+        }
+    }
+
+    /// Sets the bounds and the intervals of an index; another body stays as it is.
+    pub(crate) fn set_cuts(&mut self, bounds: Vec<u64>, intervals: Vec<NodeId>)
+        ensures { self.new ≡ body_with_cuts self.old bounds intervals }
+    {
+        if let Body::Index { kept, .. } = self {
+            kept.bounds = bounds;
+            kept.intervals = intervals;
+        }
+    }
+
+    /// Removes the bound of an index at this place, and the interval that begins there; another
+    /// body stays as it is.
+    pub(crate) fn remove_cut(&mut self, place: usize)
+        requires bounds { place < length (bounds_in (Some (shape_in_body self.old))) }
+        requires intervals { place + 1 < length (intervals_in (Some (shape_in_body self.old))) }
+        ensures shape { shape_in_body self.new ≡ merged_shape place (shape_in_body self.old) }
+        ensures parents { parents_in_body self.new ≡ parents_in_body self.old }
+        ensures beside { beside_in_body self.new ≡ beside_in_body self.old }
+    {
+        if let Body::Index { kept, .. } = self {
+            kept.bounds.remove(place);
+            kept.intervals.remove(place + 1);
+        }
+    }
+
+    /// Whether this is a record with a key at this place at or above the bound, and with this
+    /// parent at the next place.
+    pub(crate) fn is_passed(&self, place: usize, from: NodeId, bound: u64) -> bool
+        requires { place + 1 < 2 ^ 64 }
+        ensures { result ≡ is_passed place from bound self.now }
+    {
+        match (self.keys().get(place), self.parents().get(place + 1)) {
+            (Some(key), Some(parent)) => *key >= bound && *parent == from,
+            _ => false,
         }
     }
 

@@ -7,6 +7,7 @@ ghost use Rattle.std.specs.Prelude.{
   ◌≤◌,
   ◌^◌,
   ◌-◌,
+  ℕ,
   Some,
   [],
   length,
@@ -16,23 +17,26 @@ ghost use Rattle.std.specs.Prelude.{
 };
 ghost use Rattle.slab.specs.Slab.{ContainsKey, HasRoomFor, Updates, get, slab_len};
 ghost use Rattle.gl_graph.specs.declared.node.Node.{Node};
-ghost use Rattle.gl_graph.specs.Shapes.{is_movable_shape, keys_in};
+ghost use Rattle.std.specs.Option.{option_map};
+ghost use Rattle.gl_graph.specs.Shapes.{bounds_in, intervals_in, is_movable_shape, keys_in};
 ghost use Rattle.gl_graph.specs.Seen.{
   AreBornApart,
   AreBornWithin,
   body_adopted,
   body_rekeyed,
   body_with_children,
+  body_with_cuts,
   body_with_indexes,
   body_with_intervals,
   body_with_parents,
   body_with_records,
   body_without_index,
   named,
+  node_passed,
   parents_in_body,
   shape_in_body,
 };
-ghost use Rattle.gl_graph.specs.Grown.{AreGone, AreIntervalsBorn, AreRecounted, AreStored, EachKeeps};
+ghost use Rattle.gl_graph.specs.Grown.{AreGone, AreIntervalsBorn, AreRecounted, AreStored, EachKeeps, LosesCut};
 
 use crate::node::{Body, Node};
 use gl_modes::NodeId;
@@ -142,6 +146,72 @@ pub(crate) fn write_intervals(nodes: &mut Slab<Node>, key: usize, intervals: Vec
     ensures len { slab_len nodes.new ≡ slab_len nodes.old }
 {
     nodes[key].body.set_intervals(intervals);
+}
+
+/// Sets the bounds and the intervals of an index.
+pub(crate) fn write_cuts(
+    nodes: &mut Slab<Node>,
+    key: usize,
+    bounds: Vec<u64>,
+    intervals: Vec<NodeId>,
+)
+    requires { ContainsKey nodes.old key }
+    ensures written { (x : Node) → get nodes.old key ≡ Some x
+        → Updates nodes.old nodes.new key (Some (record x { body = body_with_cuts x.body bounds intervals })) }
+    ensures len { slab_len nodes.new ≡ slab_len nodes.old }
+{
+    nodes[key].body.set_cuts(bounds, intervals);
+}
+
+/// Removes the bound of an index at this place, and the interval that begins there.
+pub(crate) fn remove_cut(nodes: &mut Slab<Node>, key: usize, place: usize)
+    requires there { ContainsKey nodes.old key }
+    requires bounds { (x : Node) → get nodes.old key ≡ Some x → place < length (bounds_in (Some (shape_in_body x.body))) }
+    requires intervals { (x : Node) → get nodes.old key ≡ Some x → place + 1 < length (intervals_in (Some (shape_in_body x.body))) }
+    ensures written { (x : Node) → get nodes.old key ≡ Some x → LosesCut nodes.old nodes.new key place x }
+    ensures len { slab_len nodes.new ≡ slab_len nodes.old }
+{
+    nodes[key].body.remove_cut(place);
+}
+
+/// Moves the record under this key, if its key at this place is at or above the bound and the
+/// parent for it is `from`: that parent is then `to`.
+fn move_record(
+    nodes: &mut Slab<Node>,
+    at: usize,
+    place: usize,
+    from: NodeId,
+    bound: u64,
+    to: NodeId,
+)
+    requires { place + 1 < 2 ^ 64 }
+    ensures moved { Updates nodes.old nodes.new at (option_map (node_passed place from bound to) (get nodes.old at)) }
+    ensures len { slab_len nodes.new ≡ slab_len nodes.old }
+{
+    let Some(node) = nodes.get(at) else {
+        return;
+    };
+    if node.body.is_passed(place, from, bound) {
+        nodes[at].body.set_parent(place + 1, to);
+    }
+}
+
+/// Moves the records whose key at this place is at or above the bound from one interval to another.
+/// Needs a step for each place of the slab.
+pub(crate) fn move_records(
+    nodes: &mut Slab<Node>,
+    place: usize,
+    from: NodeId,
+    bound: u64,
+    to: NodeId,
+)
+    requires { place + 1 < 2 ^ 64 }
+    ensures moved { (key : ℕ) → get nodes.new key ≡ option_map (node_passed place from bound to) (get nodes.old key) }
+    ensures len { slab_len nodes.new ≡ slab_len nodes.old }
+{
+    for at in 0..nodes.capacity() {
+        move_record(nodes, at, place, from, bound, to);
+    }
 }
 
 /// Sets the indexes of a file.

@@ -6,3 +6,5 @@ pub mod queues
 pub mod law
 -- what is told
 pub mod telling
+-- intervals that split and merge
+pub mod splits

@@ -3,3 +3,5 @@ pub mod Calls
 pub mod Lawful
 pub mod Tellings
 pub mod Deadlocks
+pub mod Splits
+pub mod SplitLaws

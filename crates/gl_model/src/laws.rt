@@ -12,6 +12,21 @@ ghost use Rattle.gl_model.specs.Lawful.{
   SettlingEnds,
   SettlingFrees,
 };
+ghost use Rattle.gl_model.specs.SplitLaws.{
+  MergesAddNoWait,
+  MergesKeepEffects,
+  MergesKeepLaw,
+  MergesKeepWhatOthersRead,
+  MergesNeedNoReader,
+  MergesTellWaiters,
+  SplitsAddNoWait,
+  SplitsKeepEffects,
+  SplitsKeepLaw,
+  SplitsKeepWhatOthersRead,
+  SplitsNeedNoReader,
+  SplitsShareEffects,
+  SplitsTellWaiters,
+};
 
 /// If the grants of different transactions on each node are compatible, and every grant meets the
 /// rule of the graph, no two transactions have conflicting effective modes on any node. In a lawful
@@ -54,4 +69,40 @@ pub fn last_deadlock()
     ensures settles { KeepingSettles }
     ensures victim { VictimHasRow }
     ensures onward { RowsLeadOn }
+{}
+
+/// A transaction that holds an interval in X may split it, and then holds the new interval in X too.
+/// One that holds two neighbours in X may merge them. Either leaves the state lawful, and nobody waits
+/// for whom he did not wait for before, so no cycle of waits is new.
+pub fn split_states()
+    ensures split { SplitsKeepLaw }
+    ensures merge { MergesKeepLaw }
+    ensures split_waits { SplitsAddNoWait }
+    ensures merge_waits { MergesAddNoWait }
+{}
+
+/// After a split or a merge no effective mode is another, neither the transaction's nor another's, on
+/// any node that is there before and after, a record for example. On a new interval each transaction
+/// has the effective mode that it had on the interval that was split.
+pub fn split_effects()
+    ensures split { SplitsKeepEffects }
+    ensures new_interval { SplitsShareEffects }
+    ensures merge { MergesKeepEffects }
+{}
+
+/// What another transaction reads stays as it is: below each node on which it has an effective S, the
+/// records and their keys are the same before and after. So an interval that somebody scans is neither
+/// split nor merged by another.
+pub fn split_reads()
+    ensures split { SplitsKeepWhatOthersRead }
+    ensures merge { MergesKeepWhatOthersRead }
+    ensures split_reader { SplitsNeedNoReader }
+    ensures merge_reader { MergesNeedNoReader }
+{}
+
+/// Who waited for an interval that is split is told that it moved, and who waited for one that a merge
+/// removes is told that it is gone. Nobody else is told of anything.
+pub fn split_tellings()
+    ensures split { SplitsTellWaiters }
+    ensures merge { MergesTellWaiters }
 {}

@@ -43,7 +43,7 @@ impl Graph {
         requires { is_record_shape (shape_of (graph_of self.old) rec) ≡ true }
         ensures removed { graph_of self.new ≡ without_node (graph_of self.old) rec }
     {
-        let file = self.file_of(rec);
+        let file = self.first_parent(rec);
         let records = self.records(file) - 1;
         self.nodes.remove(rec.key);
         write_records(&mut self.nodes, file.key, records);
@@ -106,13 +106,13 @@ impl Graph {
         requires index { is_index_of_shape (first_parent (graph_of self.old) rec) (shape_of (graph_of self.old) index) ≡ true }
         ensures rekeyed { graph_of self.new ≡ rekeyed (graph_of self.old) rec index key }
     {
-        let place = self.index_place(self.file_of(rec), index);
+        let place = self.index_place(self.first_parent(rec), index);
         let interval = self.interval_of(index, key);
         write_key(&mut self.nodes, rec.key, place, key, interval);
     }
 
     /// The place of an index among those of its file.
-    fn index_place(&self, file: NodeId, index: NodeId) -> usize
+    pub(super) fn index_place(&self, file: NodeId, index: NodeId) -> usize
         requires file { is_file_shape (shape_of (graph_of self.now) file) ≡ true }
         requires listed { list_any (λ listed. same_node listed index) (indexes_of (graph_of self.now) file) ≡ true }
         ensures { position (λ listed. same_node listed index) (indexes_of (graph_of self.now) file) ≡ Some result }
@@ -123,12 +123,12 @@ impl Graph {
         }
     }
 
-    /// The file of a record, which is its first parent.
-    fn file_of(&self, rec: NodeId) -> NodeId
-        ensures { result ≡ first_parent (graph_of self.now) rec }
+    /// The first parent of a node: a record's file, an interval's index; `NONE` if it has none.
+    pub(super) fn first_parent(&self, n: NodeId) -> NodeId
+        ensures { result ≡ first_parent (graph_of self.now) n }
     {
-        match self.parents(rec) {
-            [file, ..] => *file,
+        match self.parents(n) {
+            [first, ..] => *first,
             [] => NodeId::NONE,
         }
     }

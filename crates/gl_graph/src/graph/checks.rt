@@ -76,7 +76,7 @@ impl Graph {
         matches!(self.kind(n), Some(Kind::File))
     }
 
-    fn lives(&self, n: NodeId) -> bool
+    pub(super) fn lives(&self, n: NodeId) -> bool
         ensures { result ≡ is_live (graph_of self.now) n }
     {
         self.kind(n).is_some()

@@ -1,5 +1,5 @@
 -- Who waits for whom after each change. For cycles and snapshots.
-use Rattle.gl_model.proofs.Words.{◌&&◌, ◌+◌, ◌++◌, ◌==◌, [], ◌||◌, ◌∙◌, ◌∷◌, ◌≡◌, ◌≢◌, ◌⊎◌, ⊎_elim, Active, and_both, ap, append-nil, ap₂, are_compatible}
+use Rattle.gl_model.proofs.Words.{◌&&◌, ◌++◌, ◌==◌, [], ◌||◌, ◌∙◌, ◌∷◌, ◌≡◌, ◌≢◌, ◌⊎◌, ⊎_elim, Active, and_both, ap, append-nil, ap₂, are_compatible}
 use Rattle.gl_model.proofs.Words.{arith, begun_at, blocks, Bool, clash, Condemned, differ-false, drop, enqueued, false, filter, granted_at, holds}
 use Rattle.gl_model.proofs.Words.{if◌then◌else◌, inr, is_ahead, is_among_waiters, is_waiter, IsLawful, length, List, Members, members, Mode, nat_tests}
 use Rattle.gl_model.proofs.Words.{NL-compatible, NodeId, None, not, not-true, number_other, Option, or_elim, or_left, or_right, placed, pumped, refl, restatus}

@@ -1,5 +1,5 @@
 -- Removed grants and waits, a wait that begins, and the empty state: the law is kept. For releases, locks and new tables.
-use Rattle.gl_model.proofs.Words.{◌&&◌, ◌+◌, ◌<◌, ◌==◌, [], ◌^◌, ◌||◌, ◌∙◌, ◌∷◌, ◌≡◌, ◌≢◌, ◌≤◌, ◌⊎◌, ⊎_elim, Active, age_in, age_of, and_both, ap, ap₂, arith}
+use Rattle.gl_model.proofs.Words.{◌&&◌, ◌<◌, ◌==◌, [], ◌^◌, ◌||◌, ◌∙◌, ◌∷◌, ◌≡◌, ◌≢◌, ◌≤◌, ◌⊎◌, ⊎_elim, Active, age_in, age_of, and_both, ap, ap₂, arith}
 use Rattle.gl_model.proofs.Words.{begun_at, Bool, choosing, clash, Condemned, condemned, Detect, empty_state, enqueued, enters, false, filter, front, holds}
 use Rattle.gl_model.proofs.Words.{if◌then◌else◌, inl, inr, intends, is_ahead, is_among_waiters, is_at_least, is_child, is_live, is_some, is_wait, is_waiter}
 use Rattle.gl_model.proofs.Words.{is_waiting_at, IsLawful, members, Mode, ModeFitsKind, nat_tests, NL, no, NodeId, None, none_some, not, number_other}

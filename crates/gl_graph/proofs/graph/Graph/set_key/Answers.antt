@@ -6,12 +6,12 @@ use Rattle.gl_graph.proofs.graph.Graph.set_key.Goals as goal
 
 pub index_place-place-requires-clause-file : goal.index_place-place-requires-clause-file
 index_place-place-requires-clause-file c =
-    ap (λ n. is_file_shape (shape_of (graph_of c.args.self.now) n)) c.file_of.ensures
+    ap (λ n. is_file_shape (shape_of (graph_of c.args.self.now) n)) c.first_parent.ensures
     ∙ its_file (graph_of c.args.self.now) (law_of c.self.inside c.self.invariant c.args.self.now c.self.view_is) c.args.rec c.requires.«record»
 
 pub index_place-place-requires-clause-listed : goal.index_place-place-requires-clause-listed
 index_place-place-requires-clause-listed c =
-    ap (λ f. list_any (λ listed. same_node listed c.args.index) (indexes_of (graph_of c.args.self.now) f)) c.file_of.ensures
+    ap (λ f. list_any (λ listed. same_node listed c.args.index) (indexes_of (graph_of c.args.self.now) f)) c.first_parent.ensures
     ∙ index_among (graph_of c.args.self.now) (law_of c.self.inside c.self.invariant c.args.self.now c.self.view_is)
     (first_parent (graph_of c.args.self.now) c.args.rec) c.args.index c.requires.index
 
@@ -19,18 +19,18 @@ pub write_key-requires : goal.write_key-requires
 write_key-requires c =
     let now = rekeys (held c.self.inside c.self.invariant c.args.self.now c.self.view_is)
     (law_of c.self.inside c.self.invariant c.args.self.now c.self.view_is) c.args.rec c.args.index c.args.key c.index_place-place.result
-    c.requires.«record» c.file_of.result c.file_of.ensures c.index_place-place.ensures in
+    c.requires.«record» c.first_parent.result c.first_parent.ensures c.index_place-place.ensures in
     record { there = now.there; keys = now.keys; parents = now.parents; place = now.place_fits }
 
 pub invariant_of-self : goal.invariant_of-self
 invariant_of-self c =
     rekeyed_sound (held c.self.inside c.self.invariant c.args.self.now c.self.view_is) (law_of c.self.inside c.self.invariant c.args.self.now c.self.view_is)
-    c.args.rec c.args.index c.args.key _ c.requires.«record» _ c.file_of.ensures c.index_place-place.ensures _ c.interval_of-interval.ensures
+    c.args.rec c.args.index c.args.key _ c.requires.«record» _ c.first_parent.ensures c.index_place-place.ensures _ c.interval_of-interval.ensures
     c.write_key.ensures.written c.write_key.ensures.len
 
 pub returns : goal.returns
 returns c = record {
   rekeyed = rekeyed_graph (held c.self.inside c.self.invariant c.args.self.now c.self.view_is)
-      (law_of c.self.inside c.self.invariant c.args.self.now c.self.view_is) c.args.rec c.args.index c.args.key _ c.requires.«record» _ c.file_of.ensures
+      (law_of c.self.inside c.self.invariant c.args.self.now c.self.view_is) c.args.rec c.args.index c.args.key _ c.requires.«record» _ c.first_parent.ensures
       c.index_place-place.ensures _ c.interval_of-interval.ensures c.write_key.ensures.written c.write_key.ensures.len;
 }

@@ -1,5 +1,0 @@
-use Rattle.gl_splits.proofs.state.Laws.{merges_tell_waiters, splits_tell_waiters}
-use Rattle.gl_splits.proofs.laws.tellings.Goals as goal
-
-pub returns : goal.returns
-returns c = record { split = splits_tell_waiters; merge = merges_tell_waiters }

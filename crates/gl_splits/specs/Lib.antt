@@ -1,4 +1,0 @@
-pub mod Splits
-pub mod GraphLaws
-pub mod Steps
-pub mod StateLaws
