@@ -1,19 +1,24 @@
 -- The first of the listed nodes that pass a test, the marking of covered children, and nodes held to write. For lists.
 use Rattle.gl_graph.proofs.Look.{found_at, live_node}
 use Rattle.gl_graph.proofs.Moved.{any_found}
+use Rattle.gl_graph.proofs.Counts.{count_cons}
+use Rattle.gl_graph.proofs.Distinct.{nodes_distinct}
 use Rattle.gl_graph.proofs.RouteLengths.{listed}
+use Rattle.gl_lock_lists.proofs.Words.{AllByRecursion, count_by, IsDistinct}
 use Rattle.gl_lock_lists.proofs.Words.{◌&&◌, ◌+◌, ◌++◌, ◌<◌, ◌==◌, [], ◌||◌, ◌∙◌, ◌∷◌, ◌≡◌, ◌≤◌, ap, ap₂, arith, Bool, cond, count_of, covered_in, Entry, false}
 use Rattle.gl_lock_lists.proofs.Words.{get_or, if◌then◌else◌, is_at_least, is_child, is_some, is_some-lookup, IX, keys, length, List, list_any, list_any_more}
 use Rattle.gl_lock_lists.proofs.Words.{Mode, mode_in, mode_of, nat_lt, nat_tests, NL, NodeId, None, not, Option, option_map_or, refl, rules, same_mode}
 use Rattle.gl_lock_lists.proofs.Words.{same_node, same_node-equal, slice_get, slice_get-get_or, Some, split, subst, suc, sym, take, take_all, true, zero, ℕ}
 use Rattle.gl_graph.specs.Graph.{Graph, id_of, is_live, Node, node_at, nodes, parents_of}
-use Rattle.gl_graph.specs.Lawful.{IsLawfulGraph}
-use Rattle.gl_lock_lists.specs.Lists.{entry_of}
+use Rattle.gl_graph.specs.Lawful.{are_distinct, IsLawfulGraph}
+use Rattle.gl_lock_lists.specs.Lists.{entry_of, held_below}
 use Rattle.gl_lock_lists.specs.declared.list.LockList.{LockList}
-use Rattle.gl_modes.proofs.NodeLemmas.{same_node-from_equal}
-use Rattle.gl_modes.proofs.Words.{and_both, clash, not_true, number_other, or_elim, or_left, or_right}
+use Rattle.gl_modes.proofs.NodeLemmas.{same_node-from_equal, same_node-sym}
+use Rattle.gl_modes.proofs.Words.{and_both, both, clash, not_true, number_other, or_elim, or_left, or_right}
 use Rattle.gl_modes.specs.declared.mode.Mode.TheVariants.{X}
-use Rattle.std.proofs.Math.Bool.{or-false}
+use Rattle.std.proofs.Math.Bool.{and-false, and-true, or-false}
+use Rattle.std.proofs.lemmas.Bool.{not-true}
+use Rattle.std.proofs.lemmas.Map.Keys.{IsDistinct-head, IsDistinct-tail}
 use Rattle.std.proofs.lemmas.List.Folds.{list_any-append}
 use Rattle.std.specs.List.{cons_option, filter_map, find, list_all, range_with_len}
 
@@ -299,3 +304,94 @@ writes_listed g law l n live = any_alike (λ c. is_child g n c && is_at_least (m
   where
     held : (c : NodeId) → (is_child g n c && is_at_least (mode_of l c) IX) ≡ true → not (same_mode (mode_of l c) NL) ≡ true
     held c h = write_held (mode_of l c) (and_both (is_child g n c) (is_at_least (mode_of l c) IX) h).1
+
+-- How many children are held, counted among the listed nodes.
+
+-- tests that agree on these nodes count as many
+same_count : (p q : NodeId → Bool) (xs : List NodeId) → ((c : NodeId) → list_any (same_node c) xs ≡ true → q c ≡ p c) → count_by q xs ≡ count_by p xs
+same_count p q [] same = refl
+same_count p q (x ∷ xs) same =
+    count_cons q x xs
+    ∙ ap₂ (λ b k. cond b 1 0 + k) (same x (or_left _ _ (same_node-from_equal x x refl))) (same_count p q xs (λ c h. same c (or_right (same_node c x) _ h)))
+    ∙ sym (count_cons p x xs)
+
+-- the test for all but one node
+abbrev but : (NodeId → Bool) → NodeId → NodeId → Bool
+but p n c = p c && not (same_node c n)
+
+but_here : (p : NodeId → Bool) (n c : NodeId) → same_node c n ≡ true → but p n c ≡ false
+but_here p n c e = ap (λ b. p c && not b) e ∙ and-false (p c)
+
+but_there : (p : NodeId → Bool) (n c : NodeId) → same_node c n ≡ false → but p n c ≡ p c
+but_there p n c e = ap (λ b. p c && not b) e ∙ and-true (p c)
+
+-- it counts one less, if the node passes and is in a list that has no node twice
+count_but : (p : NodeId → Bool) (n : NodeId) (xs : List NodeId) → are_distinct xs ≡ true → list_any (same_node n) xs ≡ true
+    → count_by p xs ≡ count_by (but p n) xs + cond (p n) 1 0
+count_but p n [] d h = absurd (clash h refl)
+count_but p n (x ∷ xs) d h =
+    let t = and_both (not (list_any (same_node x) xs)) (are_distinct xs) d in
+    let all : count_by p (x ∷ xs) ≡ cond (p x) 1 0 + count_by p xs = count_cons p x xs in
+    let here : count_by (but p n) (x ∷ xs) ≡ cond (but p n x) 1 0 + count_by (but p n) xs = count_cons (but p n) x xs in
+    split (same_node n x)
+    (λ e.
+    let is : n ≡ x = same_node-equal n x e in
+    let rest : count_by (but p n) xs ≡ count_by p xs = same_count p (but p n) xs (λ c k. but_there p n c (not_true (same_node c n)
+    (λ m. clash t.0 (ap not (ap (λ y. list_any (same_node y) xs) (sym (same_node-equal c n m ∙ is)) ∙ k))))) in
+    let none : cond {A = ℕ} (but p n x) 1 0 ≡ 0 = ap (λ b. cond b 1 0) (but_here p n x (same_node-from_equal x n (sym is))) in
+    let same : cond {A = ℕ} (p n) 1 0 ≡ cond (p x) 1 0 = ap (λ y. cond (p y) 1 0) is in
+    omega arith)
+    (λ e.
+    let rest : count_by p xs ≡ count_by (but p n) xs + cond (p n) 1 0 = count_but p n xs t.1 (or_elim _ _ h (λ k. absurd (clash k e)) (λ k. k)) in
+    let same : cond {A = ℕ} (but p n x) 1 0 ≡ cond (p x) 1 0 = ap (λ b. cond b 1 0) (but_there p n x (same_node-sym x n ∙ e)) in
+    omega arith)
+
+-- a test that passes no node counts none
+count_empty : (p : NodeId → Bool) (xs : List NodeId) → ((c : NodeId) → p c ≡ false) → count_by p xs ≡ 0
+count_empty p [] off = refl
+count_empty p (x ∷ xs) off = count_cons p x xs ∙ ap₂ (λ b k. cond b 1 0 + k) (off x) (count_empty p xs off)
+
+-- if all nodes that pass a test are in both of two lists that have no node twice, the test counts as many in each
+pub count_both : (p : NodeId → Bool) (xs ys : List NodeId) → are_distinct xs ≡ true → are_distinct ys ≡ true
+    → ((c : NodeId) → p c ≡ true → list_any (same_node c) xs ≡ true) → ((c : NodeId) → p c ≡ true → list_any (same_node c) ys ≡ true)
+    → count_by p xs ≡ count_by p ys
+count_both p [] ys d e in_xs in_ys = sym (count_empty p ys (λ c. not_true (p c) (λ h. clash (in_xs c h) refl)))
+count_both p (x ∷ xs) ys d e in_xs in_ys =
+    let t = and_both (not (list_any (same_node x) xs)) (are_distinct xs) d in
+    let passes : (c : NodeId) → but p x c ≡ true → (p c ≡ true) × (same_node c x ≡ false) = λ c h.
+    let b = and_both (p c) (not (same_node c x)) h in (b.0, not-true (same_node c x) b.1) in
+    let rest : count_by (but p x) xs ≡ count_by (but p x) ys = count_both (but p x) xs ys t.1 e
+    (λ c h. let b = passes c h in or_elim _ _ (in_xs c b.0) (λ k. absurd (clash k b.1)) (λ k. k)) (λ c h. in_ys c (passes c h).0) in
+    let own : count_by p (x ∷ xs) ≡ count_by (but p x) (x ∷ xs) + cond (p x) 1 0
+    = count_but p x (x ∷ xs) d (or_left _ _ (same_node-from_equal x x refl)) in
+    let here : count_by (but p x) (x ∷ xs) ≡ cond (but p x x) 1 0 + count_by (but p x) xs = count_cons (but p x) x xs in
+    let none : cond {A = ℕ} (but p x x) 1 0 ≡ 0 = ap (λ b. cond b 1 0) (but_here p x x (same_node-from_equal x x refl)) in
+    let other : count_by p ys ≡ count_by (but p x) ys + cond (p x) 1 0 = split (p x) (λ h. count_but p x ys e (in_ys x h))
+    (λ h. let same : count_by (but p x) ys ≡ count_by p ys = same_count p (but p x) ys (λ c k. split (same_node c x)
+    (λ m. but_here p x c m ∙ sym (ap p (same_node-equal c x m) ∙ h)) (λ m. but_there p x c m)) in
+    let off : cond {A = ℕ} (p x) 1 0 ≡ 0 = ap (λ b. cond b 1 0) h in
+    omega arith) in
+    omega arith
+
+-- a list that has no node twice, as a graph says it
+pub once_is : (xs : List NodeId) → IsDistinct same_node xs → are_distinct xs ≡ true
+once_is [] d = refl
+once_is (x ∷ xs) d =
+    both (not (list_any (same_node x) xs)) (are_distinct xs) (ap not (none xs (IsDistinct-head same_node x xs d)))
+    (once_is xs (IsDistinct-tail same_node x xs d))
+  where
+    none : (ys : List NodeId) → AllByRecursion (λ y. same_node x y ≡ false) ys → list_any (same_node x) ys ≡ false
+    none [] h = refl
+    none (y ∷ ys) h = ap₂ (λ a b. a || b) h.0 (none ys h.1)
+
+-- all held nodes are listed once, and live
+pub held_counted : (g : Graph) → IsLawfulGraph g → (l : LockList) (n : NodeId) → IsDistinct same_node (keys l.entries)
+    → ((c : NodeId) → not (same_mode (mode_of l c) NL) ≡ true → is_live g c ≡ true)
+    → count_by (λ c. is_child g n c && not (same_mode (mode_of l c) NL)) (keys l.entries) ≡ held_below g l n
+held_counted g law l n once live =
+    count_both (λ c. is_child g n c && not (same_mode (mode_of l c) NL)) (keys l.entries) (nodes g) (once_is (keys l.entries) once)
+    (nodes_distinct g)
+    (λ c h. held_listed l c (held c h)) (λ c h. listed g law c (live c (held c h)))
+  where
+    held : (c : NodeId) → (is_child g n c && not (same_mode (mode_of l c) NL)) ≡ true → not (same_mode (mode_of l c) NL) ≡ true
+    held c h = (and_both (is_child g n c) (not (same_mode (mode_of l c) NL)) h).1

@@ -95,15 +95,16 @@ count_in-unlisted (Some x) y h = cc
 count_in-unlisted None (Some k) h = refl
 count_in-unlisted None None h = refl
 
--- the count at the node of the change is one less
-abbrev pub CountsDown : Bool → Option Entry → Option ℕ → Option Entry → Option ℕ → Type 0
-CountsDown b x y x' y' = count_in x' y' + (if b then 1 else 0) ≡ count_in x y
+-- the count at the node of the change is less by so many
+abbrev pub CountsDown : ℕ → Bool → Option Entry → Option ℕ → Option Entry → Option ℕ → Type 0
+CountsDown less b x y x' y' = count_in x' y' + (if b then less else 0) ≡ count_in x y
 
--- the last counted child of a node that is not listed
-pub CountsDown-last : (x : Option Entry) (y : Option ℕ) (k : ℕ) → None ≡ x → Some k ≡ y → 0 < count_in x y → k - 1 ≡ 0 → CountsDown true x y x None
-CountsDown-last (Some e) y k h i some last = cc
-CountsDown-last None None k h i some last = cc
-CountsDown-last None (Some j) k h i some last =
+-- the last counted children of a node that is not listed
+pub CountsDown-last : (x : Option Entry) (y : Option ℕ) (k less : ℕ) → None ≡ x → Some k ≡ y → less ≤ count_in x y → k - less ≡ 0
+    → CountsDown less true x y x None
+CountsDown-last (Some e) y k less h i some last = cc
+CountsDown-last None None k less h i some last = cc
+CountsDown-last None (Some j) k less h i some last =
     let same : k ≡ j = cc in
     omega arith
 

@@ -1,5 +1,5 @@
 -- The list of one transaction: the nodes that it holds or waits for, each with its mode and the count of its held children.
-use Rattle.std.specs.Prelude.{◌≡◌, ℕ, ◌+◌, ◌≤◌, ◌<◌, Bool, not, List, Option, Some, None, is_some, false, true, ◌&&◌, ◌||◌, ◌==◌, slice_get}
+use Rattle.std.specs.Prelude.{◌≡◌, ℕ, ◌+◌, ◌≤◌, ◌<◌, Bool, not, List, Option, Some, None, is_some, false, true, ◌&&◌, ◌||◌, ◌==◌, slice_get, if◌then◌else◌}
 use Rattle.std.specs.List.{count_by, list_all}
 use Rattle.std.specs.Map.{keys_of, lookup}
 use Rattle.indexmap.specs.IndexMap.{spare, keys, swap_remove_entry}
@@ -8,7 +8,7 @@ use Rattle.gl_modes.specs.declared.mode.Mode.TheVariants.{NL, X}
 use Rattle.gl_modes.specs.declared.node.NodeId.{NodeId}
 use Rattle.gl_modes.specs.Nodes.{same_node}
 use Rattle.gl_modes.specs.Modes.{same_mode}
-use Rattle.gl_graph.specs.Graph.{Graph, is_child, parents_of}
+use Rattle.gl_graph.specs.Graph.{Graph, is_child, nodes, parents_of}
 use Rattle.gl_lock_lists.specs.declared.list.Entry.{Entry}
 use Rattle.gl_lock_lists.specs.declared.list.LockList.{LockList}
 
@@ -46,6 +46,15 @@ count_of l n = count_in (entry_of l n) (loose_of l n)
 -- how many of these are not listed
 abbrev pub unlisted : LockList → List NodeId → ℕ
 unlisted l ps = count_by (λ p. not (is_listed l p)) ps
+
+-- how many children of the node are held
+abbrev pub held_below : Graph → LockList → NodeId → ℕ
+held_below g l n = count_by (λ c. is_child g n c && not (same_mode (mode_of l c) NL)) (nodes g)
+
+-- one node has so many held children less, and another as many more
+abbrev pub CountsOver : LockList → NodeId → NodeId → ℕ → LockList → Type 0
+CountsOver l from to children l' =
+    (q : NodeId) → count_of l' q + (if same_node q from then children else 0) ≡ count_of l q + (if same_node q to then children else 0)
 
 -- room for one more node, and for the counts of nine nodes that are not listed
 abbrev pub HasRoom : LockList → Type 0

@@ -1,6 +1,6 @@
 //! The list of one transaction: the nodes that it holds or waits for.
 
-ghost use Rattle.std.specs.Prelude.{◌≡◌, ℕ, ◌+◌, ◌<◌, ◌≤◌, ◌^◌, ◌&&◌, ◌||◌, ◌++◌, ◌∷◌, [], not, true, false, length, OnOk, IfSome, IfNone, if◌then◌else◌};
+ghost use Rattle.std.specs.Prelude.{◌≡◌, ℕ, ◌+◌, ◌<◌, ◌≤◌, ◌^◌, ◌&&◌, ◌||◌, ◌++◌, ◌==◌, ◌∷◌, [], not, true, false, length, OnOk, IfSome, IfNone, if◌then◌else◌};
 ghost use Rattle.std.specs.List.{count_by, list_all, list_any};
 ghost use Rattle.indexmap.specs.IndexMap.{spare};
 ghost use Rattle.std.specs.Prelude.{None, Some, cond, nat_lt, slice_get, unwrap_or};
@@ -66,20 +66,20 @@ fn take_counted(loose: &mut IndexMap<NodeId, u32>, n: NodeId) -> u32
     loose.swap_remove(&n).unwrap_or(0)
 }
 
-/// Adds one to the separate count of a node.
+/// Adds so many to the separate count of a node.
 #[inline(never)]
-fn count_loose_up(loose: &mut IndexMap<NodeId, u32>, n: NodeId)
+fn count_loose_more(loose: &mut IndexMap<NodeId, u32>, n: NodeId, more: u32)
     requires room { 0 < spare loose.old }
-    requires few { unwrap_or (lookup (same_node n) loose.old.entries) 0 + 1 < 2 ^ 32 }
-    ensures updates { Updates same_node loose.old loose.new n (Some (unwrap_or (lookup (same_node n) loose.old.entries) 0 + 1)) }
+    requires few { unwrap_or (lookup (same_node n) loose.old.entries) 0 + more < 2 ^ 32 }
+    ensures updates { Updates same_node loose.old loose.new n (Some (unwrap_or (lookup (same_node n) loose.old.entries) 0 + more)) }
     ensures room { spare loose.old ≤ spare loose.new + 1 }
 {
     let children = loose.get(&n).copied().unwrap_or(0);
-    loose.insert(n, children + 1).unwrap();
+    loose.insert(n, children + more).unwrap();
 }
 
 impl LockList {
-    ghost use Rattle.gl_lock_lists.specs.Lists.{AreMarkedLast, HasRoom, IsTakenOut, NoneMarkedFrom};
+    ghost use Rattle.gl_lock_lists.specs.Lists.{AreMarkedLast, CountsOver, HasRoom, IsTakenOut, NoneMarkedFrom, held_below};
     ghost use Rattle.gl_lock_lists.specs.Lists.{covered_in, count_of, entry_of, is_listed, mode_of, unlisted};
 
     /// An empty list. Allocates no memory.
@@ -195,25 +195,26 @@ impl LockList {
         ensures keys { keys self.new.entries ≡ keys self.old.entries }
     {
         for parent in parents {
-            self.count_one_up(*parent);
+            self.count_more(*parent, 1);
         }
     }
 
-    /// Counts one more held child for a node.
+    /// Counts so many more held children for a node.
     #[inline]
-    fn count_one_up(&mut self, n: NodeId)
+    fn count_more(&mut self, n: NodeId, more: u32)
         requires room { is_listed self.old n ≡ false → 0 < spare self.old.loose }
-        requires few { count_of self.old n + 1 < 2 ^ 32 }
+        requires few { count_of self.old n + more < 2 ^ 32 }
         ensures listed { (q : Node) → is_listed self.new q ≡ is_listed self.old q }
         ensures modes { (q : Node) → mode_of self.new q ≡ mode_of self.old q }
-        ensures counts { (q : Node) → count_of self.new q ≡ count_of self.old q + (if same_node q n then 1 else 0) }
+        ensures counts { (q : Node) → count_of self.new q ≡ count_of self.old q + (if same_node q n then more else 0) }
         ensures room { spare self.old.loose ≤ spare self.new.loose + (if is_listed self.old n then 0 else 1) }
+        ensures entries_room { spare self.old.entries ≤ spare self.new.entries }
         ensures keys { keys self.new.entries ≡ keys self.old.entries }
     {
         if let Some(entry) = self.entries.get_mut(n) {
-            entry.children += 1;
+            entry.children += more;
         } else {
-            count_loose_up(&mut self.loose, n);
+            count_loose_more(&mut self.loose, n, more);
         }
     }
 
@@ -227,27 +228,130 @@ impl LockList {
         ensures keys { keys self.new.entries ≡ keys self.old.entries }
     {
         for parent in parents {
-            self.count_one_down(*parent);
+            self.count_less(*parent, 1);
         }
     }
 
-    /// Counts one held child less for a node. A separate count is removed at 0.
-    fn count_one_down(&mut self, n: NodeId)
-        requires some { 0 < count_of self.old n }
+    /// Counts so many held children less for a node. A separate count is removed at 0.
+    fn count_less(&mut self, n: NodeId, less: u32)
+        requires some { less ≤ count_of self.old n }
         ensures listed { (q : Node) → is_listed self.new q ≡ is_listed self.old q }
         ensures modes { (q : Node) → mode_of self.new q ≡ mode_of self.old q }
-        ensures counts { (q : Node) → count_of self.new q + (if same_node q n then 1 else 0) ≡ count_of self.old q }
+        ensures counts { (q : Node) → count_of self.new q + (if same_node q n then less else 0) ≡ count_of self.old q }
         ensures room { spare self.old.loose ≤ spare self.new.loose }
+        ensures entries_room { spare self.old.entries ≤ spare self.new.entries }
         ensures keys { keys self.new.entries ≡ keys self.old.entries }
     {
         if let Some(entry) = self.entries.get_mut(n) {
-            entry.children -= 1;
+            entry.children -= less;
         } else if let Some(children) = self.loose.get_mut(&n) {
-            *children -= 1;
+            *children -= less;
             if *children == 0 {
                 self.loose.swap_remove(&n);
             }
         }
+    }
+
+    /// How many children of a node are held, as the list counts them.
+    fn counted(&self, n: NodeId) -> u32
+        ensures { result ≡ count_of self.now n }
+    {
+        match self.entries.get(n) {
+            Some(entry) => entry.children,
+            None => self.loose.get(&n).copied().unwrap_or(0),
+        }
+    }
+
+    /// If children of a node are counted, makes room to count some of them for another node, besides
+    /// the room that `make_room` makes.
+    pub fn make_room_beside(&mut self, n: NodeId) -> Result<(), AllocError>
+        ensures entries { self.new.entries ≡ self.old.entries }
+        ensures loose { self.new.loose.entries ≡ self.old.loose.entries }
+        ensures ok { OnOk result (0 < count_of self.old n → 10 ≤ spare self.new.loose) }
+        ensures kept { spare self.old.loose ≤ spare self.new.loose }
+    {
+        if self.counted(n) == 0 {
+            return Ok(());
+        }
+        self.loose.reserve(MOST_PARENTS + 2)
+    }
+
+    /// Counts so many held children less for one node, and as many more for another.
+    fn count_over(&mut self, from: NodeId, to: NodeId, children: u32)
+        requires some { children ≤ count_of self.old from }
+        requires few { count_of self.old to + children < 2 ^ 32 }
+        requires room { 0 < children → 0 < spare self.old.loose }
+        ensures listed { (q : Node) → is_listed self.new q ≡ is_listed self.old q }
+        ensures modes { (q : Node) → mode_of self.new q ≡ mode_of self.old q }
+        ensures counts { (q : Node) → count_of self.new q + (if same_node q from then children else 0)
+            ≡ count_of self.old q + (if same_node q to then children else 0) }
+        ensures room { spare self.old.loose ≤ spare self.new.loose + (if children == 0 then 0 else 1) }
+        ensures entries_room { spare self.old.entries ≤ spare self.new.entries }
+        ensures keys { keys self.new.entries ≡ keys self.old.entries }
+    {
+        if children > 0 {
+            self.count_less(from, children);
+            self.count_more(to, children);
+        }
+    }
+
+    /// The held children of a node that now are children of another one are counted there: the
+    /// graph has already changed, and no child of the other node was counted.
+    ///
+    /// Scans the whole list, unless no child of the node was counted.
+    pub fn part(&mut self, graph: &Graph, from: NodeId, to: NodeId)
+        requires live { (c : Node) → not (same_mode (mode_of self.old c) NL) ≡ true → is_live (graph_of graph.now) c ≡ true }
+        requires some { held_below (graph_of graph.now) self.old to ≤ count_of self.old from }
+        requires none { count_of self.old to ≡ 0 }
+        requires room { 0 < count_of self.old from → 0 < spare self.old.loose }
+        ensures listed { (q : Node) → is_listed self.new q ≡ is_listed self.old q }
+        ensures modes { (q : Node) → mode_of self.new q ≡ mode_of self.old q }
+        ensures counts { CountsOver self.old from to (held_below (graph_of graph.now) self.old to) self.new }
+        ensures room { spare self.old.loose ≤ spare self.new.loose + (if count_of self.old from == 0 then 0 else 1) }
+        ensures entries_room { spare self.old.entries ≤ spare self.new.entries }
+        ensures keys { keys self.new.entries ≡ keys self.old.entries }
+    {
+        if self.counted(from) > 0 {
+            let children = self.held_below(graph, to);
+            self.count_over(from, to, children as u32);
+        }
+    }
+
+    /// The held children of a node are counted for another one, of which they become children.
+    pub fn join_counts(&mut self, from: NodeId, to: NodeId)
+        requires few { count_of self.old to + count_of self.old from < 2 ^ 32 }
+        requires room { 0 < count_of self.old from → 0 < spare self.old.loose }
+        ensures listed { (q : Node) → is_listed self.new q ≡ is_listed self.old q }
+        ensures modes { (q : Node) → mode_of self.new q ≡ mode_of self.old q }
+        ensures counts { CountsOver self.old from to (count_of self.old from) self.new }
+        ensures room { spare self.old.loose ≤ spare self.new.loose + (if count_of self.old from == 0 then 0 else 1) }
+        ensures entries_room { spare self.old.entries ≤ spare self.new.entries }
+        ensures keys { keys self.new.entries ≡ keys self.old.entries }
+    {
+        let children = self.counted(from);
+        self.count_over(from, to, children);
+    }
+
+    /// How many children of a node are held. Scans the whole list.
+    fn held_below(&self, graph: &Graph, node: NodeId) -> usize
+        requires live { (c : Node) → not (same_mode (mode_of self.now c) NL) ≡ true → is_live (graph_of graph.now) c ≡ true }
+        ensures { result ≡ held_below (graph_of graph.now) self.now node }
+    {
+        graph.law();
+        let mut children = 0;
+        for place in 0..self.entries.len() {
+            if self.is_held_below(graph, node, self.entries.node_at(place)) {
+                children += 1;
+            }
+        }
+        children
+    }
+
+    /// Whether this is a child of the node and held.
+    fn is_held_below(&self, graph: &Graph, node: NodeId, child: NodeId) -> bool
+        ensures { result ≡ (is_child (graph_of graph.now) node child && not (same_mode (mode_of self.now child) NL)) }
+    {
+        is_child(graph, node, child) && self.holds(child)
     }
 
     /// Removes everything, and keeps the room.

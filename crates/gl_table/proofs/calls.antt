@@ -14,3 +14,6 @@ pub mod Records
 pub mod Dropping
 pub mod Adopting
 pub mod Orders
+pub mod Recuts
+pub mod Merges
+pub mod Splits

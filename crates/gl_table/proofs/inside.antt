@@ -15,7 +15,9 @@ pub mod Back
 pub mod Asks
 pub mod Covered
 pub mod Enqueues
+pub mod Cuts
 pub mod TurnedAway
+pub mod Splits
 pub mod Vacated
 pub mod Branches
 pub mod Says

@@ -34,6 +34,7 @@ use std::alloc::{AllocError, Global};
 
 mod ask;
 mod checks;
+pub(crate) mod cuts;
 mod deadlock;
 pub(crate) mod leave;
 pub(crate) mod moves;

@@ -24,6 +24,7 @@ use std::marker::Model;
 mod answering;
 mod begin;
 mod checks;
+mod cuts;
 mod listing;
 mod lock;
 mod moves;

@@ -7,6 +7,8 @@ use Rattle.gl_table.proofs.Words.{IsLeftTo, IsWritten, Ledger, List, list_any, l
 use Rattle.gl_table.proofs.Words.{nodes, nodes_live, None, not, not_true, number_same, Option, parent_plain, parents_in, parents_of, rec_live, rec_not_plain}
 use Rattle.gl_table.proofs.Words.{refl, restatus, same_mode, same_node, same_node-equal, same_node-refl, same_number, shape_of, Some, split, stands_other}
 use Rattle.gl_table.proofs.Words.{stands_there, State, state_in, status_in, status_of, Strikes, subst, sym, Told, true, Txn, View, waiters_below, waits_at}
+use Rattle.gl_table.proofs.Words.{AreAgreed}
+use Rattle.gl_table.specs.inside.Steps.{CanEvict, IsLeftAloneTo}
 use Rattle.gl_table.proofs.Words.{waits_there, was_there, with_grant, without_node, ℕ}
 use Rattle.gl_table.proofs.inside.Marked.{list_there}
 use Rattle.gl_model.proofs.queues.Edits.{freed_other}
@@ -38,14 +40,14 @@ freed_here : (r : NodeId) (x : Option Txn) → waits_at (status_in x) r ≡ true
 freed_here r None h = clash h refl
 freed_here r (Some x) h = grind (arith, nat_tests)
 
--- the slot, which may act, alone holds the node, and nobody holds a child of it
-pub record MayVacate (g : View) (l : Ledger) (t : ℕ) (r : NodeId) : Type 0 where
-  pub law : IsLawfulGraph (graph_of g)
-  pub act : MayAct g l t
-  pub left : IsLeftTo (state_in g l) t r
-  pub holding : holds (members (state_in g l) r) t ≡ true
+-- the slot is active and alone holds the node, of which no child is counted
+pub record MayEvict (g : View) (l : Ledger) (t : ℕ) (r : NodeId) : Type 0 where
+  pub agreed : AreAgreed g l
+  pub active : status_of (state_in g l) t ≡ Some Active
+  pub left : IsLeftAloneTo (state_in g l) t r
+  pub counts : CanEvict l.lists.items t r (parents_of (graph_of g) r)
 
-module _ {g : View} {l : Ledger} {t : ℕ} {r : NodeId} (may : MayVacate g l t r) where
+module _ {g : View} {l : Ledger} {t : ℕ} {r : NodeId} (may : MayEvict g l t r) where
   abbrev s : State
   s = state_in g l
 
@@ -55,59 +57,43 @@ module _ {g : View} {l : Ledger} {t : ℕ} {r : NodeId} (may : MayVacate g l t r
   abbrev after : State
   after = departed s (λ q. same_node q r) s.graph
 
-  held_other : (u : ℕ) (q : NodeId) → same_node q r ≡ false → after.held u q ≡ s.held u q
-  held_other u q e = ap (λ b. if b then NL else s.held u q) e
-
-  -- nobody holds the node any more
-  gone : (u : ℕ) → holds (members after r) u ≡ false
-  gone u = ap (λ b. not (same_mode (if b then NL else s.held u r) NL)) (same_node-refl r)
-
-  -- each parent has one child less that the slot holds
-  less : (p : NodeId) → held_children after t p + count_by (same_node p) (parents_of s.graph r) ≡ held_children s t p
-  less p =
-      children_down s.graph may.law (λ c. holds (members s c) t) (λ c. holds (members after c) t) r may.left.live may.holding (gone t)
-      (λ q e. ap (λ m. not (same_mode m NL)) (held_other t q e)) p
-
-  -- and the children that others hold are those that they held
-  others : (u : ℕ) → (u == t) ≡ false → (p : NodeId) → held_children after u p ≡ held_children s u p
-  others u e p = ap (λ f. children_that s.graph f p) (fun_ext (λ q. ap (λ m. not (same_mode m NL)) (split (same_node q r)
-      (λ k. if-true _ k ∙ sym (ap (s.held u) (same_node-equal q r k) ∙ may.left.alone u e)) (λ k. held_other u q k))))
-
   pub can_strike : CanStrike ls t r (parents_of s.graph r)
   can_strike = record {
-    slot = list_there l (graph_of g) may.act.exact.sound may.act.orderly t may.act.active;
-    childless = may.act.exact.count t r ∙ may.left.childless t;
-    some = λ q. subst (λ (k : ℕ). count_by (same_node q) (parents_of s.graph r) ≤ k) (sym (may.act.exact.count t q)) (let l = less q in omega arith);
+    slot = list_there l (graph_of g) may.agreed.sound may.agreed.orderly t may.active;
+    childless = may.counts.childless t;
+    some = may.counts.some;
   }
 
   pub txns_freed : (u : ℕ) → (if is_among_waiters u (s.queue r) then restatus Active (s.txns u) else s.txns u) ≡ freed r (s.txns u)
-  txns_freed u = split (is_among_waiters u (s.queue r)) (λ e. if-true _ e ∙ sym (freed_here r (s.txns u) (may.act.orderly.waits_are u r e))) (λ e. if-false _ e
-      ∙ sym (freed_other r (s.txns u) (not_true (is_waiting_at s u r) (λ w. clash (stands_there s may.act.orderly u r w) e))))
+  txns_freed u = split (is_among_waiters u (s.queue r)) (λ e. if-true _ e ∙ sym (freed_here r (s.txns u) (may.agreed.orderly.waits_are u r e)))
+      (λ e. if-false _ e
+      ∙ sym (freed_other r (s.txns u) (not_true (is_waiting_at s u r) (λ w. clash (stands_there s may.agreed.orderly u r w) e))))
 
   waiter_other : (u : ℕ) → is_among_waiters u (s.queue r) ≡ true → (u == t) ≡ false
-  waiter_other u h = stands_other s may.act.orderly t (ap is_wait may.act.active) u r h
+  waiter_other u h = stands_other s may.agreed.orderly t (ap is_wait may.active) u r h
 
   module _ {mid : List LockList} (struck : Strikes ls mid t r (parents_of s.graph r)) where
     pub can_free : (told : Told) → CanTellWaiters s r told → CanEnd (books_of l.txn_entries mid told) (s.queue r)
     can_free told tell = record {
-      kept = record { few = may.act.exact.sound.few; len = struck.len ∙ may.act.exact.sound.lists; by_slot = tell.by_slot };
-      distinct = distinct_once (s.queue r) (λ u h. let w = waits_there s may.act.orderly u r h in ((u, w.0), (may.act.orderly.one_wait u r w.0 w.1).0));
-      below = waiters_below s may.act.orderly r;
+      kept = record { few = may.agreed.sound.few; len = struck.len ∙ may.agreed.sound.lists; by_slot = tell.by_slot };
+      distinct = distinct_once (s.queue r) (λ u h. let w = waits_there s may.agreed.orderly u r h in
+          ((u, w.0), (may.agreed.orderly.one_wait u r w.0 w.1).0));
+      below = waiters_below s may.agreed.orderly r;
       untold = tell.untold;
     }
 
     pub waiter_childless : (u : ℕ) → is_among_waiters u (s.queue r) ≡ true → counted_by mid u r ≡ 0
     waiter_childless u h = none_more (counted_by mid u r) ∙ ap (λ b. counted_by mid u r + (if b then count_by (same_node r) (parents_of s.graph r) else 0))
-        (sym (waiter_other u h)) ∙ struck.counts u r ∙ may.act.exact.count u r ∙ may.left.childless u
+        (sym (waiter_other u h)) ∙ struck.counts u r ∙ may.counts.childless u
 
     -- once it is struck from its holder's list nobody's list holds it
     struck_agrees : (u : ℕ) → Agrees (with_grant s t r NL) mid u
     struck_agrees u = record {
-      modes = λ q. struck.modes u q ∙ ap (λ m. if (u == t) && same_node q r then NL else m) ((may.act.exact.agree u).modes q);
-      listed = λ q. struck.listed u q ∙ ap (λ m. if (u == t) && same_node q r then false else m) ((may.act.exact.agree u).listed q)
+      modes = λ q. struck.modes u q ∙ ap (λ m. if (u == t) && same_node q r then NL else m) ((may.agreed.agree u).modes q);
+      listed = λ q. struck.listed u q ∙ ap (λ m. if (u == t) && same_node q r then false else m) ((may.agreed.agree u).listed q)
           ∙ by ((u == t) && same_node q r) (s.held u q) (is_among_waiters u (s.queue q)) (absent q);
       room = λ h. subst (λ (k : ℕ). 9 ≤ k) (sym (struck.rooms u (not_true (u == t) (λ e. clash h (ap (λ v. is_wait (status_of s v)) (same_number u t e)
-          ∙ ap is_wait may.act.active))))) ((may.act.exact.agree u).room h);
+          ∙ ap is_wait may.active))))) ((may.agreed.agree u).room h);
     }
       where
         absent : (q : NodeId) → ((u == t) && same_node q r) ≡ true → is_among_waiters u (s.queue q) ≡ false
@@ -115,7 +101,7 @@ module _ {g : View} {l : Ledger} {t : ℕ} {r : NodeId} (may : MayVacate g l t r
           arith,
           nat_tests,
           same_number u t (and_both (u == t) (same_node q r) h).0,
-          in_no_queue s may.act.orderly t (ap is_wait may.act.active) q,
+          in_no_queue s may.agreed.orderly t (ap is_wait may.active) q,
         )
 
         by : (k : Bool) (m : Mode) (a : Bool) → (k ≡ true → a ≡ false) → (if k then false else (not (same_mode m NL) || a))
@@ -142,20 +128,65 @@ module _ {g : View} {l : Ledger} {t : ℕ} {r : NodeId} (may : MayVacate g l t r
               none : (a : Bool) → false ≡ (if a && true then false else a)
               none a = grind (arith, nat_tests)
 
-      own_counts : (p : NodeId) → counted_by mid t p ≡ held_children after t p
-      own_counts p =
-          let now = sym (ap (λ b. counted_by mid t p + (if b then count_by (same_node p) (parents_of s.graph r) else 0)) (number_same t t refl))
-          ∙ struck.counts t p ∙ may.act.exact.count t p in
+      pub counts_evicted : (u : ℕ) (q : NodeId) → counted_by ls' u q + (if u == t then count_by (same_node q) (parents_of s.graph r) else 0) ≡ counted_by ls u q
+      counts_evicted u q =
+          ap (λ (k : ℕ). k + (if u == t then count_by (same_node q) (parents_of s.graph r) else 0)) (left.counts u q
+          ∙ none_if (is_among_waiters u (s.queue r)) (counted_by mid u q)) ∙ struck.counts u q
+
+-- the slot, which may act, alone holds the node, and nobody holds a child of it
+pub record MayVacate (g : View) (l : Ledger) (t : ℕ) (r : NodeId) : Type 0 where
+  pub law : IsLawfulGraph (graph_of g)
+  pub act : MayAct g l t
+  pub left : IsLeftTo (state_in g l) t r
+  pub holding : holds (members (state_in g l) r) t ≡ true
+
+module _ {g : View} {l : Ledger} {t : ℕ} {r : NodeId} (may : MayVacate g l t r) where
+  abbrev was : State
+  was = state_in g l
+
+  abbrev gone_off : State
+  gone_off = departed was (λ q. same_node q r) was.graph
+
+  held_other : (u : ℕ) (q : NodeId) → same_node q r ≡ false → gone_off.held u q ≡ was.held u q
+  held_other u q e = ap (λ b. if b then NL else was.held u q) e
+
+  -- nobody holds the node any more
+  gone : (u : ℕ) → holds (members gone_off r) u ≡ false
+  gone u = ap (λ b. not (same_mode (if b then NL else was.held u r) NL)) (same_node-refl r)
+
+  -- each parent has one child less that the slot holds
+  less : (p : NodeId) → held_children gone_off t p + count_by (same_node p) (parents_of was.graph r) ≡ held_children was t p
+  less p =
+      children_down was.graph may.law (λ c. holds (members was c) t) (λ c. holds (members gone_off c) t) r may.left.live may.holding (gone t)
+      (λ q e. ap (λ m. not (same_mode m NL)) (held_other t q e)) p
+
+  -- and the children that others hold are those that they held
+  others : (u : ℕ) → (u == t) ≡ false → (p : NodeId) → held_children gone_off u p ≡ held_children was u p
+  others u e p = ap (λ f. children_that was.graph f p) (fun_ext (λ q. ap (λ m. not (same_mode m NL)) (split (same_node q r)
+      (λ k. if-true _ k ∙ sym (ap (was.held u) (same_node-equal q r k) ∙ may.left.alone u e)) (λ k. held_other u q k))))
+
+  pub evicted_counts : CanEvict l.lists.items t r (parents_of was.graph r)
+  evicted_counts = record {
+    childless = λ u. may.act.exact.count u r ∙ may.left.childless u;
+    some = λ q. subst (λ (k : ℕ). count_by (same_node q) (parents_of was.graph r) ≤ k) (sym (may.act.exact.count t q)) (let l = less q in omega arith);
+  }
+
+  pub counts_vacated : (ls' : List LockList)
+      → ((u : ℕ) (q : NodeId) → counted_by ls' u q + (if u == t then count_by (same_node q) (parents_of was.graph r) else 0) ≡ counted_by l.lists.items u q)
+      → (u : ℕ) → CountsHeld gone_off ls' u
+  counts_vacated ls' counts u p = split (u == t)
+      (λ e. subst (λ v. counted_by ls' v p ≡ held_children gone_off v p) (sym (same_number u t e)) own) other
+    where
+      own : counted_by ls' t p ≡ held_children gone_off t p
+      own =
+          let now = sym (ap (λ b. counted_by ls' t p + (if b then count_by (same_node p) (parents_of was.graph r) else 0)) (number_same t t refl))
+          ∙ counts t p ∙ may.act.exact.count t p in
           let l = less p in
           omega arith
 
-      other_counts : (u : ℕ) → (u == t) ≡ false → (p : NodeId) → counted_by mid u p ≡ held_children after u p
-      other_counts u e p =
-          let now = sym (ap (λ b. counted_by mid u p + (if b then count_by (same_node p) (parents_of s.graph r) else 0)) e) ∙ struck.counts u p
+      other : (u == t) ≡ false → counted_by ls' u p ≡ held_children gone_off u p
+      other e =
+          let now = sym (ap (λ b. counted_by ls' u p + (if b then count_by (same_node p) (parents_of was.graph r) else 0)) e) ∙ counts u p
           ∙ may.act.exact.count u p in
           let same = others u e p in
           omega arith
-
-      pub counts_vacated : (u : ℕ) → CountsHeld after ls' u
-      counts_vacated u p = left.counts u p ∙ none_if (is_among_waiters u (s.queue r)) (counted_by mid u p) ∙ split (u == t)
-          (λ e. subst (λ v. counted_by mid v p ≡ held_children after v p) (sym (same_number u t e)) (own_counts p)) (λ e. other_counts u e p)

@@ -121,6 +121,17 @@ pub record IsLeftTo (s : State) (t : ℕ) (n : NodeId) : Type 0 where
   pub childless : (u : ℕ) → held_children s u n ≡ 0
   pub alone : (u : ℕ) → (u == t) ≡ false → s.held u n ≡ NL
 
+-- n lives, t holds it, and nobody else does
+pub record IsLeftAloneTo (s : State) (t : ℕ) (n : NodeId) : Type 0 where
+  pub live : is_live s.graph n ≡ true
+  pub holding : holds (members s n) t ≡ true
+  pub alone : (u : ℕ) → (u == t) ≡ false → s.held u n ≡ NL
+
+-- the lists count no child of n, and t's list counts n for each of its parents
+pub record CanEvict (ls : List LockList) (t : ℕ) (n : NodeId) (ps : List NodeId) : Type 0 where
+  pub childless : (u : ℕ) → counted_by ls u n ≡ 0
+  pub some : (q : NodeId) → count_by (same_node q) ps ≤ counted_by ls t q
+
 -- n lives, and nobody holds it or waits for it
 pub record IsFresh (s : State) (n : NodeId) : Type 0 where
   pub live : is_live s.graph n ≡ true
@@ -158,3 +169,14 @@ pub record HasAsked (s now : State) (t : ℕ) (n : NodeId) (m : Mode) (answer : 
 pub record HasGrant (s now : State) (t : ℕ) (n : NodeId) (m given : Mode) : Type 0 where
   pub mode : given ≡ wanted s t n m
   pub state : now ≡ granted s t n m
+
+-- an interval was split in the graph, and the lists still count all its held children there: those that are left, and those of the new interval
+pub record ArePartedFrom (s : State) (ls : List LockList) (from to : NodeId) : Type 0 where
+  pub differ : same_node from to ≡ false
+  pub none : (u : ℕ) → counted_by ls u to ≡ 0
+  pub both : (u : ℕ) → counted_by ls u from ≡ held_children s u from + held_children s u to
+  pub others : (u : ℕ) (q : NodeId) → same_node q from ≡ false → same_node q to ≡ false → counted_by ls u q ≡ held_children s u q
+
+-- n's waiters were told that it moved
+abbrev pub TellsMoved : State → NodeId → Told → Told → Type 0
+TellsMoved s n list list' = IsTold s.txns (λ u. is_among_waiters u (s.queue n)) (λ u. notice.Moved) list list'

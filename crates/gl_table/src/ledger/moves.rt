@@ -131,7 +131,7 @@ impl Ledger {
 
     /// Ends a wait of a slot that does not hold the node, if none of the remaining waiters can be
     /// granted from the front. The slot is active, and told that the node moved.
-    fn turn_one_away(&mut self, slot: Slot, node: NodeId, told: &mut Told)
+    pub(crate) fn turn_one_away(&mut self, slot: Slot, node: NodeId, told: &mut Told)
         requires can { CanEndAt (books_of self.old.txn_entries self.old.lists.items told.old.items) slot }
         requires waits { is_among_waiters slot (queue_of self.old.headers.entries node) ≡ true }
         requires front_waits { front slot_limit (members_at self.old.headers.entries node) (without_waiter slot (queue_of self.old.headers.entries node)) ≡ [] }

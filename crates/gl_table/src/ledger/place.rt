@@ -1,7 +1,11 @@
 //! Locks on new nodes and on nodes that are removed.
 
 ghost use Rattle.gl_slots.specs.Limit.{most_slots};
-ghost use Rattle.std.specs.Prelude.{◌≡◌, ◌≢◌, ◌<◌, ℕ, [], IfErr, IfOk, length, true};
+ghost use Rattle.std.specs.Prelude.{◌≡◌, ◌≢◌, ◌+◌, ◌<◌, ◌==◌, ℕ, [], IfErr, IfOk, Some, if◌then◌else◌, length, true};
+ghost use Rattle.std.specs.List.{count_by};
+ghost use Rattle.gl_modes.specs.declared.node.NodeId.{NodeId as Node};
+ghost use Rattle.gl_graph.specs.Graph.{parents_of};
+ghost use Rattle.gl_model.specs.declared.txn.Status.TheVariants.{Active};
 ghost use Rattle.gl_modes.specs.Nodes.{same_node};
 ghost use Rattle.gl_modes.specs.declared.mode.Mode.TheVariants.{NL};
 ghost use Rattle.gl_modes.specs.declared.refusal.Refusal.{Refusal as ARefusal};
@@ -10,9 +14,10 @@ ghost use Rattle.gl_header.specs.Header.{holds, is_among_waiters};
 ghost use Rattle.gl_model.specs.Calls.{departed, goes_with};
 ghost use Rattle.gl_table.specs.inside.Slots.{CanEnd, ListsKeepPlaces, ListsLose, WaitsEnd, as_left, books_of, counted_by};
 ghost use Rattle.gl_model.specs.Tellings.{IsBySlot, notices_in};
-ghost use Rattle.gl_table.specs.inside.Ledger.{AreExact, KeepsLocks, state_in};
-ghost use Rattle.gl_table.specs.inside.Steps.{CanTellWaiters, IsBranchLeftTo, IsFresh, IsLeftTo, IsPrepared, MayAct, TellsGone};
-ghost use Rattle.gl_model.specs.State.{members, with_grant};
+ghost use Rattle.gl_table.specs.inside.Ledger.{Agrees, AreExact, AreSound, KeepsLocks, state_in};
+ghost use Rattle.gl_table.specs.inside.Steps.{AreAgreed, CanEvict, CanTellWaiters, IsBranchLeftTo, IsLeftAloneTo, IsFresh, IsLeftTo, IsPrepared};
+ghost use Rattle.gl_table.specs.inside.Steps.{MayAct, TellsGone};
+ghost use Rattle.gl_model.specs.State.{members, status_of, with_grant};
 ghost use Rattle.gl_model.specs.declared.answers.Notice.TheVariants as notice;
 
 use crate::ledger::Ledger;
@@ -60,6 +65,24 @@ impl Ledger {
         ensures orders { ListsLose self.old.lists.items self.new.lists.items }
     {
         graph.law();
+        self.evict(graph, slot, node, told);
+    }
+
+    /// As `vacate`, whatever else the lists count, if they count no child of the node.
+    pub(crate) fn evict(&mut self, graph: &Graph, slot: Slot, node: NodeId, told: &mut Told)
+        requires agreed { AreAgreed graph.now self.old }
+        requires active { status_of (state_in graph.now self.old) slot ≡ Some Active }
+        requires left { IsLeftAloneTo (state_in graph.now self.old) slot node }
+        requires counts { CanEvict self.old.lists.items slot node (parents_of (graph_of graph.now) node) }
+        requires tell { CanTellWaiters (state_in graph.now self.old) node told.old.items }
+        ensures sound { AreSound self.new }
+        ensures state { state_in graph.now self.new ≡ departed (state_in graph.now self.old) (λ q. same_node q node) (graph_of graph.now) }
+        ensures agree { (u : ℕ) → Agrees (state_in graph.now self.new) self.new.lists.items u }
+        ensures counts { (u : ℕ) (q : Node) → counted_by self.new.lists.items u q
+            + (if u == slot then count_by (same_node q) (parents_of (graph_of graph.now) node) else 0) ≡ counted_by self.old.lists.items u q }
+        ensures tells { TellsGone (state_in graph.now self.old) node told.old.items told.new.items }
+        ensures orders { ListsLose self.old.lists.items self.new.lists.items }
+    {
         strike(&mut self.lists, slot, node, graph.parents(node));
         let taken = self.headers.take(node);
         let waiters = match &taken {

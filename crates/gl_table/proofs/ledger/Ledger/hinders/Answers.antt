@@ -1,4 +1,4 @@
-use Rattle.gl_table.proofs.Words.{◌+◌, ◌<◌, ◌||◌, ◌∙◌, ◌≡◌, ◌≤◌, ap, ap₂, arith, false, get_or, hinders_by, length, List, list_any, list_any_at, list_any_more}
+use Rattle.gl_table.proofs.Words.{◌<◌, ◌||◌, ◌∙◌, ◌≡◌, ap, ap₂, arith, false, get_or, hinders_by, length, List, list_any, list_any_at, list_any_more}
 use Rattle.gl_table.proofs.Words.{NodeId, nodes_by, option_map_or, refl, slice_get-get_or, sym, take_all}
 use Rattle.gl_table.proofs.inside.Orders.{rows_are}
 use Rattle.gl_table.proofs.ledger.Ledger.hinders.Goals.{After-hinders_at}

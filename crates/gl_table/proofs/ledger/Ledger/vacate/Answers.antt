@@ -1,92 +1,28 @@
-use denote.Bor.{Bor}
-use Rattle.gl_table.proofs.Words.{[], ◌∙◌, ◌≡◌, ◌≤◌, Agrees, ap, as_left, books_of, CanEnd, CanStrike, CountsHeld, departed, fun_ext, graph_of, header_at}
-use Rattle.gl_table.proofs.Words.{header_or_new, IfNone, IfSome, is_among_waiters, List, most_slots, NodeId, parents_of, queue_of, same_node, Some, State}
-use Rattle.gl_table.proofs.Words.{state_in, Strikes, subst, sym, Waiter, WaitsEnd, ℕ}
-use Rattle.gl_model.specs.declared.answers.Notice.TheVariants as notice
-use Rattle.gl_table.proofs.inside.Vacated.{agrees_vacated, can_free, can_strike, counts_vacated, MayVacate, txns_freed, waiter_childless}
-use Rattle.gl_table.proofs.ledger.Ledger.vacate.Goals.{After-parents, After-strike, in-None, in-Some, Joined-taken}
+use Rattle.gl_table.proofs.Words.{CountsHeld, State, subst, sym}
+use Rattle.gl_table.proofs.inside.Vacated.{counts_vacated, evicted_counts, MayVacate}
+use Rattle.gl_table.proofs.ledger.Ledger.vacate.Goals.{After-law}
 use Rattle.gl_table.proofs.ledger.Ledger.vacate.Goals as goal
-use Rattle.gl_table.proofs.inside.Places.{lose_then}
 
-may : (c : After-parents) → MayVacate c.args.graph.now c.args.self.now c.args.slot c.args.node
+may : (c : After-law) → MayVacate c.args.graph.now c.args.self.now c.args.slot c.args.node
 may c = record { law = c.law.ensures.lawful; act = c.requires.act; left = c.requires.left; holding = c.requires.holds }
 
-pub strike-requires : goal.strike-requires
-strike-requires c =
-    record {
-      can =
-          subst (λ (ps : List NodeId). CanStrike c.args.self.now.lists.items c.args.slot c.args.node ps) (sym c.parents.ensures) (can_strike
-          (may (goal.at.strike-requires c).After-parents));
-    }
+pub evict-requires-clause-agreed : goal.evict-requires-clause-agreed
+evict-requires-clause-agreed c = record {
+  sound = c.requires.act.exact.sound;
+  orderly = c.requires.act.orderly;
+  agree = c.requires.act.exact.agree;
+}
 
-struck : (c : After-strike) → Strikes c.args.self.now.lists.items c.strike.new.lists.items c.args.slot c.args.node
-    (parents_of (graph_of c.args.graph.now) c.args.node)
-struck c = subst (λ (ps : List NodeId). Strikes c.args.self.now.lists.items c.strike.new.lists.items c.args.slot c.args.node ps) c.parents.ensures
-    c.strike.ensures
+pub evict-requires-clause-left : goal.evict-requires-clause-left
+evict-requires-clause-left c = record { live = c.requires.left.live; holding = c.requires.holds; alone = c.requires.left.alone }
 
--- the waiters of the removed header are those of the node; if there was none, nobody waited
-waiters : (c : Joined-taken) → c.match-taken.waiters.now ≡ queue_of c.args.self.now.headers.entries c.args.node
-waiters c = elim c.match-taken.branch [
-  | in-Some w ↦ ap (λ (ws : Bor (List Waiter)). ws.now) w.waiters-is ∙ w.queue-waiters.ensures
-      ∙ ap (λ o. (header_or_new o).queue) (sym (subst (λ o. IfSome o (λ h. header_at c.args.self.now.headers.entries c.args.node ≡ Some h)) w.in-Some.is
-      c.take-taken.ensures.taken))
-  | in-None w ↦ ap (λ (ws : Bor (List Waiter)). ws.now) w.waiters-is
-      ∙ sym (subst (λ o. IfNone o (queue_of c.args.self.now.headers.entries c.args.node ≡ [])) w.in-None.is c.take-taken.ensures.none)
-]
-
-pub free-requires-clause-can : goal.free-requires-clause-can
-free-requires-clause-can c =
-    let at = goal.at.free-requires-clause-can c in
-    subst (λ (ws : List Waiter). CanEnd (books_of c.args.self.now.txn_entries c.strike.new.lists.items c.args.told.now.items) ws)
-    (sym (waiters at.Joined-taken))
-    (can_free (may at.After-parents) (struck at.After-strike) c.args.told.now.items c.requires.tell)
-
-pub free-requires-clause-childless : goal.free-requires-clause-childless
-free-requires-clause-childless c =
-    let at = goal.at.free-requires-clause-childless c in
-    λ u h. waiter_childless (may at.After-parents) (struck at.After-strike) u (ap (is_among_waiters u) (sym (waiters at.Joined-taken)) ∙ h)
-
-freed : (c : goal.Joined-taken-2) → c.match-taken.waiters.now ≡ queue_of c.args.self.now.headers.entries c.args.node
-    → WaitsEnd (books_of c.args.self.now.txn_entries c.strike.new.lists.items c.args.told.now.items) c.args.node
-    (λ u. is_among_waiters u (queue_of c.args.self.now.headers.entries c.args.node)) as_left (λ u. notice.Gone)
-    (books_of c.free.new.txn_entries c.free.new.lists.items c.free.new.told.items)
-freed c is =
-    subst (λ (ws : List Waiter). WaitsEnd (books_of c.args.self.now.txn_entries c.strike.new.lists.items c.args.told.now.items) c.args.node
-    (λ u. is_among_waiters u ws) as_left (λ u. notice.Gone) (books_of c.free.new.txn_entries c.free.new.lists.items c.free.new.told.items)) is c.free.ensures
-
-state_is : (c : goal.Joined-taken-2) → MayVacate c.args.graph.now c.args.self.now c.args.slot c.args.node
-    → c.match-taken.waiters.now ≡ queue_of c.args.self.now.headers.entries c.args.node
-    → state_in c.args.graph.now (record c.args.self.now { headers = c.take-taken.new.self; txn_entries = c.free.new.txn_entries; lists = c.free.new.lists })
-    ≡ departed (state_in c.args.graph.now c.args.self.now) (λ q. same_node q c.args.node) (graph_of c.args.graph.now)
-state_is c may is =
-    let s : State = state_in c.args.graph.now c.args.self.now in
-    let all = freed c is in
-    λ i. record (departed s (λ q. same_node q c.args.node) s.graph) {
-      txns = fun_ext (λ u. all.txns u ∙ txns_freed may u) i;
-      held = c.take-taken.ensures.held i;
-      queue = c.take-taken.ensures.queue i;
-      most = all.len i;
-    }
-
-pub returns-clause-state : goal.returns-clause-state
-returns-clause-state c = let at = goal.at.returns-clause-state c in state_is c (may at.After-parents) (waiters at.Joined-taken)
+pub evict-requires-clause-counts : goal.evict-requires-clause-counts
+evict-requires-clause-counts c = evicted_counts (may (goal.at.evict-requires-clause-counts c).After-law)
 
 pub returns-clause-exact : goal.returns-clause-exact
-returns-clause-exact c =
-    let at = goal.at.returns-clause-exact c in
-    let m = may at.After-parents in
-    let cut = struck at.After-strike in
-    let all = freed c (waiters at.Joined-taken) in
-    let ls = c.free.new.lists.items in
-    let state = sym (state_is c m (waiters at.Joined-taken)) in
-    record {
-      sound = record {
-        few = subst (λ (k : ℕ). k ≤ most_slots) (sym all.len) c.requires.act.exact.sound.few;
-        lists = all.lists.len ∙ cut.len ∙ c.requires.act.exact.sound.lists ∙ sym all.len;
-      };
-      agree = λ u. subst (λ (x : State). Agrees x ls u) state (agrees_vacated m cut all.lists u);
-      count = λ u. subst (λ (x : State). CountsHeld x ls u) state (counts_vacated m cut all.lists u);
-    }
-
-pub returns-clause-orders : goal.returns-clause-orders
-returns-clause-orders c = lose_then c.strike.ensures.loses c.free.ensures.lists.loses
+returns-clause-exact c = record {
+  sound = c.evict.ensures.sound;
+  agree = c.evict.ensures.agree;
+  count = λ u. subst (λ (x : State). CountsHeld x c.evict.new.self.lists.items u) (sym c.evict.ensures.state)
+      (counts_vacated (may (goal.at.returns-clause-exact c).After-law) c.evict.new.self.lists.items c.evict.ensures.counts u);
+}

@@ -1,7 +1,7 @@
 use Rattle.gl_lock_lists.specs.Apart.{IsApart}
 use Rattle.gl_lock_lists.proofs.Words.{◌∙◌, ap, false≢true, is_some, mode_in, refl, rules, sym}
 use Rattle.gl_lock_lists.proofs.Lists.{at_each, IsWritten-same, SameListed, SameMode, StaysApart}
-use Rattle.gl_lock_lists.proofs.list.LockList.count_one_up.Goals as goal
+use Rattle.gl_lock_lists.proofs.list.LockList.count_more.Goals as goal
 
 pub returns-in-Some-clause-listed : goal.returns-in-Some-clause-listed
 returns-in-Some-clause-listed c =
@@ -32,7 +32,7 @@ invariant_of-self-in_default c = record {
       rw c.get_mut.follows.holds-at-none (
         c.args.self.now.apart.0,
         λ q. at_each StaysApart c.args.n _ _ _ _ _ _ (IsWritten-same c.args.n c.args.self.now.entries.entries)
-            c.count_loose_up.ensures.updates.0
+            c.count_loose_more.ensures.updates.0
             (λ _ h. absurd (false≢true (ap is_some c.in_default.ensures.value ∙ h))) (λ x y f. f) q (c.args.self.now.apart.1 q),
       );
 }

@@ -1,7 +1,7 @@
 use Rattle.gl_lock_lists.specs.Apart.{IsApart}
 use Rattle.gl_lock_lists.proofs.Words.{◌-◌, ◌∙◌, ap, arith, false≢true, is_some, mode_in, refl, rules, sym}
 use Rattle.gl_lock_lists.proofs.Lists.{at_each, CountsDown, CountsDown-last, IsWritten-same, IsWritten-twice, SameListed, SameMode, StaysApart}
-use Rattle.gl_lock_lists.proofs.list.LockList.count_one_down.Goals as goal
+use Rattle.gl_lock_lists.proofs.list.LockList.count_less.Goals as goal
 
 pub returns-in-Some-clause-listed : goal.returns-in-Some-clause-listed
 returns-in-Some-clause-listed c =
@@ -27,17 +27,17 @@ invariant_of-self c = record {
 
 pub returns-then-children-eq0-clause-counts : goal.returns-then-children-eq0-clause-counts
 returns-then-children-eq0-clause-counts c =
-    let counted = (c.get_mut-in_default.follows.holds (c.in-Some-get_mut.children.now - 1)).3 (search rules) in
+    let counted = (c.get_mut-in_default.follows.holds (c.in-Some-get_mut.children.now - c.args.less)).3 (search rules) in
     rw c.get_mut.follows.holds-at-none
-    (at_each CountsDown c.args.n _ _ _ _ _ _ (IsWritten-same c.args.n c.args.self.now.entries.entries)
+    (at_each (CountsDown c.args.less) c.args.n _ _ _ _ _ _ (IsWritten-same c.args.n c.args.self.now.entries.entries)
     (IsWritten-twice c.args.n _ _ _ _ _ counted.0 c.swap_remove.ensures.updates.0)
-    (CountsDown-last _ _ _ c.in_default.ensures.value c.in-Some-get_mut.ensures.value c.requires.some c.if-children-eq0.true) (λ x y. omega arith))
+    (CountsDown-last _ _ _ c.args.less c.in_default.ensures.value c.in-Some-get_mut.ensures.value c.requires.some c.if-children-eq0.true) (λ x y. omega arith))
 
 pub invariant_of-self-then-children-eq0 : goal.invariant_of-self-then-children-eq0
 unfolding IsApart
 invariant_of-self-then-children-eq0 c = record {
   apart =
-      let counted = (c.get_mut-in_default.follows.holds (c.in-Some-get_mut.children.now - 1)).3 (search rules) in
+      let counted = (c.get_mut-in_default.follows.holds (c.in-Some-get_mut.children.now - c.args.less)).3 (search rules) in
       rw c.get_mut.follows.holds-at-none
       ((
         c.args.self.now.apart.0,
@@ -52,7 +52,7 @@ pub invariant_of-self-else-children-eq0 : goal.invariant_of-self-else-children-e
 unfolding IsApart
 invariant_of-self-else-children-eq0 c = record {
   apart =
-      let counted = (c.get_mut-in_default.follows.holds (c.in-Some-get_mut.children.now - 1)).3 (search rules) in
+      let counted = (c.get_mut-in_default.follows.holds (c.in-Some-get_mut.children.now - c.args.less)).3 (search rules) in
       rw c.get_mut.follows.holds-at-none
       ((
         c.args.self.now.apart.0,
