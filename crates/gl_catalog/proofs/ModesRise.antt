@@ -20,8 +20,9 @@ use Rattle.gl_model.specs.declared.answers.Detect.TheVariants.{AtBlock, ByWatche
 use Rattle.gl_model.specs.declared.txn.Status.{Status}
 use Rattle.gl_model.specs.declared.txn.Status.TheVariants.{Active, Condemned}
 use Rattle.gl_model.specs.declared.txn.TxnId.{TxnId}
-use Rattle.gl_model.specs.Calls.{Locks, WaitSettles, asked_by_escalation, departed, enqueued, enters_at, is_covered, raised, wanted}
+use Rattle.gl_model.specs.Calls.{Locks, WaitSettles, asked_by_escalation, departed, enqueued, enters_at, freed, is_covered, raised, wanted}
 use Rattle.gl_model.specs.Lawful.{IsLawful}
+use Rattle.gl_model.specs.Splits.{split_by}
 use Rattle.gl_model.specs.State.{SettledWithin, State, Txn, condemned, is_waiting_at, members, pumped, with_grant, with_graph, without_wait}
 use Rattle.gl_model.specs.Tellings.{Told}
 use Rattle.gl_model.proofs.law.Keeps.{IsLess, grant_case, grew, less-lawful}
@@ -117,6 +118,12 @@ grows_new : (s : State) (g : Graph) (x : NodeId) (u : ℕ) → Grows s (with_gra
 grows_new s g x u = grows_then s (with_graph s g) (with_grant (with_graph s g) u x X) (grows_same s (with_graph s g) (λ v n. refl))
     (grows_granted (with_graph s g) u x X (most (s.held u x)))
 
+-- an interval is split, and the new one is held in X
+grows_parted : (s : State) (i : NodeId) (g : Graph) (x : NodeId) (u : ℕ) → Grows s (split_by s u i g x)
+grows_parted s i g x u =
+    let mid : State = record s { graph = g; queue = λ q. if same_node q i then [] else s.queue q; txns = λ v. freed i (s.txns v) } in
+    grows_then s mid (split_by s u i g x) (grows_same s mid (λ v n. refl)) (grows_granted mid u x X (most (s.held u x)))
+
 module _ (s : State) (law : IsLawful s) (a : Answer) (next : State) where
   made_is : (made : State) → next ≡ made → KeepsModes s made → KeepsModes s next
   made_is made e f = subst (KeepsModes s) (sym e) f
@@ -156,6 +163,7 @@ module _ (s : State) (law : IsLawful s) (a : Answer) (next : State) where
   changed (change.Released u is) = made_is _ is (keeps_taken s law _ _ _ (at_all s u.slot) (released-less s law u.slot))
   changed (change.Settles u is) = keeps s next (grows_settled s.victims is.0 s next u.slot law is.1)
   changed (change.Departed goes g is) = made_is _ is (keeps_departed s goes g)
+  changed (change.Parted u i q bound g free split is) = made_is _ is (keeps s _ (grows_parted s i g q u.slot))
   changed (change.Moved x ps g is) = same_is _ is (λ v n. refl)
 
 pub steps_keep_modes : StepsKeepModes

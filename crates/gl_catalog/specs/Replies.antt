@@ -43,6 +43,10 @@ doing told u = (answer.Done, told)
 abbrev pub done : Notices → Says
 done told = doing told.items tt
 
+-- a node was made, with these notices
+abbrev pub making : Told → NodeId → Says
+making told n = (answer.Node n, told)
+
 -- a mode was granted
 abbrev pub took : Mode → Says
 took m = (answer.Granted m, [])

@@ -32,6 +32,7 @@ mod paths;
 mod records;
 mod savepoints;
 mod schema;
+mod splits;
 
 pub use paths::Reached;
 

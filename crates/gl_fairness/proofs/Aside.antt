@@ -2,6 +2,7 @@
 use Rattle.gl_fairness.proofs.Words.{◌+◌, ◌==◌, [], ◌||◌, ◌∙◌, ◌∷◌, ◌≡◌, ◌≢◌, ◌⊎◌, ⊎_elim, Accepts, Active, ahead_is, ahead_second, Answer, ap, are_compatible}
 use Rattle.gl_fairness.proofs.Words.{Begins, Bool, clash, Command, each_step, enqueued, enters_at, false, filter, freed, freed_among, freed_unless, goes_with}
 use Rattle.gl_fairness.proofs.Words.{if◌then◌else◌, inl, inr, is_ahead, is_among_waiters, IsLawful, list_any, Locks, min, Mode, NodeId, None, none_among, not}
+use Rattle.gl_graph.specs.Splits.{next_interval}
 use Rattle.gl_fairness.proofs.Words.{Option, or_elim, or_left, or_right, refl, rekeyed_parents, same_node, Some, split, State, status_in, status_of, stays}
 use Rattle.gl_fairness.proofs.Words.{Step, steps_keep_law, subst, sym, tests_of, Told, true, Txn, TxnId, Waiting, waits_for, wanted, ℕ}
 use Rattle.gl_modes.proofs.Words.{other_number}
@@ -119,6 +120,8 @@ module _ (s : State) (law : IsLawful s) (t : TxnId) (active : IsActive s t) (a :
   accepted (command.Effective u q) free passed acc = absurd acc
   accepted (command.Forget r) free passed acc = unmoved _ acc.2 refl
   accepted (command.Drop u x) free passed acc = is _ acc.2 (freed_active (goes_with s.graph x) (s.txns t.slot) active.1)
+  accepted (command.Split u i bound) free passed acc = is _ acc.4 (freed_active (λ q. same_node q i) (s.txns t.slot) active.1)
+  accepted (command.Merge u i) free passed acc = is _ acc.2 (freed_active (λ q. same_node q (next_interval s.graph i)) (s.txns t.slot) active.1)
   accepted c free passed acc = unmoved _ acc.4 refl
 
 -- so over each step that does not name it

@@ -10,7 +10,6 @@ use Rattle.gl_modes.specs.declared.mode.Mode.TheVariants.{NL, X}
 use Rattle.gl_modes.specs.declared.node.NodeId.{NodeId}
 use Rattle.gl_modes.specs.declared.refusal.Refusal.TheVariants as no
 use Rattle.gl_modes.specs.Nodes.{same_node}
-use Rattle.gl_graph.specs.Changes.{rekeyed, rekeyed_parents, with_parents, without_branch, without_node}
 use Rattle.gl_graph.specs.Graph.{Graph}
 use Rattle.gl_graph.proofs.Born.{old_below}
 use Rattle.gl_graph.proofs.Unrefused.{not_false, test_fails}
@@ -20,9 +19,10 @@ use Rattle.gl_model.specs.declared.answers.Detect.{Detect}
 use Rattle.gl_model.specs.declared.answers.Detect.TheVariants.{AtBlock, ByWatcher}
 use Rattle.gl_model.specs.declared.txn.Status.TheVariants.{Active, Condemned, Waiting}
 use Rattle.gl_model.specs.declared.txn.TxnId.{TxnId}
-use Rattle.gl_model.specs.Calls.{Locks, WaitSettles, asked_by_escalation, departed, enqueued, enters_at, goes_with, granted, is_covered, moved_to, raised}
+use Rattle.gl_model.specs.Calls.{Locks, WaitSettles, asked_by_escalation, departed, enqueued, enters_at, freed, granted, is_covered, moved_to, raised}
 use Rattle.gl_model.specs.Calls.{stays, waiting_test, wanted}
 use Rattle.gl_model.specs.Lawful.{IsLawful}
+use Rattle.gl_model.specs.Splits.{split_by}
 use Rattle.gl_model.specs.State.{Settled, SettledWithin, State, condemned, is_waiting_at, members, status_of, with_grant, with_graph}
 use Rattle.gl_model.specs.Tellings.{Told}
 use Rattle.gl_model.proofs.law.Departures.{still_waits_among}
@@ -101,16 +101,25 @@ module _ (s : State) (law : IsLawful s) (t : ℕ) (n : NodeId) (m : Mode) (waits
       (ap (λ p. is_among_waiters t (s.queue p)) (sym (same_node-equal n q same)) ∙ in_queue)))) (λ same. supremum-above (s.held u q) w)
 
   -- a new node is not the node of a wait
+  new_apart : (x : NodeId) → x.birth ≡ s.graph.births + 1 → same_node n x ≡ true → ⊥
+  new_apart x birth e =
+      let old : n.birth ≤ s.graph.births = old_below s.graph law.graph [] n (law.waits_live t n in_queue) in
+      let same : n.birth ≡ x.birth = ap (λ (p : NodeId). p.birth) (same_node-equal n x e) in
+      absurd (omega arith)
+
   before_new : (g : Graph) (x : NodeId) → x.birth ≡ s.graph.births + 1 → (u : ℕ) → KeepsBefore s (with_grant (with_graph s g) u x X) t n
   before_new g x birth u =
       before_trans s (with_graph s g) (with_grant (with_graph s g) u x X) t n (before_same s (with_graph s g) t n (λ v. refl) refl refl)
-      (before_granted (with_graph s g) u x X t n (λ e. absurd (apart e)) (λ e. absurd (apart e)))
-    where
-      apart : same_node n x ≡ true → ⊥
-      apart e =
-          let old : n.birth ≤ s.graph.births = old_below s.graph law.graph [] n (law.waits_live t n in_queue) in
-          let same : n.birth ≡ x.birth = ap (λ (p : NodeId). p.birth) (same_node-equal n x e) in
-          absurd (omega arith)
+      (before_granted (with_graph s g) u x X t n (λ e. absurd (new_apart x birth e)) (λ e. absurd (new_apart x birth e)))
+
+  -- nor is an interval that is split the node of a wait that continues
+  before_parted : (i x : NodeId) (g : Graph) (u : ℕ) (w : Mode) → x.birth ≡ s.graph.births + 1 → status_of (split_by s u i g x) t ≡ Some (Waiting n w)
+      → KeepsBefore s (split_by s u i g x) t n
+  before_parted i x g u w birth still =
+      let mid : State = record s { graph = g; queue = λ q. if same_node q i then [] else s.queue q; txns = λ v. freed i (s.txns v) } in
+      let off = (still_waits_among (λ q. same_node q i) n w (s.txns t) still).1 in
+      before_trans s mid (split_by s u i g x) t n (before_same s mid t n (λ v. refl) (ap (λ b. if b then [] else s.queue n) off) refl)
+      (before_granted mid u x X t n (λ e. absurd (new_apart x birth e)) (λ e. absurd (new_apart x birth e)))
 
 module _ (s : State) (law : IsLawful s) (t : TxnId) (n : NodeId) (m : Mode) (waits : status_of s t.slot ≡ Some (Waiting n m)) (a : Answer)
     (next : State) (w : Mode) (still : status_of next t.slot ≡ Some (Waiting n w)) where
@@ -160,6 +169,8 @@ module _ (s : State) (law : IsLawful s) (t : TxnId) (n : NodeId) (m : Mode) (wai
   changed (change.Released u is) = made_is _ is (before_taken s law _ _ _ (at_all s u.slot) (released-less s law u.slot) t.slot n w)
   changed (change.Settles u is) = settled_before s.victims s next u.slot t.slot n w law still is
   changed (change.Departed goes g is) = made_is _ is (before_departed s goes g t.slot n w)
+  changed (change.Parted u i x bound g free split is) =
+      made_is _ is (λ l. before_parted s law t.slot n m waits i x g u.slot w split.birth l)
   changed (change.Moved x ps g is) = made_is _ is (λ _. before_moved s law x ps g t.slot n m waits)
 
 -- over a step with t waiting on n before and after

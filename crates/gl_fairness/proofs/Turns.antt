@@ -8,13 +8,12 @@ use Rattle.gl_modes.specs.declared.mode.Mode.{Mode}
 use Rattle.gl_modes.specs.declared.mode.Mode.TheVariants.{NL}
 use Rattle.gl_modes.specs.declared.node.NodeId.{NodeId}
 use Rattle.gl_modes.specs.Nodes.{same_node}
-use Rattle.gl_graph.specs.Changes.{rekeyed_parents}
 use Rattle.gl_graph.specs.Graph.{nodes}
 use Rattle.gl_graph.proofs.Unrefused.{none_refused}
 use Rattle.gl_header.specs.Header.{Waiter, holds, is_among_waiters}
 use Rattle.gl_model.specs.declared.txn.Status.TheVariants.{Active, Waiting}
 use Rattle.gl_model.specs.declared.txn.TxnId.{TxnId}
-use Rattle.gl_model.specs.Calls.{Locks, begun_at, enqueued, enters_at, goes_with, hinders_at, is_covered, joining_age, raised, released, stays, wanted}
+use Rattle.gl_model.specs.Calls.{Locks, begun_at, enqueued, enters_at, hinders_at, is_covered, joining_age, raised, released, stays, wanted}
 use Rattle.gl_model.specs.State.{State, Txn, age_in, granted_at, is_waiting_at, members, restatus, since_in, status_of, with_grant, woken}
 use Rattle.gl_model.specs.Tellings.{stripped, Told}
 use Rattle.gl_model.proofs.law.Lock.{free_slot, joining_slot}
@@ -131,6 +130,7 @@ module _ (s : State) (v : ℕ) (a : Answer) (list : Told) (next : State) where
   changed (change.Released u is) = released_case u.slot is
   changed (change.Settles u is) = λ k. (settled_goes_on s.victims s next u.slot v is).turn
   changed (change.Departed goes g is) = on _ is (freed_among_on goes (s.txns v))
+  changed (change.Parted u i q bound g free split is) = on _ is (freed_on i (s.txns v))
   changed (change.Moved x ps g is) = on _ is (unless_on (λ y. is_among_waiters y (filter (stays s ps) (s.queue x))) x v (s.txns v))
 
   accepted : (c : Command) → refusal_of s c ≡ None → Accepts s c a list next → HasTurn s v c (next.txns v)

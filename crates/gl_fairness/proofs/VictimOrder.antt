@@ -1,6 +1,6 @@
 -- Each victim is condemned after one that comes before it.
-use Rattle.std.specs.Prelude.{◌≡◌, ◌≢◌, ◌⊎◌, ℕ, zero, suc, ◌+◌, Bool, true, ◌||◌, ◌==◌, List, [], Option, Some, None, if◌then◌else◌}
-use Rattle.std.specs.Prelude.{is_some, min}
+use Rattle.std.specs.Prelude.{◌≡◌, ◌≢◌, ◌⊎◌, ℕ, zero, suc, Bool, true, ◌||◌, ◌==◌, List, [], Option, Some, None, if◌then◌else◌}
+use Rattle.std.specs.Prelude.{is_some}
 use Rattle.std.specs.List.{filter}
 use Rattle.std.proofs.Common.{refl, sym, ap, arith, inl, inr, subst, ⊎_elim, ◌∙◌}
 use Rattle.std.proofs.lemmas.Bool.Decides.{nat_tests}
@@ -8,7 +8,6 @@ use Rattle.gl_modes.proofs.Words.{same_number, split}
 use Rattle.gl_modes.specs.declared.mode.Mode.{Mode}
 use Rattle.gl_modes.specs.declared.node.NodeId.{NodeId}
 use Rattle.gl_modes.specs.Nodes.{same_node}
-use Rattle.gl_graph.specs.Changes.{rekeyed_parents}
 use Rattle.gl_header.specs.Header.{Waiter, holds, is_among_waiters}
 use Rattle.gl_waits.specs.declared.victims.Victims.TheVariants.{Youngest}
 use Rattle.gl_waits.specs.Victims.{IsCandidate}
@@ -20,21 +19,19 @@ use Rattle.gl_model.specs.declared.answers.Detect.TheVariants.{AtBlock, ByWatche
 use Rattle.gl_model.specs.declared.txn.Status.{Status}
 use Rattle.gl_model.specs.declared.txn.Status.TheVariants.{Active, Condemned, Waiting}
 use Rattle.gl_model.specs.declared.txn.TxnId.{TxnId}
-use Rattle.gl_model.specs.Calls.{Locks, WaitSettles, begun_at, enqueued, enters_at, freed, freed_among, freed_unless, goes_with, none_among, released}
+use Rattle.gl_model.specs.Calls.{Locks, WaitSettles, begun_at, enqueued, enters_at, freed, freed_among, freed_unless, none_among, released}
 use Rattle.gl_model.specs.Calls.{stays, wanted}
 use Rattle.gl_model.specs.Lawful.{IsLawful}
 use Rattle.gl_model.specs.State.{SettledWithin, State, Txn, age_of, condemned, granted_at, is_waiting_at, restatus, since_of, status_in, status_of, waits_for}
 use Rattle.gl_model.specs.State.{Settled, members, woken}
-use Rattle.gl_model.specs.Tellings.{stripped, Told}
+use Rattle.gl_model.specs.Tellings.{stripped}
 use Rattle.gl_model.proofs.law.Keeps.{txn_there}
 use Rattle.gl_model.proofs.law.KeptRows.{onward}
 use Rattle.gl_model.proofs.law.Lock.{may_lock, waiting-lawful}
 use Rattle.gl_model.proofs.law.Settle.{cycle_waits, wait_is}
 use Rattle.gl_model.proofs.law.Takes.{condemned-lawful}
 use Rattle.gl_steps.specs.declared.command.Answer.{Answer}
-use Rattle.gl_steps.specs.declared.command.Command.{Command}
 use Rattle.gl_steps.specs.declared.command.Command.TheVariants as command
-use Rattle.gl_steps.specs.Step.{Accepts}
 use Rattle.gl_steps.specs.Tests.{refusal_of, worn}
 use Rattle.gl_steps.proofs.Changes.{Change, change_of}
 use Rattle.gl_steps.proofs.Changes as change
@@ -193,6 +190,7 @@ module _ (s : State) (law : IsLawful s) (young : s.victims ≡ Youngest) (v : �
   changed (change.Released u is) = released_case u.slot is
   changed (change.Settles u is) = let settled = subst (λ c. Settled c s u.slot next) young is in settled_victim settled.0 s next u.slot v law settled.1
   changed (change.Departed goes g is) = calm _ is (freed_calm goes (s.txns v))
+  changed (change.Parted u i q bound g free split is) = calm _ is (freed_calm (λ y. same_node y i) (s.txns v))
   changed (change.Moved x ps g is) = calm _ is (unless_calm (λ y. is_among_waiters y (filter (stays s ps) (s.queue x))) x v (s.txns v))
 
 pub victim_after_a_living : VictimAfterALiving

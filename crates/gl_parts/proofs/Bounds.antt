@@ -20,9 +20,11 @@ use Rattle.gl_model.specs.declared.answers.Detect.TheVariants.{AtBlock, ByWatche
 use Rattle.gl_model.specs.declared.txn.TxnId.{TxnId}
 use Rattle.gl_model.specs.declared.txn.Status.{Status}
 use Rattle.gl_model.specs.declared.txn.Status.TheVariants.{Active, Condemned}
-use Rattle.gl_model.specs.Calls.{Locks, WaitSettles, asked_by_escalation, departed, enqueued, enters_at, goes_with, granted, is_covered, raised, released}
-use Rattle.gl_model.specs.Calls.{stays, wanted}
+use Rattle.gl_model.specs.Calls.{asked_by_escalation, departed, enqueued, enters_at, freed, goes_with, granted, is_covered, Locks, raised, released, stays}
+use Rattle.gl_model.specs.Calls.{WaitSettles, wanted}
 use Rattle.gl_model.specs.Lawful.{IsLawful}
+use Rattle.gl_graph.specs.Splits.{merge, next_interval}
+use Rattle.gl_model.specs.Splits.{split_by}
 use Rattle.gl_model.specs.State.{SettledWithin, State, condemned, front_at, is_waiting_at, members, pumped, with_grant, with_graph, without_wait}
 use Rattle.gl_model.specs.Tellings.{Told, stripped}
 use Rattle.gl_model.proofs.law.Strays.{all_filtered}
@@ -177,6 +179,18 @@ module _ (b : ℕ → Mode) (ok : Waiter → Bool) (sound : (w : Waiter) → ok 
         on _ is (granted_within n (with_graph s next.graph) t q X h
         (λ u e. let same = ap (λ (x : NodeId). x.birth) (same_node-equal n q (and_both (u == t) (same_node n q) e).1) in absurd (omega arith)))
 
+    -- an interval is split, and the new one is another
+    parted : (t : ℕ) (i q : NodeId) → q.birth ≡ s.graph.births + 1 → next ≡ split_by s t i next.graph q → IsWithin next n
+    parted t i q birth is =
+        let old = birth_of s.graph law.graph n live in
+        let mid : State = record s { graph = next.graph; queue = λ p. if same_node p i then [] else s.queue p; txns = λ u. freed i (s.txns u) } in
+        on _ is (granted_within n mid t q X (h.0, emptied (same_node n i))
+        (λ u e. let same = ap (λ (x : NodeId). x.birth) (same_node-equal n q (and_both (u == t) (same_node n q) e).1) in absurd (omega arith)))
+      where
+        emptied : (x : Bool) → list_all ok (if x then [] else s.queue n) ≡ true
+        emptied true = refl
+        emptied false = h.1
+
     locked : (t : ℕ) (q : NodeId) (m : Mode) → ((u : ℕ) → is_at_least (b u) (if (u == t) && same_node n q then m else NL) ≡ true)
         → (n ≡ q → enters_at s t q m ≡ false → ok (t, wanted s t q m) ≡ true) → Locks s t q m next → IsWithin next n
     locked t q m asked waits locks =
@@ -226,6 +240,9 @@ module _ (b : ℕ → Mode) (ok : Waiter → Bool) (sound : (w : Waiter) → ok 
     accepted (command.Forget r) a told asked waits acc = on _ acc.2 h
     accepted (command.Drop t q) a told asked waits acc = on _ acc.2 (departed_within n s (goes_with s.graph q) (without_branch s.graph q) h)
     accepted (command.IndexBy t ps f bs) a told asked waits acc = born t.slot acc.0 acc.1.birth acc.4
+    accepted (command.Split t i bound) a told asked waits acc = parted t.slot i acc.0 acc.1.birth acc.4
+    accepted (command.Merge t i) a told asked waits acc =
+        on _ acc.2 (departed_within n s (λ q. same_node q (next_interval s.graph i)) (merge s.graph i) h)
 
   -- and so after each step
   pub step_within : (s s' : State) (c : Command) (a : Answer) (told : Told) (n : NodeId) → IsLawful s → is_live s.graph n ≡ true

@@ -10,6 +10,7 @@ use Rattle.gl_modes.specs.Nodes.{same_node}
 use Rattle.gl_modes.proofs.ModeLemmas.{at_least-refl, at_least-transitive, supremum-above}
 use Rattle.gl_modes.proofs.NodeLemmas.{same_node-equal}
 use Rattle.gl_modes.proofs.Words.{and_both, cases_of, clash, no, not_true, number_other, number_same, other_number, same_number, split}
+use Rattle.gl_graph.specs.Splits.{next_interval}
 use Rattle.gl_graph.specs.Changes.{rekeyed_parents}
 use Rattle.gl_header.specs.Header.{Waiter, holds, is_among_waiters}
 use Rattle.gl_waits.specs.declared.victims.Victims.{Victims}
@@ -136,6 +137,8 @@ module _ (s : State) (law : IsLawful s) (t : ℕ) where
     kept (command.Forget q) a told r free acc = same _ acc.2 (λ n. refl)
     kept (command.Drop u q) a told r free acc = cc
     kept (command.IndexBy u ps f bs) a told r free acc = given u.slot acc.0 X (x_top (s.held u.slot acc.0)) _ acc.4 (λ n. refl)
+    kept (command.Split u i bound) a told r free acc = given u.slot acc.0 X (x_top (s.held u.slot acc.0)) _ acc.4 (λ n. refl)
+    kept (command.Merge u i) a told r free acc = cc
 
 -- A slot that is ready stays ready, but for a lock of its own.
 
@@ -284,6 +287,9 @@ module _ (s : State) (law : IsLawful s) (t : ℕ) where
       stays_ready (command.Forget q) a told r free acc = left _ acc.2 ready
       stays_ready (command.Drop u q) a told r free acc = left _ acc.2 (freed_ready (goes_with s.graph q) (s.txns t) ready)
       stays_ready (command.IndexBy u ps f bs) a told r free acc = left _ acc.4 ready
+      stays_ready (command.Split u i bound) a told r free acc = left _ acc.4 (freed_ready (λ x. same_node x i) (s.txns t) ready)
+      stays_ready (command.Merge u i) a told r free acc =
+          left _ acc.2 (freed_ready (λ x. same_node x (next_interval s.graph i)) (s.txns t) ready)
 
     own : (u : TxnId) → same_txn self u ≡ true → status_of s u.slot ≡ Some Active → is_ready (status_of s t) ≡ true
     own u named active =
@@ -300,6 +306,8 @@ module _ (s : State) (law : IsLawful s) (t : ℕ) where
         stays_ready (own u named (active_after s u q (worn s) _ free).0) (command.Delete u q) a told (never_waits _) free acc
     releaser_ready (command.Drop u q) a told named r free acc =
         stays_ready (own u named (active_after s u q (worn s) _ free).0) (command.Drop u q) a told (never_waits _) free acc
+    releaser_ready (command.Merge u i) a told named r free acc =
+        stays_ready (own u named (active_after s u i (worn s) _ free).0) (command.Merge u i) a told (never_waits _) free acc
     releaser_ready (command.Commit u) a told named r free acc = gone u.slot (and_both _ _ named).0 acc.2
     releaser_ready (command.Abort u) a told named r free acc = gone u.slot (and_both _ _ named).0 acc.2
     releaser_ready c a told named r free acc = absurd (no r)

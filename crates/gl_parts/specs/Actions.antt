@@ -53,6 +53,7 @@ releases (command.Commit t) = true
 releases (command.Abort t) = true
 releases (command.Delete t r) = true
 releases (command.Drop t n) = true
+releases (command.Merge t i) = true
 releases c = false
 
 -- the command may leave its transaction waiting

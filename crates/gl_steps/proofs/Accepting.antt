@@ -42,6 +42,7 @@ accepting_touches s (command.Held t n) a told s' acc = absurd acc
 accepting_touches s (command.Effective t n) a told s' acc = absurd acc
 accepting_touches s (command.Adopt f keys) a told s' acc = ap untouched acc.4
 accepting_touches s (command.IndexBy t ps f bs) a told s' acc = ap untouched acc.4
+accepting_touches s (command.Split t i at) a told s' acc = ap untouched acc.4
 accepting_touches s c a told s' acc = ap untouched acc.2
 
 pub accepting_keeps_count : (s : State) (c : Command) (a : Answer) (told : Told) (s' : State) → Accepts s c a told s' → s'.accepted ≡ s.accepted

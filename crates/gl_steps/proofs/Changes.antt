@@ -1,5 +1,5 @@
 -- How an accepted command changes a state: a few kinds, so that what every command keeps is proved once for each kind.
-use Rattle.std.specs.Prelude.{◌≡◌, ℕ, ◌+◌, Bool, List, [], min, Option, Some, None}
+use Rattle.std.specs.Prelude.{◌≡◌, ℕ, ◌+◌, Bool, List, min, Some, None}
 use Rattle.gl_modes.specs.declared.mode.Mode.{Mode}
 use Rattle.gl_modes.specs.declared.mode.Mode.TheVariants.{X}
 use Rattle.gl_modes.specs.declared.node.NodeId.{NodeId}
@@ -7,10 +7,12 @@ use Rattle.gl_modes.specs.Nodes.{same_node}
 use Rattle.gl_graph.specs.Changes.{rekeyed, rekeyed_parents, with_parents, without_branch, without_node}
 use Rattle.gl_graph.specs.Graph.{Graph}
 use Rattle.gl_graph.specs.Refusals.{worn_births}
+use Rattle.gl_graph.specs.Splits.{IsSplit, merge, next_interval}
 use Rattle.gl_graph.proofs.Unrefused.{not_refused}
 use Rattle.gl_model.specs.declared.txn.Status.TheVariants.{Active}
 use Rattle.gl_model.specs.declared.txn.TxnId.{TxnId}
 use Rattle.gl_model.specs.Calls.{Locks, begun_at, cancelled, departed, goes_with, granted, joining_age, moved_to, raised, released, shed, unlocked}
+use Rattle.gl_model.specs.Splits.{split_by}
 use Rattle.gl_model.specs.State.{Settled, State, status_of, with_grant, with_graph}
 use Rattle.gl_model.specs.Tellings.{Told}
 use Rattle.gl_model.proofs.law.Tests.{active_after}
@@ -36,6 +38,8 @@ pub data Change (s : State) (a : Answer) (next : State) : Type 0 where
   Released : (t : TxnId) → next ≡ released s t.slot → Change s a next
   Settles : (t : TxnId) → Settled s.victims s t.slot next → Change s a next
   Departed : (goes : NodeId → Bool) (g : Graph) → next ≡ departed s goes g → Change s a next
+  Parted : (t : TxnId) (i n : NodeId) (at : ℕ) (g : Graph) → refusal_of s (command.Split t i at) ≡ None → IsSplit s.graph g i n at
+      → next ≡ split_by s t.slot i g n → Change s a next
   Moved : (n : NodeId) (ps : List NodeId) (g : Graph) → next ≡ moved_to s n ps g → Change s a next
 
 -- the kind of each command; a query is never accepted
@@ -64,6 +68,8 @@ change_of s (command.Adopt f keys) a told next free acc = Regraphed next.graph a
 change_of s (command.Forget r) a told next free acc = Regraphed (without_node s.graph r) acc.2
 change_of s (command.Drop t n) a told next free acc = Departed (goes_with s.graph n) (without_branch s.graph n) acc.2
 change_of s (command.IndexBy t ps f bs) a told next free acc = Born t acc.0 next.graph (may_index s t ps f bs free).active acc.1.birth acc.4
+change_of s (command.Split t i at) a told next free acc = Parted t i acc.0 at next.graph free acc.1 acc.4
+change_of s (command.Merge t i) a told next free acc = Departed (λ q. same_node q (next_interval s.graph i)) (merge s.graph i) acc.2
 change_of s (command.Group n) a told next free acc = absurd acc
 change_of s (command.Held t n) a told next free acc = absurd acc
 change_of s (command.Effective t n) a told next free acc = absurd acc

@@ -1,5 +1,5 @@
 -- No definition of the model reads the count of accepted commands.
-use Rattle.gl_steps.proofs.Words.{◌≡◌, ap, AtBlock, ByWatcher, condemned, Detect, enqueued, HasNoCycle, IsLawful, Locks, Mode, NodeId, refl, Settled}
+use Rattle.gl_steps.proofs.Words.{ap, AtBlock, ByWatcher, condemned, Detect, enqueued, HasNoCycle, IsLawful, Locks, Mode, NodeId, Settled}
 use Rattle.gl_steps.proofs.Words.{SettledWithin, State, suc, Victims, WaitSettles, wanted, zero, ℕ}
 use Rattle.std.proofs.Common.{get_or}
 use Rattle.gl_model.specs.declared.deadlock.Deadlock.{Deadlock}

@@ -1,16 +1,13 @@
 -- No command changes what the host chose for a state, such as detection.
 use Rattle.gl_waits.specs.declared.victims.Victims.{Victims}
-use Rattle.std.specs.Prelude.{◌≡◌, ℕ, zero, suc}
+use Rattle.std.specs.Prelude.{◌≡◌, ℕ}
 use Rattle.std.proofs.Common.{ap, refl}
 use Rattle.gl_model.specs.declared.answers.Detect.{Detect}
-use Rattle.gl_model.specs.declared.answers.Detect.TheVariants.{AtBlock, ByWatcher}
 use Rattle.gl_steps.specs.declared.command.Answer.{Answer}
 use Rattle.gl_steps.specs.declared.command.Command.{Command}
-use Rattle.gl_steps.specs.declared.command.Command.TheVariants as command
-use Rattle.gl_model.specs.State.{State, SettledWithin, condemned}
+use Rattle.gl_model.specs.State.{State}
 use Rattle.gl_model.specs.Tellings.{Told}
-use Rattle.gl_steps.specs.Step.{Accepts, Step}
-use Rattle.gl_model.specs.Calls.{WaitSettles, wanted, enters_at, enqueued}
+use Rattle.gl_steps.specs.Step.{Step}
 use Rattle.gl_steps.proofs.Accepting.{accepting_touches}
 use Rattle.gl_steps.proofs.EachStep.{each_step}
 

@@ -8,6 +8,8 @@ use Rattle.gl_steps.specs.declared.command.Answer.TheVariants as answer
 use Rattle.gl_steps.specs.declared.command.Command.TheVariants as command
 use Rattle.gl_model.specs.Calls.{begun_again, cancelled, covered_children, held_children, joined, joining_age, unlocked}
 use Rattle.gl_model.proofs.law.Settle.{locked, settled}
+use Rattle.gl_graph.specs.Splits.{merge, next_interval, split}
+use Rattle.gl_model.specs.Splits.{merged_by, split_by}
 use Rattle.gl_steps.proofs.Made.{adopted, made, next_id}
 
 -- an answer, the notices, and what is left
@@ -102,6 +104,11 @@ go s (command.IndexBy t ps f bs) = (
   [],
   with_grant (with_graph s (born_index s.graph (free_key s) ps.now f bs.now (interval_keys s bs.now))) t.slot (next_id s (free_key s)) X,
 )
+go s (command.Split t i at) =
+    let n = next_id s (free_key s) in
+    let s' : State = split_by s t.slot i (split s.graph i at (free_key s)) n in
+    (answer.Node n, told s s', s')
+go s (command.Merge t i) = done s (merged_by s (next_interval s.graph i) (merge s.graph i))
 go s c = (answer.Done, [], s)
 
 -- the command is counted

@@ -115,6 +115,7 @@ module _ (s : State) (law : IsLawful s) where
   goes (command.Effective t n) None e = record { answer_is = refl; nobody_told = refl; same = refl }
   goes (command.Adopt f keys) None e = (_, (_, record { key_free = key_free; birth = refl; after = refl }, refl, refl, refl), refl)
   goes (command.IndexBy t ps f bs) None e = (_, (_, index_is_born ps.now f bs.now, refl, refl, refl), refl)
+  goes (command.Split t i at) None e = (_, (_, record { key_free = key_free; birth = refl; after = refl }, refl, refl, refl), refl)
   goes c None e = (_, (refl, refl, refl), refl)
 
   -- of any command

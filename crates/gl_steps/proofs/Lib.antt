@@ -16,6 +16,7 @@ pub mod RowKeeps
 pub mod DeleteKeeps
 pub mod MoveCommands
 pub mod SchemaKeeps
+pub mod SplitKeeps
 pub mod StepsKeepLaw
 -- what every command keeps is proved by the kind of its change
 pub mod Changes

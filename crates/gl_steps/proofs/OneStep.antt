@@ -13,6 +13,7 @@ use Rattle.gl_steps.proofs.GraphCommands.{delete_keeps, file_keeps, index_keeps,
 use Rattle.gl_steps.proofs.SchemaKeeps.{itself_locked}
 use Rattle.gl_steps.proofs.SchemaSteps.{drop_keeps, index_by_keeps}
 use Rattle.gl_steps.proofs.RowSteps.{adopt_keeps, forget_keeps}
+use Rattle.gl_steps.proofs.SplitKeeps.{merge_by_keeps, split_by_keeps}
 
 -- each of these passed
 abbrev pub AllNone : List (Option Refusal) → Type 0
@@ -27,6 +28,12 @@ all_none (Some r ∷ rs) h = absurd (some_none h)
   where
     some_none : {r : Refusal} → Some r ≡ None → ⊥
     some_none e = cc
+
+-- and if each passed, none refuses
+pub none_first : (rs : List (Option Refusal)) → AllNone rs → first_refusal rs ≡ None
+none_first [] h = refl
+none_first (None ∷ rs) h = none_first rs h.1
+none_first (Some r ∷ rs) h = absurd (cc h.0)
 
 module _ (s : State) (law : IsLawful s) (t : TxnId) (alive : lives s t ≡ true) (a : Answer) (told' : Told) (s' : State) (law' : IsLawful s') where
   abbrev Kept : Bool → State → Type 0
@@ -88,6 +95,12 @@ module _ (s : State) (law : IsLawful s) (t : TxnId) (alive : lives s t ≡ true)
   accepted (command.IndexBy u ps f bs) apart passed ans =
       finish ans.0 ans.2 (λ l. index_by_keeps s law t alive ans.0 l _ u.slot ans.1.0.key ps.now f bs.now ans.1.1.interval_keys
       (other_slot u apart passed.1.1.0) (indexed_by_is s ans.0 u.slot ans.1.1 ans.1.4))
+  accepted (command.Split u i at) apart passed ans =
+      finish ans.0 ans.2 (λ l. split_by_keeps s law t alive told' u (other_slot u apart passed.1.1.0) i ans.1.0 at ans.0
+      (none_first (tests_of s (command.Split u i at)) passed) ans.1.1 ans.1.4)
+  accepted (command.Merge u i) apart passed ans =
+      finish ans.0 ans.2 (λ l. merge_by_keeps s law t alive told' u (other_slot u apart passed.1.0) i ans.0
+      (none_first (tests_of s (command.Merge u i)) passed) ans.1.2)
   accepted c apart passed ans = same_keeps s law t alive s' told' s' ans.same
 
   -- each command, and a step that changes nothing

@@ -1,5 +1,5 @@
 -- How another transaction's command changes grants, queues and slots, and what it leaves to a slot t that it does not name.
-use Rattle.gl_steps.proofs.Words.{◌&&◌, ◌+◌, ◌==◌, [], ◌||◌, ◌∙◌, ◌∷◌, ◌≡◌, ◌≢◌, Active, and_both, ap, arith, AtBlock, begun_at, Bool, ByWatcher, Condemned}
+use Rattle.gl_steps.proofs.Words.{◌&&◌, ◌==◌, [], ◌||◌, ◌∙◌, ◌∷◌, ◌≡◌, ◌≢◌, Active, and_both, ap, arith, AtBlock, begun_at, Bool, ByWatcher, Condemned}
 use Rattle.gl_steps.proofs.Words.{condemned, Detect, enqueued, false, Follows, follows_trans, holds, if◌then◌else◌, inl, is_covered, is_waiting_at, List}
 use Rattle.gl_steps.proofs.Words.{live_by, members, Mode, nat_tests, NL, NodeId, None, Option, pumped, raised, refl, released, restatus, same_node}
 use Rattle.gl_steps.proofs.Words.{same_node-equal, same_number, SameGrants, Settled, SettledWithin, shed, Some, split, State, Status, status_in, status_of}

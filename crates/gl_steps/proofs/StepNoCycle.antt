@@ -8,7 +8,10 @@ use Rattle.gl_model.specs.declared.answers.Detect.TheVariants.{AtBlock}
 use Rattle.gl_steps.specs.declared.command.Answer.{Answer}
 use Rattle.gl_steps.specs.declared.command.Command.{Command}
 use Rattle.gl_steps.specs.declared.command.Command.TheVariants as command
-use Rattle.gl_model.specs.State.{State, with_graph, HasNoCycle}
+use Rattle.gl_waits.proofs.CycleLemmas.{less-no_cycle}
+use Rattle.gl_model.specs.Splits.{split_by}
+use Rattle.gl_model.specs.State.{State, waits_for, with_graph, HasNoCycle}
+use Rattle.gl_model.proofs.splits.Laws.{splits_add_no_wait}
 use Rattle.gl_model.specs.Lawful.{IsLawful}
 use Rattle.gl_model.specs.Tellings.{Told}
 use Rattle.gl_steps.specs.Step.{Step}
@@ -33,6 +36,7 @@ use Rattle.gl_steps.proofs.Changes as change
 use Rattle.gl_steps.proofs.EachStep.{each_step}
 use Rattle.gl_steps.proofs.Detection.{steps_keep_detect}
 use Rattle.gl_steps.proofs.StepsKeepLaw.{steps_keep_law}
+use Rattle.gl_steps.proofs.SplitKeeps.{splits}
 
 -- the grant is raised, and then the children are released
 escalated-no_cycle : (s : State) → IsLawful s → (t : TxnId) (n : NodeId) → refusal_of s (command.Escalate t n) ≡ None → HasNoCycle s
@@ -62,6 +66,9 @@ changes-no_cycle s a s' at law none (change.Cancelled t is) = subst HasNoCycle (
 changes-no_cycle s a s' at law none (change.Released t is) = subst HasNoCycle (sym is) (released-no_cycle s law t.slot none)
 changes-no_cycle s a s' at law none (change.Settles t is) = settled-no_cycle s.victims s s' t.slot law is none
 changes-no_cycle s a s' at law none (change.Departed goes g is) = subst HasNoCycle (sym is) (departed-no_cycle s goes g none)
+changes-no_cycle s a s' at law none (change.Parted t i n bound g free split is) =
+    subst HasNoCycle (sym is) (less-no_cycle (waits_for s) (waits_for (split_by s t.slot i g n))
+    (splits_add_no_wait s t i n bound g (splits s t i n bound g law free split)) none)
 changes-no_cycle s a s' at law none (change.Moved n ps g is) = subst HasNoCycle (sym is) (moved-no_cycle s law n ps g none)
 
 -- no cycle after each step, of any command

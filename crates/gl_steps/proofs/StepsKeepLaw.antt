@@ -12,6 +12,7 @@ use Rattle.gl_steps.proofs.DeleteKeeps.{delete_keeps}
 use Rattle.gl_steps.proofs.MoveCommands.{move_keeps, rekey_keeps}
 use Rattle.gl_steps.proofs.SchemaKeeps.{drop_keeps_law, index_by_keeps_law}
 use Rattle.gl_steps.proofs.RowKeeps.{adopt_keeps, forget_keeps}
+use Rattle.gl_steps.proofs.SplitKeeps.{merge_keeps_law, split_keeps_law}
 
 -- no query is ever accepted: it is answered
 accepted_keeps : (c : Command) → KeepsLaw c
@@ -38,6 +39,8 @@ accepted_keeps (command.Adopt f keys) = adopt_keeps f keys
 accepted_keeps (command.Forget r) = forget_keeps r
 accepted_keeps (command.Drop t n) = drop_keeps_law t n
 accepted_keeps (command.IndexBy t ps f bs) = index_by_keeps_law t ps f bs
+accepted_keeps (command.Split t i at) = split_keeps_law t i at
+accepted_keeps (command.Merge t i) = merge_keeps_law t i
 accepted_keeps c = λ s s' a told law free acc. absurd acc
 
 pub steps_keep_law : StepsKeepLaw

@@ -1,5 +1,5 @@
 -- A wait begins by a lock that is answered so, and by nothing else.
-use Rattle.std.specs.Prelude.{◌≡◌, ◌⊎◌, ℕ, ◌+◌, false, ◌&&◌, ◌||◌, ◌==◌, Option, Some, None, if◌then◌else◌, min}
+use Rattle.std.specs.Prelude.{◌≡◌, ◌⊎◌, ℕ, false, ◌&&◌, ◌||◌, ◌==◌, Option, Some, None, if◌then◌else◌}
 use Rattle.std.specs.List.{filter}
 use Rattle.std.proofs.Common.{refl, sym, ap, subst, ◌∙◌, inl, inr, ⊎_elim}
 use mathlib.Core.Bool.{true≢false}
@@ -8,7 +8,6 @@ use Rattle.gl_modes.specs.declared.mode.Mode.{Mode}
 use Rattle.gl_modes.specs.declared.mode.Mode.TheVariants.{NL}
 use Rattle.gl_modes.specs.declared.node.NodeId.{NodeId}
 use Rattle.gl_modes.specs.Nodes.{same_node}
-use Rattle.gl_graph.specs.Changes.{rekeyed_parents}
 use Rattle.gl_header.specs.Header.{holds, is_among_waiters}
 use Rattle.gl_model.specs.declared.txn.Status.{Status}
 use Rattle.gl_model.specs.declared.txn.Status.TheVariants.{Active, Waiting, Condemned}
@@ -19,13 +18,11 @@ use Rattle.gl_model.specs.Tellings.{stripped, Told}
 use Rattle.gl_steps.specs.declared.command.Answer.{Answer}
 use Rattle.gl_steps.specs.declared.command.Answer.TheVariants as answer
 use Rattle.gl_steps.specs.declared.command.Command.{Command}
-use Rattle.gl_steps.specs.declared.command.Command.TheVariants as command
 use Rattle.gl_steps.specs.Promises.{BeginsWaits, NobodyWaits}
 use Rattle.gl_steps.proofs.Changes.{Change, change_of}
 use Rattle.gl_steps.proofs.Changes as change
-use Rattle.gl_steps.specs.Step.{Accepts, Step, lock_answer}
+use Rattle.gl_steps.specs.Step.{Step, lock_answer}
 use Rattle.gl_steps.proofs.EachStep.{each_step}
-use Rattle.gl_model.specs.Calls.{goes_with}
 use Rattle.gl_steps.proofs.LivesOn.{GoesOn, freed_on, over_goes_on, pumped_goes_on, settled_goes_on, unless_on, wait_settles_goes_on, woken_on, freed_among_on}
 
 -- after the step, t waits on n for m
@@ -88,6 +85,7 @@ module _ (s : State) (t : ℕ) (n : NodeId) (m : Mode) (a : Answer) where
     changed (change.Released u is) = released_case u.slot (ap (λ (x : State). status_of x t) is)
     changed (change.Settles u is) = λ w. inl ((settled_goes_on s.victims s next u.slot t is).waits n m w)
     changed (change.Departed goes g is) = on _ is (freed_among_on goes (s.txns t))
+    changed (change.Parted u i q bound g free split is) = on _ is (freed_on i (s.txns t))
     changed (change.Moved x ps g is) = on _ is (unless_on (λ v. is_among_waiters v (filter (stays s ps) (s.queue x))) x t (s.txns t))
 
 pub begins_waits : BeginsWaits

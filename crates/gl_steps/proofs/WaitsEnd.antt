@@ -20,7 +20,9 @@ use Rattle.gl_steps.proofs.GrantCommands.{free_differs, joining_differs}
 use Rattle.gl_steps.proofs.LivesOn.{freed_among_on, freed_on, GoesOn, lives_on_same, lives_on_trans, LivesOn, over_goes_on, pumped_goes_on, settled_goes_on}
 use Rattle.gl_steps.proofs.LivesOn.{unless_on, wait_settles_goes_on, woken_on}
 use Rattle.gl_steps.proofs.NotRefused.{differ, txn_lives}
-use Rattle.gl_steps.proofs.OneStep.{all_none, AllNone}
+use Rattle.gl_graph.specs.Splits.{merge, next_interval}
+use Rattle.gl_steps.proofs.OneStep.{all_none, AllNone, none_first}
+use Rattle.gl_steps.proofs.SplitKeeps.{merge_gone}
 use Rattle.gl_steps.proofs.OtherChanges.{begun_other, cancelled_follows, enqueued_follows, escalated_follows, other, released_follows, settled_follows}
 use Rattle.gl_steps.proofs.OtherChanges.{unlocked_follows, wait_settles_follows, with_grant_follows}
 use Rattle.gl_steps.proofs.ToldGrants.{age_is, any_filtered, any_mapped, txn_there}
@@ -309,6 +311,15 @@ module _ (s : State) (law : IsLawful s) (t : TxnId) (alive : lives s t ≡ true)
         let on = on_is _ acc.2 (freed_among_on (goes_with s.graph x) (s.txns t.slot)) in
         all_told (command.Drop u x) acc.1 on (gone_by (goes_with s.graph x) (ap (λ (y : State). y.txns t.slot) acc.2) on (command.Drop u x)
         (λ e. ap (λ (y : State). is_live y.graph n) acc.2 ∙ dropped_dead s.graph x n e))
+    accepted (command.Split u i bound) passed acc =
+        let on = on_is _ acc.4 (freed_on i (s.txns t.slot)) in
+        all_told (command.Split u i bound) acc.3 on (λ _. moved_by (λ v. false) i (ap (λ (x : State). x.txns t.slot) acc.4) on)
+    accepted (command.Merge u i) passed acc =
+        let j = next_interval s.graph i in
+        let on = on_is _ acc.2 (freed_on j (s.txns t.slot)) in
+        all_told (command.Merge u i) acc.1 on (gone_by (λ q. same_node q j) (ap (λ (x : State). x.txns t.slot) acc.2) on (command.Merge u i)
+        (λ e. ap (λ (x : State). is_live x.graph n) acc.2 ∙ ap (is_live (merge s.graph i)) (same_node-equal n j e)
+        ∙ merge_gone s u i law (none_first (tests_of s (command.Merge u i)) passed)))
     accepted (command.Group q) passed acc = absurd acc
     accepted (command.Held u q) passed acc = absurd acc
     accepted (command.Effective u q) passed acc = absurd acc

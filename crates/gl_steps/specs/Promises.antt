@@ -47,6 +47,8 @@ names t (command.Rekey u r i k) = same_txn t u
 names t (command.Move u n ps) = same_txn t u
 names t (command.Drop u n) = same_txn t u
 names t (command.IndexBy u ps f bs) = same_txn t u
+names t (command.Split u i at) = same_txn t u
+names t (command.Merge u i) = same_txn t u
 names t c = false
 
 -- the notice tells t of a grant
@@ -201,6 +203,7 @@ makes_node (command.Index ps f bs) = true
 makes_node (command.Insert t f keys) = true
 makes_node (command.Adopt f keys) = true
 makes_node (command.IndexBy t ps f bs) = true
+makes_node (command.Split t i at) = true
 makes_node c = false
 
 -- in a lawful state a command that makes no node has one answer, one list of notices and one state, lack of memory aside
@@ -240,10 +243,11 @@ same_notice x y = false
 abbrev pub is_told_that : TxnId → Notice → Told → Bool
 is_told_that t x told = list_any (λ y. same_txn t y.0 && same_notice x y.1) told
 
--- the command moves the node, or gives it another key
+-- the command moves the node, gives it another key, or splits it
 abbrev pub moves_node : NodeId → Command → Bool
 moves_node n (command.Rekey t r i key) = same_node r n
 moves_node n (command.Move t r ps) = same_node r n
+moves_node n (command.Split t i at) = same_node i n
 moves_node n c = false
 
 -- t is told what became of its wait for m on n, as the state after the step shows it: that n moved only if the command moved it

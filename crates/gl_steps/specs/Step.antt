@@ -17,11 +17,13 @@ use Rattle.gl_steps.specs.Tests.{may_lack_memory, refusal_of}
 use Rattle.gl_graph.specs.Changes.{IsAdopted, IsBorn, IsIndexBorn, rekeyed, rekeyed_parents, with_parents, without_node}
 use Rattle.gl_graph.specs.Graph.{record_parents}
 use Rattle.gl_graph.specs.Shapes.{File, Inner, Rec}
+use Rattle.gl_graph.specs.Splits.{IsSplit, merge, next_interval}
 use Rattle.gl_header.specs.Header.{group_of}
 use Rattle.gl_model.specs.Calls.{Locks, accepted_once, begun, begun_again, cancelled, deleted, dropped, free_slot, granted, moved_to, raised, released}
 use Rattle.gl_model.specs.Calls.{joined, joining_age, shed, unlocked, wanted}
 use Rattle.gl_model.specs.Calls.{covered_children, held_children}
 use Rattle.gl_model.specs.Lawful.{effective}
+use Rattle.gl_model.specs.Splits.{merged_by, split_by}
 use Rattle.gl_model.specs.State.{State, members, status_of, with_grant, with_graph, Settled}
 use Rattle.gl_model.specs.Tellings.{Told, told, told_but}
 
@@ -80,6 +82,10 @@ Accepts s (command.Drop t n) a told' s' = (a ≡ answer.Done) × (told' ≡ told
 Accepts s (command.IndexBy t ps f bs) a told' s' =
     (n : NodeId) × IsIndexBorn s.graph s'.graph n ps.now f bs.now × (a ≡ answer.Node n) × (told' ≡ [])
     × (s' ≡ with_grant (with_graph s s'.graph) t.slot n X)
+Accepts s (command.Split t i at) a told' s' =
+    (n : NodeId) × IsSplit s.graph s'.graph i n at × (a ≡ answer.Node n) × (told' ≡ told s s') × (s' ≡ split_by s t.slot i s'.graph n)
+Accepts s (command.Merge t i) a told' s' =
+    (a ≡ answer.Done) × (told' ≡ told s s') × (s' ≡ merged_by s (next_interval s.graph i) (merge s.graph i))
 
 -- what a query answers; no other command is one
 abbrev pub query_answer : State → Command → Option Answer

@@ -17,6 +17,7 @@ use Rattle.gl_model.specs.Calls.{active_on, begin_tests, cancel_tests, commit_te
 use Rattle.gl_model.specs.Calls.{forget_tests, group_tests}
 use Rattle.gl_model.specs.Calls.{held_tests, holds_x, living_tests, lock_tests, need_exclusive, need_new_parents, not_held, some_given, try_tests}
 use Rattle.gl_model.specs.Calls.{renew_tests, unlock_tests}
+use Rattle.gl_model.specs.Splits.{merge_tests, split_tests}
 use Rattle.gl_model.specs.State.{State, members}
 
 -- no further command can be counted
@@ -95,6 +96,8 @@ tests_of s (command.Adopt f keys) = worn s ∷ record_refusal s.graph f keys.now
 tests_of s (command.Forget r) = worn s ∷ forget_tests s r
 tests_of s (command.Drop t n) = worn s ∷ drop_tests s t n
 tests_of s (command.IndexBy t ps f bs) = worn s ∷ index_by_tests s t ps.now f bs.now
+tests_of s (command.Split t i at) = worn s ∷ split_tests s t i at
+tests_of s (command.Merge t i) = worn s ∷ merge_tests s t i
 
 -- why the command is refused, if it is: the first test that refuses
 abbrev pub refusal_of : State → Command → Option Refusal
@@ -123,6 +126,8 @@ lists_memory s (command.Move t n ps) = true
 lists_memory s (command.Effective t n) = true
 lists_memory s (command.Adopt f keys) = true
 lists_memory s (command.IndexBy t ps f bs) = true
+lists_memory s (command.Split t i at) = true
+lists_memory s (command.Merge t i) = true
 lists_memory s c = false
 
 -- lack of memory is a permitted reason if there is no other; for a move also in place of a closed cycle, since the search for it may run out

@@ -192,4 +192,18 @@ pub enum Command<'a> {
         file: NodeId,
         bounds: &'a [u64],
     },
+    /// Split an interval of an index, held in X: it keeps the keys below this bound, and a new
+    /// interval, held in X too, has those from it on. The records of the file get the intervals of
+    /// their keys.
+    Split {
+        txn: TxnId,
+        interval: NodeId,
+        at: u64,
+    },
+    /// Merge an interval of an index with the next one, both held in X: it has the keys of both, and
+    /// the next one is removed. The index keeps at least one interval.
+    Merge {
+        txn: TxnId,
+        interval: NodeId,
+    },
 }

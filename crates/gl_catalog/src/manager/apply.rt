@@ -133,6 +133,12 @@ impl Manager {
                 file,
                 bounds,
             } => node_answer(self.index_by(txn, parents, file, bounds)),
+            Command::Split { txn, interval, at } => {
+                node_answer(self.split_telling(txn, interval, at, told))
+            }
+            Command::Merge { txn, interval } => {
+                done_answer(self.merge_telling(txn, interval, told))
+            }
         }
     }
 }

@@ -151,6 +151,18 @@ returns-in-IndexBy c =
     c.node_answer-in-IndexBy.ensures c.in-IndexBy.is c.index_by.ensures.err (λ x h. h)
     c.args.told.now c.requires.empty c.index_by.ensures.step c.index_by.ensures.completes
 
+pub returns-in-Split : goal.returns-in-Split
+returns-in-Split c =
+    carries_telling answer.Node c.args.self.now c.split_telling.new.self _ c.args.command c.split_telling.result c.node_answer-in-Split.result
+    c.node_answer-in-Split.ensures c.in-Split.is c.split_telling.ensures.err (λ x h. h)
+    c.split_telling.new.told c.args.told.now c.split_telling.ensures.untold c.requires.empty c.split_telling.ensures.step c.split_telling.ensures.completes
+
+pub returns-in-Merge : goal.returns-in-Merge
+returns-in-Merge c =
+    carries_telling (λ u. answer.Done) c.args.self.now c.merge_telling.new.self _ c.args.command c.merge_telling.result c.done_answer-in-Merge.result
+    c.done_answer-in-Merge.ensures c.in-Merge.is c.merge_telling.ensures.err (λ x h. h)
+    c.merge_telling.new.told c.args.told.now c.merge_telling.ensures.untold c.requires.empty c.merge_telling.ensures.step c.merge_telling.ensures.completes
+
 -- queries
 
 pub returns-in-Group : goal.returns-in-Group
