@@ -21,7 +21,7 @@ use Rattle.gl_graph.proofs.Look.{all_filter}
 use Rattle.gl_graph.proofs.RecordParents.{index_of_index}
 use Rattle.gl_steps.proofs.ToldGrants.{any_filtered}
 use Rattle.gl_rows.specs.Promises.{IsRow}
-use Rattle.gl_rows.proofs.KeptIndexes.{KeepsIndexes, index_still, keeps_itself, same_parents}
+use Rattle.gl_rows.proofs.KeptIndexes.{KeepsIndexes, KeepsList, index_still, keeps_itself, same_parents}
 
 -- a filter that each element passes
 all_pass : (q p : NodeId → Bool) (xs : List NodeId) → list_all q xs ≡ true → ((x : NodeId) → q x ≡ true → p x ≡ true) → filter p xs ≡ xs
@@ -45,22 +45,27 @@ module _ (m : Graph) (law : IsLawfulGraph m) (n : NodeId) (movable : is_movable_
       ap (λ o. slice_index_or (intervals_in (shape_in o)) (interval_place (bounds_in (shape_in o)) key) no_node)
       (stays_left m n (live m law n movable free) i on other apart)
 
+  -- the node was no index of the file, so it is another than one of these
+  pub other_index : (g : Graph) (f : NodeId) → is_index_of_shape f (shape_of g n) ≡ false → (i : NodeId) → is_index_of_shape f (shape_of g i) ≡ true
+      → same_node n i ≡ false
+  other_index g f none i h = not_true (same_node n i) (λ t. clash h (sym (ap (λ q. is_index_of_shape f (shape_of g q)) (same_node-equal n i t)) ∙ none))
+
   -- for a file that kept its indexes since g, if this node was none of them
+  pub dropped_list : (g : Graph) (f : NodeId) → KeepsList g m f → is_index_of_shape f (shape_of g n) ≡ false → KeepsList g left f
+  dropped_list g f kept none = (
+    filter (λ i. not (same_node n i)) kept.0,
+    indexes_left m law n movable free f ∙ ap (filter (λ i. not (same_node n i))) kept.1
+        ∙ filter-append (λ i. not (same_node n i)) (indexes_of g f) kept.0
+        ∙ ap (λ xs. xs ++ filter (λ i. not (same_node n i)) kept.0)
+        (all_pass (λ i. is_index_of_shape f (shape_of g i)) (λ i. not (same_node n i)) (indexes_of g f)
+        (all_filter (λ i. is_index_of_shape f (shape_of g i)) (nodes g)) (λ x h. ap not (other_index g f none x h))),
+  )
+
   pub dropped_keeps : (g : Graph) (f : NodeId) → IsLawfulGraph g → KeepsIndexes g m f → is_index_of_shape f (shape_of g n) ≡ false → KeepsIndexes g left f
   dropped_keeps g f law' kept none = record {
-    indexes = (
-      filter (λ i. not (same_node n i)) kept.indexes.0,
-      indexes_left m law n movable free f ∙ ap (filter (λ i. not (same_node n i))) kept.indexes.1
-          ∙ filter-append (λ i. not (same_node n i)) (indexes_of g f) kept.indexes.0
-          ∙ ap (λ xs. xs ++ filter (λ i. not (same_node n i)) kept.indexes.0)
-          (all_pass (λ i. is_index_of_shape f (shape_of g i)) (λ i. not (same_node n i)) (indexes_of g f)
-          (all_filter (λ i. is_index_of_shape f (shape_of g i)) (nodes g)) (λ x h. ap not (other x h))),
-    );
-    intervals = λ i key h. others_stay f i key (index_still g m f law' kept i h) (other i h) ∙ kept.intervals i key h;
+    indexes = dropped_list g f kept.indexes none;
+    intervals = λ i key h. others_stay f i key (index_still g m f law' kept i h) (other_index g f none i h) ∙ kept.intervals i key h;
   }
-    where
-      other : (i : NodeId) → is_index_of_shape f (shape_of g i) ≡ true → same_node n i ≡ false
-      other i h = not_true (same_node n i) (λ t. clash h (sym (ap (λ q. is_index_of_shape f (shape_of g q)) (same_node-equal n i t)) ∙ none))
 
   -- whichever index is dropped
   pub dropped_parents : (f : NodeId) (keys : List ℕ) → IsRow m f keys → IsRow left f keys → record_parents left f keys ≡ record_parents m f keys

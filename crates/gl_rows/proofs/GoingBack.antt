@@ -32,6 +32,7 @@ use Rattle.gl_rows.proofs.LettingGo.{let_go_changes}
 use Rattle.gl_rows.proofs.NameChanges.{ChangesNames}
 use Rattle.gl_rows.proofs.RunsKeepIndexes.{same_keeps}
 use Rattle.gl_rows.proofs.Served.{Over, keeps_rows, over_as, over_same, over_then, over_upkeep}
+use Rattle.gl_rows.proofs.Ways.{ways_of}
 use Rattle.gl_rows.proofs.Tidied.{at_end_upkeep, meanwhile_upkeep}
 
 abbrev unlocks : TxnId → List NodeId → List Command
@@ -56,7 +57,9 @@ module _ (m mid : ManagerView) (t : TxnId) (mark k : ℕ) (told : Told) (law : I
   over_back u alive apart = record {
     law = back_lawful;
     keeps = back_keeps_over m mid law t mark k told h u alive apart;
-    indexes = same_keeps (state_of m).graph (state_of mid).graph back_graph;
+    ways = λ f.
+        ways_of (state_of m) (state_of mid) law back_lawful u (is_granted u told) (back_keeps_over m mid law t mark k told h u alive apart) f
+        (same_keeps (state_of m).graph (state_of mid).graph back_graph f);
   }
 
 -- rows are then let go, or nothing has changed
@@ -113,7 +116,9 @@ module _ (m mid : ManagerView) (t : TxnId) (keep since : ℕ) (next : Option Txn
   over_keeping u alive apart = record {
     law = keeping_lawful;
     keeps = keeping_keeps_over m mid law t keep since next told h u alive apart;
-    indexes = same_keeps (state_of m).graph (state_of mid).graph keeping_graph;
+    ways = λ f.
+        ways_of (state_of m) (state_of mid) law keeping_lawful u (is_granted u told) (keeping_keeps_over m mid law t keep since next told h u alive apart) f
+        (same_keeps (state_of m).graph (state_of mid).graph keeping_graph f);
   }
 
 pub keeping_changes : (m m' : ManagerView) (v v' : RowsView) (t : TxnId) (keep since : ℕ) (result : Result (Option TxnId) Refusal) (told : Told)

@@ -30,6 +30,9 @@ use Rattle.gl_steps.proofs.MoveCommands.{move_moves, rekey_moves}
 use Rattle.gl_steps.proofs.OneStep.{all_none}
 use Rattle.gl_steps.proofs.RowKeeps.{may_forget}
 use Rattle.gl_steps.proofs.SchemaKeeps.{may_drop}
+use Rattle.gl_steps.proofs.SplitKeeps.{IsRecut, merge_recuts, merges, split_recuts, splits}
+use Rattle.gl_graph.specs.Splits.{merge, next_interval}
+use Rattle.gl_model.specs.Splits.{merged_by, split_by}
 
 -- Commands about transactions and locks leave the graph as it is.
 
@@ -46,6 +49,8 @@ is_of_nodes (command.Delete t r) = true
 is_of_nodes (command.Rekey t r i key) = true
 is_of_nodes (command.Move t n ps) = true
 is_of_nodes (command.Drop t n) = true
+is_of_nodes (command.Split t i at) = true
+is_of_nodes (command.Merge t i) = true
 is_of_nodes c = false
 
 settled_graph : (c : Victims) (k : ℕ) (s s' : State) (t : ℕ) → SettledWithin c k s t s' → s'.graph ≡ s.graph
@@ -77,6 +82,8 @@ accepted_graph s (command.Delete t r) a told s' of acc = clash refl of
 accepted_graph s (command.Rekey t r i key) a told s' of acc = clash refl of
 accepted_graph s (command.Move t n ps) a told s' of acc = clash refl of
 accepted_graph s (command.Drop t n) a told s' of acc = clash refl of
+accepted_graph s (command.Split t i at) a told s' of acc = clash refl of
+accepted_graph s (command.Merge t i) a told s' of acc = clash refl of
 accepted_graph s c a told s' of acc = ap (λ (z : State). z.graph) acc.2
 
 pub step_graph : (s : State) (c : Command) (a : Answer) (told : Told) (s' : State) → is_of_nodes c ≡ false → Step s c a told s' → s'.graph ≡ s.graph
@@ -112,6 +119,12 @@ pub record Drops (g : Graph) (c : Command) (n : NodeId) : Type 0 where
   pub movable : is_movable_shape (shape_of g n) ≡ true
   pub free : is_in_use g n ≡ false
 
+-- the command splits an interval, or merges two
+abbrev pub is_recut : Command → Bool
+is_recut (command.Split t i at) = true
+is_recut (command.Merge t i) = true
+is_recut c = false
+
 -- what holds of each graph that a command can make, if it touches no record of these files
 pub record HoldsAfter (has : NodeId → Bool) (g : Graph) (c : Command) (P : Graph → Type 0) : Type 0 where
   pub same : P g
@@ -121,6 +134,7 @@ pub record HoldsAfter (has : NodeId → Bool) (g : Graph) (c : Command) (P : Gra
   pub changed : (n : NodeId) (was is : Node) → node_at g n ≡ Some was → is.key ≡ was.key → IsAlike was.shape is.shape
       → (is_record_shape (Some was.shape) ≡ true → first_in is.parents ≡ first_in was.parents) → P (with_node g n.birth is)
   pub dropped : (n : NodeId) → Drops g c n → P (without_branch g n)
+  pub recut : (s s' : State) (x y : NodeId) → is_recut c ≡ true → s.graph ≡ g → IsRecut s s' x y → P s'.graph
 
 module _ (has : NodeId → Bool) (s : State) (law : IsLawful s) (P : Graph → Type 0) where
   abbrev g : Graph
@@ -169,6 +183,13 @@ module _ (has : NodeId → Bool) (s : State) (law : IsLawful s) (P : Graph → T
       let may = may_drop s t n free in
       subst P (sym (ap (λ (z : State). z.graph) acc.2))
       (after.dropped n (record { txn = t; command_is = refl; movable = may.movable; free = may.free }))
+  accepted_after (command.Split t i at) a told s' after off free acc =
+      let h = splits s t i acc.0 at s'.graph law free acc.1 in
+      after.recut s (split_by s t.slot i s'.graph acc.0) i acc.0 refl refl (split_recuts s law t i acc.0 at s'.graph h)
+  accepted_after (command.Merge t i) a told s' after off free acc =
+      let j = next_interval g i in
+      subst P (sym (ap (λ (z : State). z.graph) acc.2))
+      (after.recut s (merged_by s j (merge g i)) j i refl refl (merge_recuts s law t i (merges s t i law free)))
   accepted_after c a told s' after off free acc = subst P (sym (accepted_graph s c a told s' refl acc)) after.same
 
   pub step_after : (s' : State) (c : Command) (a : Answer) (told : Told) → HoldsAfter has g c P → touches has g c ≡ false → Step s c a told s' → P s'.graph

@@ -30,22 +30,33 @@ pub record KeepsIndexes (g g' : Graph) (f : NodeId) : Type 0 where
 pub keeps_itself : (g : Graph) (f : NodeId) → KeepsIndexes g g f
 keeps_itself g f = record { indexes = ([], sym (append-nil (indexes_of g f))); intervals = λ i key h. refl }
 
+-- the file keeps its indexes, first among those that it has
+abbrev pub KeepsList : Graph → Graph → NodeId → Type 0
+KeepsList g g' f = (more : List NodeId) × (indexes_of g' f ≡ indexes_of g f ++ more)
+
+pub list_itself : (g g' : Graph) (f : NodeId) → indexes_of g' f ≡ indexes_of g f → KeepsList g g' f
+list_itself g g' f same = ([], same ∙ sym (append-nil (indexes_of g f)))
+
+pub list_trans : (g m g' : Graph) (f : NodeId) → KeepsList g m f → KeepsList m g' f → KeepsList g g' f
+list_trans g m g' f a b = (a.0 ++ b.0, b.1 ∙ ap (λ xs. xs ++ b.0) a.1 ∙ append_assoc (indexes_of g f) a.0 b.0)
+
 -- each of these is still an index
-pub index_still : (g m : Graph) (f : NodeId) → IsLawfulGraph g → KeepsIndexes g m f → (i : NodeId) → is_index_of_shape f (shape_of g i) ≡ true
+pub index_listed_still : (g m : Graph) (f : NodeId) → IsLawfulGraph g → KeepsList g m f → (i : NodeId) → is_index_of_shape f (shape_of g i) ≡ true
     → is_index_of_shape f (shape_of m i) ≡ true
-index_still g m f law kept i h =
+index_listed_still g m f law kept i h =
     let live = plain_live g i (index_plain (shape_of g i) (index_of_index f (shape_of g i) h)) in
     all_at (λ q. is_index_of_shape f (shape_of m q)) (indexes_of m f) i
-    (ap (list_any (same_node i)) kept.indexes.1 ∙ list_any-append (same_node i) (indexes_of g f) kept.indexes.0
-    ∙ ap (λ b. b || list_any (same_node i) kept.indexes.0) (index_listed g law f i live h))
+    (ap (list_any (same_node i)) kept.1 ∙ list_any-append (same_node i) (indexes_of g f) kept.0
+    ∙ ap (λ b. b || list_any (same_node i) kept.0) (index_listed g law f i live h))
     (all_filter (λ q. is_index_of_shape f (shape_of m q)) (nodes m))
+
+pub index_still : (g m : Graph) (f : NodeId) → IsLawfulGraph g → KeepsIndexes g m f → (i : NodeId) → is_index_of_shape f (shape_of g i) ≡ true
+    → is_index_of_shape f (shape_of m i) ≡ true
+index_still g m f law kept i h = index_listed_still g m f law kept.indexes i h
 
 pub keeps_trans : (g m g' : Graph) (f : NodeId) → IsLawfulGraph g → KeepsIndexes g m f → KeepsIndexes m g' f → KeepsIndexes g g' f
 keeps_trans g m g' f law a b = record {
-  indexes =
-      let first = a.indexes in
-      let then = b.indexes in
-      (first.0 ++ then.0, then.1 ∙ ap (λ xs. xs ++ then.0) first.1 ∙ append_assoc (indexes_of g f) first.0 then.0);
+  indexes = list_trans g m g' f a.indexes b.indexes;
   intervals = λ i key h. b.intervals i key (index_still g m f law a i h) ∙ a.intervals i key h;
 }
 
@@ -90,6 +101,14 @@ pub changed_keeps : (g : Graph) → IsLawfulGraph g → (n : NodeId) (was is : N
 changed_keeps g law n was is there key alike f =
     stays_keeps g (with_node g n.birth is) (changed_frames g n was is there key alike).shapes f (indexes_same g n was is there key alike f)
 
+-- the file has the same indexes if it has a row with these keys before and after
+pub indexes_of_row : (g g' : Graph) (f : NodeId) → KeepsList g g' f → (keys : List ℕ) → IsRow g f keys → IsRow g' f keys → indexes_of g' f ≡ indexes_of g f
+indexes_of_row g g' f grown keys row row' =
+    let size : length (indexes_of g' f) ≡ length (indexes_of g f) + length grown.0 = ap length grown.1 ∙ length-append (indexes_of g f) grown.0 in
+    let was = row.a_key_each in
+    let is = row'.a_key_each in
+    grown.1 ∙ ap (λ xs. indexes_of g f ++ xs) (nil_from_length grown.0 (omega arith)) ∙ append-nil (indexes_of g f)
+
 -- a file and its keys that are a row before and after have the same parents
 module _ (g g' : Graph) (f : NodeId) (kept : KeepsIndexes g g' f) where
   same_intervals : (is : List NodeId) (keys : List ℕ) → list_all (λ i. is_index_of_shape f (shape_of g i)) is ≡ true
@@ -100,12 +119,7 @@ module _ (g g' : Graph) (f : NodeId) (kept : KeepsIndexes g g' f) where
       let t = and_both _ _ h in ap₂ (λ x xs. x ∷ xs) (kept.intervals i key t.0) (same_intervals is keys t.1)
 
   same_indexes : (keys : List ℕ) → IsRow g f keys → IsRow g' f keys → indexes_of g' f ≡ indexes_of g f
-  same_indexes keys row row' =
-      let grown = kept.indexes in
-      let size : length (indexes_of g' f) ≡ length (indexes_of g f) + length grown.0 = ap length grown.1 ∙ length-append (indexes_of g f) grown.0 in
-      let was = row.a_key_each in
-      let is = row'.a_key_each in
-      grown.1 ∙ ap (λ xs. indexes_of g f ++ xs) (nil_from_length grown.0 (omega arith)) ∙ append-nil (indexes_of g f)
+  same_indexes = indexes_of_row g g' f kept.indexes
 
   pub same_parents : (keys : List ℕ) → IsRow g f keys → IsRow g' f keys → record_parents g' f keys ≡ record_parents g f keys
   same_parents keys row row' =

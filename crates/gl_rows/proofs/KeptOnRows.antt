@@ -20,7 +20,8 @@ use Rattle.gl_catalog.specs.Manager.{state_of}
 use Rattle.gl_rows.specs.declared.row.Row.{Row}
 use Rattle.gl_rows.specs.Promises.{IsOwnInBoth, IsRegistry, KeepsOnRows, OwnKeys, effect_of, effect_on, of_node, reads_row, row_effect, writes_row}
 use Rattle.gl_rows.specs.Rows.{RegistryView, name_of}
-use Rattle.gl_rows.proofs.KeptRows.{SameParents, row_more, row_same}
+use Rattle.gl_rows.proofs.KeptRows.{row_more, row_same}
+use Rattle.gl_rows.proofs.Ways.{RowsFollow}
 use Rattle.gl_rows.proofs.NameChanges.{ChangesNames, changed_hold, record_live, was_named}
 use Rattle.gl_rows.proofs.NodeRows.{node_effect}
 use Rattle.gl_rows.proofs.RowEffects.{as_great, reads_at, writes_at}
@@ -78,9 +79,10 @@ module _ (v : RegistryView) (is : IsRegistry v) (t : ℕ) (row : Row) (keys : Li
       (λ e. ap (λ x. is_at_least_effect x (row_effect st t row.file keys)) (on_none e) ∙ effect_refl (row_effect st t row.file keys))
       (λ n e. ap (λ x. is_at_least_effect x (row_effect st t row.file keys)) (on_node n e) ∙ (node_effect v is.law is.names row keys own n e t).above)
 
--- two registries: t keeps its locks and its effective modes on nodes that remain, a row its parents, and a node that lives before and after its row
+-- two registries: t keeps its locks, and its effective modes on nodes that remain and on the parents of a row, and a node that lives before and after its row
 module _ (v v' : RegistryView) (t : TxnId) (granted : Bool) (is : IsRegistry v) (law' : IsLawful (state_of v'.manager))
-    (over : KeepsOver (state_of v.manager) (state_of v'.manager) t granted) (parents : (f : NodeId) → SameParents (state_of v.manager) (state_of v'.manager) f)
+    (over : KeepsOver (state_of v.manager) (state_of v'.manager) t granted)
+    (follow : (f : NodeId) → RowsFollow (state_of v.manager) (state_of v'.manager) t.slot granted f)
     (names : ChangesNames v.rows v'.rows (state_of v.manager).graph (state_of v'.manager).graph) where
   abbrev s : State
   s = state_of v.manager
@@ -145,14 +147,14 @@ module _ (v v' : RegistryView) (t : TxnId) (granted : Bool) (is : IsRegistry v) 
         (λ n e e'. on_node v' is' t.slot row keys own.still_own n e' ∙ over.same quiet n (lives_before n e) (lives_behind n e')
         ∙ sym (on_node v is t.slot row keys own.own n e))
         (λ went came. on_row v' is' t.slot row keys own.still_own (λ n e. over.held_same quiet n ∙ held_dead s is.law t.slot n (came n e))
-        ∙ row_same s s' is.law law' row.file (parents row.file) keys own.rows t.slot (over.same quiet) ∙ sym (before_row went))
+        ∙ row_same s s' t.slot granted row.file (follow row.file) keys own.rows quiet ∙ sym (before_row went))
 
     more_on : is_at_least_effect on_v' on_v ≡ true
     more_on = found
         (λ n e e'. ap₂ is_at_least_effect (on_node v' is' t.slot row keys own.still_own n e') (on_node v is t.slot row keys own.own n e)
         ∙ over.greater n (lives_before n e) (lives_behind n e'))
         (λ went came. as_great on_v' by_s' on_v (above_row v' is' t.slot row keys own.still_own)
-        (ap (is_at_least_effect by_s') (before_row went) ∙ row_more s s' is.law law' row.file (parents row.file) keys own.rows t.slot over.greater))
+        (ap (is_at_least_effect by_s') (before_row went) ∙ row_more s s' t.slot granted row.file (follow row.file) keys own.rows))
 
   pub keeps_on_rows : KeepsOnRows v v' t granted
   keeps_on_rows = record { same = λ quiet row keys own. same_on row keys own quiet; greater = more_on }

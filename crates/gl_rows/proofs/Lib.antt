@@ -18,6 +18,7 @@ pub mod CarriedOut
 pub mod KeptIndexes
 pub mod DroppedIndexes
 pub mod RunsKeepIndexes
+pub mod Ways
 -- effective modes on rows
 pub mod RowEffects
 pub mod StandingRows

@@ -35,17 +35,17 @@ use Rattle.gl_rows.specs.Serving.{Dropped, Ended, GaveBack, IsServed, Nothing, R
 use Rattle.gl_rows.proofs.CarriedOut.{call_course, unchanged}
 use Rattle.gl_rows.proofs.Dropped.{served_changes}
 use Rattle.gl_rows.proofs.GraphChanges.{step_graph}
-use Rattle.gl_rows.proofs.KeptIndexes.{keeps_trans, same_parents}
 use Rattle.gl_rows.proofs.KeptOnRows.{keeps_on_rows}
 use Rattle.gl_rows.proofs.NameChanges.{ChangesNames, names_stay, same_records}
-use Rattle.gl_rows.proofs.RunsKeepIndexes.{KeepsAll, is_drop, run_keeps as run_keeps_indexes, step_parents}
+use Rattle.gl_rows.proofs.RunsKeepIndexes.{is_drop}
+use Rattle.gl_rows.proofs.Ways.{KeepsWays, rows_by_ways, run_ways, step_rows, ways_trans}
 use Rattle.gl_rows.proofs.Tidied.{IsOfLocks, ended_so, gave_back_so, released_so, tidy_upkeep}
 
--- what commands keep that do not name t and drop nothing: the law of a state, what t keeps, and indexes
+-- what commands keep that do not name t and drop nothing: the law of a state, what t keeps, and the ways to rows
 pub record Over (s s' : State) (t : TxnId) (granted : Bool) : Type 0 where
   pub law : IsLawful s'
   pub keeps : KeepsOver s s' t granted
-  pub indexes : KeepsAll s.graph s'.graph
+  pub ways : (f : NodeId) → KeepsWays s s' t.slot granted f
 
 pub over_as : (s s' : State) (t : TxnId) {g h : Bool} → g ≡ h → Over s s' t g → Over s s' t h
 over_as s s' t e over = subst (Over s s' t) e over
@@ -54,7 +54,7 @@ pub over_then : (s mid s' : State) (t : TxnId) (g h : Bool) → IsLawful s → O
 over_then s mid s' t g h law a b = record {
   law = b.law;
   keeps = over_trans s mid s' t g h law a.keeps b.keeps;
-  indexes = λ f. keeps_trans s.graph mid.graph s'.graph f law.graph (a.indexes f) (b.indexes f);
+  ways = λ f. ways_trans s mid s' law t.slot g h f (a.ways f) (b.ways f);
 }
 
 -- if nothing is dropped, no index is
@@ -73,7 +73,7 @@ pub over_run : (s s' : State) (cs : List Command) (rs : List (Answer × Told)) (
 over_run s s' cs rs t law run alive apart stay = record {
   law = runs_keep_law s s' cs rs law run;
   keeps = run_keeps cs rs s s' t law run alive apart;
-  indexes = λ f. run_keeps_indexes cs rs s s' f law (no_index_dropped s.graph f cs stay) run;
+  ways = λ f. run_ways cs rs s s' t f law run alive apart (no_index_dropped s.graph f cs stay);
 }
 
 -- one step
@@ -110,7 +110,8 @@ over_path (suc k) u ask m last r m' t law path alive apart =
 pub keeps_rows : (v v' : RegistryView) (t : TxnId) (granted : Bool) → IsRegistry v → Over (state_of v.manager) (state_of v'.manager) t granted
     → ChangesNames v.rows v'.rows (state_of v.manager).graph (state_of v'.manager).graph → KeepsOnRows v v' t granted
 keeps_rows v v' t granted is over names =
-    keeps_on_rows v v' t granted is over.law over.keeps (λ f. same_parents (state_of v.manager).graph (state_of v'.manager).graph f (over.indexes f)) names
+    keeps_on_rows v v' t granted is over.law over.keeps
+    (λ f. rows_by_ways (state_of v.manager) (state_of v'.manager) is.law over.law t granted over.keeps f (over.ways f)) names
 
 -- a path
 pub paths_keep_on_rows : PathsKeepOnRows
@@ -197,10 +198,10 @@ module _ (v v' : RegistryView) (c : Command) (a : Answer) (told : Told) (t : Txn
   alone : v'.manager ≡ h.mid → Kept
   alone same =
       let step : Step s c a told s' = subst (λ (m : ManagerView). Step s c a told (state_of m)) (sym same) h.applies.step in
-      keeps_on_rows v v' t (is_granted t told) is (steps_keep_law s s' c a told is.law step)
-      (subst (KeepsOver s s' t) (or-false (is_granted t told))
-      (run_keeps (c ∷ []) ((a, told) ∷ []) s s' t is.law (s', step, refl) alive (or-false (names t c) ∙ apart)))
-      (step_parents s s' c a told is.law step) changes
+      let law' = steps_keep_law s s' c a told is.law step in
+      let keeps = subst (KeepsOver s s' t) (or-false (is_granted t told))
+      (run_keeps (c ∷ []) ((a, told) ∷ []) s s' t is.law (s', step, refl) alive (or-false (names t c) ∙ apart)) in
+      keeps_on_rows v v' t (is_granted t told) is law' keeps (λ f. step_rows s s' is.law law' t (is_granted t told) keeps f c a told step) changes
 
   -- then rows are let go
   goes : IsOfLocks c → Upkeep (state_of h.mid) s' → Kept

@@ -1,12 +1,12 @@
 -- Commands that touch no record of some files leave the records of these files as they are.
 use Rattle.std.specs.Prelude.{◌≡◌, ℕ, Bool, true, false, List, [], ◌∷◌, Option, Some}
-use Rattle.std.proofs.Common.{refl, sym, ap, ◌∙◌}
+use Rattle.std.proofs.Common.{refl, sym, ap, ⊎_elim, subst, ◌∙◌}
 use Rattle.gl_modes.proofs.NodeLemmas.{same_node-equal, same_node-other}
 use Rattle.gl_modes.proofs.Words.{clash, not_true, split}
 use Rattle.gl_modes.specs.Nodes.{same_node}
 use Rattle.gl_modes.specs.declared.node.NodeId.{NodeId}
 use Rattle.gl_graph.specs.Changes.{born_node, born_nodes, marked, with_node, without_branch, without_node}
-use Rattle.gl_graph.specs.Graph.{Graph, Node, first_in, first_parent, node_at, parents_in, shape_in, shape_of}
+use Rattle.gl_graph.specs.Graph.{Graph, Node, first_in, first_parent, is_live, node_at, parents_in, shape_in, shape_of}
 use Rattle.gl_graph.specs.Lawful.{IsLawfulGraph}
 use Rattle.gl_graph.specs.Shapes.{Shape, Rec, is_interval_shape, is_record_shape}
 use Rattle.gl_graph.proofs.Born.{old_or_new, old_same, place_in}
@@ -22,6 +22,7 @@ use Rattle.gl_model.proofs.law.Rows.{left_was}
 use Rattle.gl_steps.specs.declared.command.Answer.{Answer}
 use Rattle.gl_steps.specs.declared.command.Command.{Command}
 use Rattle.gl_steps.specs.Step.{Step}
+use Rattle.gl_steps.proofs.SplitKeeps.{IsRecut}
 use Rattle.gl_rows.proofs.GraphChanges.{Drops, Outside, only_one, step_after, touches}
 use Rattle.gl_rows.proofs.NameChanges.{IsStill, SameRecords, record_live, same_records, still_at, still_back}
 
@@ -94,6 +95,22 @@ module _ (has : NodeId → Bool) (g : Graph) (law : IsLawfulGraph g) where
             (λ e. ap (λ o. first_in (parents_in o)) (at_other g n was is there key q (same_node-other q n e)));
       }
 
+  -- intervals are cut anew
+  recut_same : (s s' : State) (x y : NodeId) → s.graph ≡ g → IsRecut s s' x y → Same s'.graph
+  recut_same s s' x y is cut = subst (λ h. SameRecords has h s'.graph) is (record {
+    on = λ q rec of. on_still q rec (record_live s.graph q rec) (⊎_elim (λ l. l)
+        (λ e. clash rec (ap (λ z. is_record_shape (shape_of s.graph z)) e ∙ cut.plain.0)) (cut.stays q (record_live s.graph q rec)));
+    back = λ q rec of.
+        let live' = record_live s'.graph q rec in
+        let live = ⊎_elim (λ l. l) (λ e. clash rec (ap (λ z. is_record_shape (shape_of s'.graph z)) e ∙ cut.plain.1)) (cut.came q live') in
+        on_still q (sym (cut.kinds q live live').record_same ∙ rec) live live';
+  })
+    where
+      on_still : (q : NodeId) → is_record_shape (shape_of s.graph q) ≡ true → is_live s.graph q ≡ true → is_live s'.graph q ≡ true → IsStill s.graph s'.graph q
+      on_still q rec live live' =
+          let kind = cut.kinds q live live' in
+          record { was = rec; rec = kind.record_same ∙ rec; file = kind.file rec }
+
 -- one step
 pub step_records : (has : NodeId → Bool) (s s' : State) (c : Command) (a : Answer) (told : Told) → IsLawful s → touches has s.graph c ≡ false
     → Step s c a told s' → SameRecords has s.graph s'.graph
@@ -106,4 +123,5 @@ step_records has s s' c a told law off step =
       removed = gone_same has g law.graph;
       changed = changed_same has g law.graph;
       dropped = branch_same has g law.graph c;
+      recut = λ u u' x y of is cut. recut_same has g law.graph u u' x y is cut;
     }) off step

@@ -114,6 +114,8 @@ acting_acts (command.Rekey u r i key) t h = same_slot t u h
 acting_acts (command.Move u n ps) t h = same_slot t u h
 acting_acts (command.Drop u n) t h = same_slot t u h
 acting_acts (command.IndexBy u ps f bs) t h = same_slot t u h
+acting_acts (command.Split u i at) t h = same_slot t u h
+acting_acts (command.Merge u i) t h = same_slot t u h
 acting_acts c t h = absurd (no h)
 
 pub and_true : (b : Bool) → (b && true) ≡ b

@@ -86,6 +86,8 @@ acting_in (command.Rekey t r i key) = Some t.slot
 acting_in (command.Move t n ps) = Some t.slot
 acting_in (command.Drop t n) = Some t.slot
 acting_in (command.IndexBy t ps f bs) = Some t.slot
+acting_in (command.Split t i at) = Some t.slot
+acting_in (command.Merge t i) = Some t.slot
 acting_in c = None
 
 -- all rest on but the transaction of this slot, which has done something

@@ -419,7 +419,9 @@ pub fn acting_slot(command: &Command<'_>) -> Option<Slot>
         | Command::Rekey { txn, .. }
         | Command::Move { txn, .. }
         | Command::Drop { txn, .. }
-        | Command::IndexBy { txn, .. } => Some(txn.slot),
+        | Command::IndexBy { txn, .. }
+        | Command::Split { txn, .. }
+        | Command::Merge { txn, .. } => Some(txn.slot),
         Command::Inner { .. }
         | Command::File { .. }
         | Command::Index { .. }
