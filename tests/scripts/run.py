@@ -303,11 +303,22 @@ def first_lines():
         yield script
 
 
+def many_splits():
+    """An index has 256 bounds at most, also by splits; a merge makes room for one more."""
+    begun = [(b"inner db", OK), (b"file f : db", OK), (b"index i : db on f at", OK), (b"begin a", OK)]
+    locks = [(b"lock a IX db", b"ok IX\n"), (b"lock a IX i", b"ok IX\n"), (b"lock a X i.0", b"ok X\n")]
+    splits = [(b"split a i.%d at %d" % (place, place + 1), OK) for place in range(256)]
+    last = [(b"split a i.256 at 300", b"no 18 BadKeys\n"), (b"merge a i.0", OK), (b"split a i.255 at 300", OK)]
+    script = made("an index has 256 bounds at most", [*begun, *locks, *splits, *last], ("--schema",))
+    script.has_faults = False
+    return script
+
+
 STREAMS = made("two lines", [(b"begin a", OK), (b"begin b", OK)])
 
 
 def made_scripts():
-    return [made("no line", []), long_lines(), bad_bytes(), *crowds(), *first_lines(), STREAMS]
+    return [made("no line", []), long_lines(), bad_bytes(), *crowds(), *first_lines(), many_splits(), STREAMS]
 
 
 # ----------------------------------------------------------------------------------------------------------------------

@@ -8,7 +8,7 @@ use Rattle.gl_script.specs.declared.verb.RemovalVerb.TheVariants.{Delete, Drop}
 use Rattle.gl_script.specs.declared.verb.RequestVerb.TheVariants.{Lock, Try}
 use Rattle.gl_script.specs.declared.verb.TxnVerb.TheVariants.{Abort, Cancel, Commit, Settle}
 use Rattle.gl_script.specs.Grammar.{Adopt, Begin, BeginAgain, File, Forget, Group, Index, IndexBy, Inner, Insert, IsName, Join, Move, OfLock, OfNumber}
-use Rattle.gl_script.specs.Grammar.{OfRemoval, OfRequest, OfTxn, Rekey}
+use Rattle.gl_script.specs.Grammar.{Merge, OfRemoval, OfRequest, OfTxn, Rekey, Split}
 use Rattle.gl_interpreter.specs.declared.request.Request.TheVariants as request
 use Rattle.gl_interpreter.specs.Sayable.{EachIsSaid, HasAllCommands, IsSaid, IsSayable}
 
@@ -72,6 +72,12 @@ each s name (command.IndexBy t ps f bs) all is p =
       all.schema,
       (ps, sym p.1.2, (bs, refl, λ i. request.Apply (command.IndexBy (txn i) ps (file i) bs))),
     )
+each s name (command.Split t x bound) all is p =
+    let txn = sym p.0.2 in let node = sym p.1.2 in
+    (Split p.0.0 p.1.0 bound, (p.0.1, p.1.1, p.2), all.schema, λ i. request.Apply (command.Split (txn i) (node i) bound))
+each s name (command.Merge t x) all is p =
+    let txn = sym p.0.2 in let node = sym p.1.2 in
+    (Merge p.0.0 p.1.0, (p.0.1, p.1.1), all.schema, λ i. request.Apply (command.Merge (txn i) (node i)))
 
 pub each_is_said : EachIsSaid
 each_is_said s name asked all is p = each s name asked all is p

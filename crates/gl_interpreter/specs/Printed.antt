@@ -15,8 +15,8 @@ use Rattle.gl_model.specs.declared.txn.TxnId.{TxnId}
 use Rattle.gl_model.specs.Tellings.{Told}
 use Rattle.gl_steps.specs.declared.command.Answer.{Answer}
 use Rattle.gl_steps.specs.declared.command.Answer.TheVariants as answer
-use Rattle.gl_script.specs.Grammar.{Text, Node, Plain, Interval, Command, Inner, File, Index, IndexBy, Insert, Adopt, Forget, Rekey, Move, Group}
-use Rattle.gl_script.specs.Grammar.{OfTxn, OfLock, OfRequest, OfRemoval, OfNumber, node_text}
+use Rattle.gl_script.specs.Grammar.{Text, Node, Plain, Interval, Command, Inner, File, Index, IndexBy, Insert, Adopt, Forget, Rekey, Move, Split}
+use Rattle.gl_script.specs.Grammar.{Merge, Group, OfTxn, OfLock, OfRequest, OfRemoval, OfNumber, node_text}
 use Rattle.gl_interpreter.specs.declared.request.Said.{Said}
 use Rattle.gl_interpreter.specs.declared.request.Said.TheVariants as said
 use Rattle.gl_interpreter.specs.Script.{Script, Naming, NodeName, TxnName, NextTxn, does_to_names, node_named}
@@ -46,6 +46,8 @@ used_nodes (Adopt r f ks) = Plain f ∷ []
 used_nodes (Forget r) = Plain r ∷ []
 used_nodes (Rekey t r i k) = Plain r ∷ Plain i ∷ []
 used_nodes (Move t n ps) = n ∷ ps
+used_nodes (Split t n k) = n ∷ []
+used_nodes (Merge t n) = n ∷ []
 used_nodes (Group n) = n ∷ []
 used_nodes (OfLock v t n) = n ∷ []
 used_nodes (OfRequest v t m n) = n ∷ []
@@ -58,6 +60,8 @@ used_txn (IndexBy t n ps f bs) = t
 used_txn (Insert t r f ks) = t
 used_txn (Rekey t r i k) = t
 used_txn (Move t n ps) = t
+used_txn (Split t n k) = t
+used_txn (Merge t n) = t
 used_txn (OfTxn v t) = t
 used_txn (OfLock v t n) = t
 used_txn (OfRequest v t m n) = t

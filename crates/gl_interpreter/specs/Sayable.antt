@@ -58,6 +58,8 @@ IsSayable s (command.Adopt f keys) = IsPlainSaid s f × All IsNumber keys.now
 IsSayable s (command.Forget r) = IsPlainSaid s r
 IsSayable s (command.Drop t n) = IsTxnSaid s t × IsPlainSaid s n
 IsSayable s (command.IndexBy t ps f bs) = IsTxnSaid s t × AreSomeSaid s ps.now × IsPlainSaid s f × All IsNumber bs.now
+IsSayable s (command.Split t i bound) = IsTxnSaid s t × IsNodeSaid s i × IsNumber bound
+IsSayable s (command.Merge t i) = IsTxnSaid s t × IsNodeSaid s i
 
 -- version 2, with schema changes and traces
 pub record HasAllCommands (l : Language) : Type 0 where

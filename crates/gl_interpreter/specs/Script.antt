@@ -39,7 +39,7 @@ use Rattle.gl_script.specs.declared.verb.RequestVerb.TheVariants.{Lock, Try}
 use Rattle.gl_script.specs.declared.verb.TxnVerb.{TxnVerb}
 use Rattle.gl_script.specs.declared.verb.TxnVerb.TheVariants.{Cancel, Commit, Abort, Settle, Mark}
 use Rattle.gl_script.specs.Grammar.{Text, Node, Plain, Interval, Command, Inner, File, Index, IndexBy, Begin, BeginAgain, Join, Insert, Adopt, Forget, Rekey}
-use Rattle.gl_script.specs.Grammar.{Move, Group, OfTxn, OfLock, OfRequest, OfRemoval, OfNumber}
+use Rattle.gl_script.specs.Grammar.{Move, Split, Merge, Group, OfTxn, OfLock, OfRequest, OfRemoval, OfNumber}
 use Rattle.gl_interpreter.specs.declared.request.Request.{Request}
 use Rattle.gl_interpreter.specs.declared.request.Request.TheVariants as request
 use Rattle.gl_interpreter.specs.declared.request.Said.{Said}
@@ -148,6 +148,8 @@ Asks s (Adopt r f ks) k = (ys : Bor (List ℕ)) × (ys.now ≡ ks) × (k ≡ req
 Asks s (Forget r) k = k ≡ request.Apply (command.Forget (plain_id s.names r))
 Asks s (Rekey t r i key) k = k ≡ request.Apply (command.Rekey (txn_id s.names t) (plain_id s.names r) (plain_id s.names i) key)
 Asks s (Move t n ps) k = (xs : Bor (List NodeId)) × (xs.now ≡ node_ids s ps) × (k ≡ request.Apply (command.Move (txn_id s.names t) (node_id s n) xs))
+Asks s (Split t n bound) k = k ≡ request.Apply (command.Split (txn_id s.names t) (node_id s n) bound)
+Asks s (Merge t n) k = k ≡ request.Apply (command.Merge (txn_id s.names t) (node_id s n))
 Asks s (Group n) k = k ≡ request.Apply (command.Group (node_id s n))
 Asks s (OfTxn v t) k = k ≡ of_txn v (txn_id s.names t)
 Asks s (OfLock v t n) k = k ≡ request.Apply (of_lock v (txn_id s.names t) (node_id s n))

@@ -218,6 +218,8 @@ fn txn_name(form: &Form) -> &[u8]
         Form::Insert { txn, .. } => txn.as_slice(),
         Form::Rekey { txn, .. } => txn.as_slice(),
         Form::Move { txn, .. } => txn.as_slice(),
+        Form::Split { txn, .. } => txn.as_slice(),
+        Form::Merge { txn, .. } => txn.as_slice(),
         Form::OfTxn { txn, .. } => txn.as_slice(),
         Form::OfLock { txn, .. } => txn.as_slice(),
         Form::OfRequest { txn, .. } => txn.as_slice(),
@@ -289,7 +291,11 @@ fn put_first_unused<W: Write>(
         Form::OfRemoval { node, .. } => {
             put_unused_name(sink, writer, desk, node);
         }
-        Form::Group { node } | Form::OfLock { node, .. } | Form::OfRequest { node, .. } => {
+        Form::Group { node }
+        | Form::Split { node, .. }
+        | Form::Merge { node, .. }
+        | Form::OfLock { node, .. }
+        | Form::OfRequest { node, .. } => {
             put_unused(sink, writer, desk, node);
         }
         Form::Begin { .. } => {}

@@ -181,6 +181,15 @@ impl Desk {
                 node: self.node_id(node),
                 parents: ids,
             }),
+            Form::Split { txn, node, at } => Request::Apply(Command::Split {
+                txn: self.txn_id(txn),
+                interval: self.node_id(node),
+                at: *at,
+            }),
+            Form::Merge { txn, node } => Request::Apply(Command::Merge {
+                txn: self.txn_id(txn),
+                interval: self.node_id(node),
+            }),
             Form::Group { node } => Request::Apply(Command::Group {
                 node: self.node_id(node),
             }),

@@ -6,7 +6,8 @@ use Rattle.std.proofs.lemmas.List.Elements.{All-head, All-tail}
 use Rattle.gl_modes.proofs.Spellings.{mode_text-injective}
 use Rattle.gl_script.specs.declared.form.Language.{Language}
 use Rattle.gl_script.specs.Grammar.{Text, Command, Inner, File, Index, IndexBy, Begin, BeginAgain, Join, Insert, Adopt, Forget, Rekey, Move}
-use Rattle.gl_script.specs.Grammar.{Group, OfTxn, OfLock, OfRequest, OfRemoval, OfNumber, Listing, Holders, Queue, Locks, Waits, Txns, Cycle, Line, Orders}
+use Rattle.gl_script.specs.Grammar.{Split, Merge, Group, OfTxn, OfLock, OfRequest, OfRemoval, OfNumber}
+use Rattle.gl_script.specs.Grammar.{Listing, Holders, Queue, Locks, Waits, Txns, Cycle, Line, Orders}
 use Rattle.gl_script.specs.Grammar.{Node, Plain, Interval, IsCommand, IsListing, IsNode, IsNumber, AreSomeNodes, node_text, parents, parts, verb_of}
 use Rattle.gl_script.specs.Grammar.{Lists, fields, listing_fields, SaysFields, ListsFields, LineFields, LineSaysOneCommand}
 use Rattle.gl_script.proofs.Splitting.{cut_once, has_byte}
@@ -78,6 +79,10 @@ one_of_parts (Rekey s m g j) (Rekey t n h k) p q v e = let key : j ≡ k = decim
 one_of_parts (Move s m ps) (Move t n qs) p q v e =
     let node : m ≡ n = one_node m n p.1 q.1 (cc) in
     let others : ps ≡ qs = one_parents ps qs p.2 q.2 (cc) in cc
+one_of_parts (Split s m j) (Split t n k) p q v e =
+    let node : m ≡ n = one_node m n p.1 q.1 (cc) in
+    let bound : j ≡ k = decimal_injective j k p.2 q.2 (cc) in cc
+one_of_parts (Merge s m) (Merge t n) p q v e = let node : m ≡ n = one_node m n p.1 q.1 (cc) in cc
 one_of_parts (Group m) (Group n) p q v e = ap Group (one_node m n p q (cc))
 one_of_parts (OfTxn a s) (OfTxn b t) p q v e = cc
 one_of_parts (OfLock a s m) (OfLock b t n) p q v e = let node : m ≡ n = one_node m n p.1 q.1 (cc) in cc

@@ -36,6 +36,8 @@ pub data Command : Type 0 where
   Forget : (rec : Text) → Command
   Rekey : (txn : Text) → (rec : Text) → (index : Text) → (key : ℕ) → Command
   Move : (txn : Text) → (node : Node) → (parents : List Node) → Command
+  Split : (txn : Text) → (node : Node) → (at : ℕ) → Command
+  Merge : (txn : Text) → (node : Node) → Command
   Group : (node : Node) → Command
   OfTxn : (verb : TxnVerb) → (txn : Text) → Command
   OfLock : (verb : LockVerb) → (txn : Text) → (node : Node) → Command
@@ -101,6 +103,8 @@ IsCommand (Adopt r f ks) = IsName r × IsName f × All IsNumber ks
 IsCommand (Forget r) = IsName r
 IsCommand (Rekey t r i k) = IsName t × IsName r × IsName i × IsNumber k
 IsCommand (Move t n ps) = IsName t × IsNode n × All IsNode ps
+IsCommand (Split t n k) = IsName t × IsNode n × IsNumber k
+IsCommand (Merge t n) = IsName t × IsNode n
 IsCommand (Group n) = IsNode n
 IsCommand (OfTxn v t) = IsName t
 IsCommand (OfLock v t n) = IsName t × IsNode n
@@ -131,6 +135,8 @@ verb_of (Adopt r f ks) = verb.Adopt
 verb_of (Forget r) = verb.Forget
 verb_of (Rekey t r i k) = verb.Rekey
 verb_of (Move t n ps) = verb.Move
+verb_of (Split t n k) = verb.Split
+verb_of (Merge t n) = verb.Merge
 verb_of (Group n) = verb.Group
 verb_of (OfTxn v t) = verb.OfTxn v
 verb_of (OfLock v t n) = verb.OfLock v
@@ -169,6 +175,8 @@ parts (Adopt r f ks) = r ∷ f ∷ map decimal ks
 parts (Forget r) = r ∷ []
 parts (Rekey t r i k) = t ∷ r ∷ i ∷ decimal k ∷ []
 parts (Move t n ps) = t ∷ node_text n ∷ parents ps
+parts (Split t n k) = t ∷ node_text n ∷ codes "at" ∷ decimal k ∷ []
+parts (Merge t n) = t ∷ node_text n ∷ []
 parts (Group n) = node_text n ∷ []
 parts (OfTxn v t) = t ∷ []
 parts (OfLock v t n) = t ∷ node_text n ∷ []

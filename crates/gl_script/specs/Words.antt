@@ -23,6 +23,8 @@ word verb.Adopt = codes "adopt"
 word verb.Forget = codes "forget"
 word verb.Rekey = codes "rekey"
 word verb.Move = codes "move"
+word verb.Split = codes "split"
+word verb.Merge = codes "merge"
 word verb.Group = codes "group"
 word (verb.OfTxn Cancel) = codes "cancel"
 word (verb.OfTxn Commit) = codes "commit"
@@ -40,9 +42,12 @@ word (verb.OfRemoval Drop) = codes "drop"
 word (verb.OfNumber Release) = codes "release"
 word (verb.OfNumber Renew) = codes "renew"
 
--- the language has the verb: no node moves in version 1; drops need schema changes, marks and their releases savepoints, and a trace's verbs a trace
+-- the language has the verb: no node moves in version 1; drops, splits and merges need schema changes, marks and their releases savepoints, and a trace's
+-- verbs a trace
 abbrev pub HasVerb : Language → Verb → Type 0
 HasVerb l verb.Move = l.version ≢ version.One
+HasVerb l verb.Split = l.schema ≡ true
+HasVerb l verb.Merge = l.schema ≡ true
 HasVerb l (verb.OfRemoval Drop) = l.schema ≡ true
 HasVerb l (verb.OfTxn Mark) = l.savepoints ≡ true
 HasVerb l (verb.OfNumber Release) = l.savepoints ≡ true

@@ -12,8 +12,8 @@ use crate::reads::{Name, Used, next_name, next_number};
 use crate::series::MOST_LISTED;
 use crate::shapes::{
     adopt_parts, index_parts, insert_parts, last_number, name_parents, name_some_parents,
-    only_name, only_node, rekey_parts, txn_mode_node, txn_name, txn_node, txn_node_parents,
-    txn_number,
+    only_name, only_node, rekey_parts, split_parts, txn_mode_node, txn_name, txn_node,
+    txn_node_parents, txn_number,
 };
 use crate::verb::{LockVerb, NumberVerb, RemovalVerb, RequestVerb, TxnVerb, Verb, has_verb};
 use arrayvec::ArrayVec;
@@ -34,7 +34,7 @@ pub struct Language {
     pub version: Version,
     /// Whether it may have listings.
     pub listings: bool,
-    /// Whether it may have schema changes: `drop`, and `index` by a transaction.
+    /// Whether it may have schema changes: `drop`, `split`, `merge`, and `index` by a transaction.
     pub schema: bool,
     /// Whether it may have savepoints: `mark` and `release`.
     pub savepoints: bool,
@@ -105,6 +105,17 @@ pub enum Form {
     },
     /// Give a node other parents.
     Move {
+        txn: Name,
+        node: Used,
+    },
+    /// Split an interval of an index at this bound.
+    Split {
+        txn: Name,
+        node: Used,
+        at: u64,
+    },
+    /// Merge an interval of an index with the next one.
+    Merge {
         txn: Name,
         node: Used,
     },
@@ -207,6 +218,8 @@ pub(crate) fn read_command(
             &mut lists.nodes,
             |txn, node| Form::Move { txn, node },
         ),
+        Verb::Split => split_parts(fields, |txn, node, at| Form::Split { txn, node, at }),
+        Verb::Merge => txn_node(fields, |txn, node| Form::Merge { txn, node }),
         Verb::Group => only_node(fields, |node| Form::Group { node }),
         Verb::OfTxn(verb) => only_name(fields, |txn| Form::OfTxn { verb, txn }),
         Verb::OfLock(verb) => txn_node(fields, |txn, node| Form::OfLock { verb, txn, node }),

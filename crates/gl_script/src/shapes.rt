@@ -87,6 +87,26 @@ pub(crate) fn txn_number<F: FnOnce(Name, u64) -> Form>(fields: &mut Fields, form
     Some(form(txn, number))
 }
 
+/// A transaction, a node, the word `at`, and a bound.
+pub(crate) fn split_parts<F: FnOnce(Name, Used, u64) -> Form>(
+    fields: &mut Fields,
+    form: F,
+) -> Option<Form>
+    requires form { F.IsAlwaysCallable form }
+    ensures found { IfSome result (λ r. (txn : _) × (node : _) × (bound : _) × F.post form txn node bound r × IsName txn.items × IsNode (node_of node)
+        × IsNumber bound × (left fields.old ≡ txn.items ∷ node_text (node_of node) ∷ codes "at" ∷ decimal bound ∷ [])) }
+    ensures none { IfNone result ((t : Text) (n : Node) (k : ℕ) → IsName t → IsNode n → IsNumber k → left fields.old ≢ t ∷ node_text n ∷ codes "at"
+        ∷ decimal k ∷ []) }
+{
+    let txn = next_name(fields)?;
+    let node = next_node(fields)?;
+    if !matches!(fields.next()?, b"at") {
+        return None;
+    }
+    let bound = last_number(fields)?;
+    Some(form(txn, node, bound))
+}
+
 /// A transaction, a record, an index and a key.
 pub(crate) fn rekey_parts<F: FnOnce(Name, Name, Name, u64) -> Form>(
     fields: &mut Fields,

@@ -18,6 +18,8 @@ pub(crate) enum Verb {
     Forget,
     Rekey,
     Move,
+    Split,
+    Merge,
     Group,
     /// A transaction follows.
     OfTxn(TxnVerb),
@@ -101,6 +103,8 @@ pub(crate) fn read_verb(text: &[u8]) -> Option<Verb>
         b"forget" => Some(Verb::Forget),
         b"rekey" => Some(Verb::Rekey),
         b"move" => Some(Verb::Move),
+        b"split" => Some(Verb::Split),
+        b"merge" => Some(Verb::Merge),
         b"group" => Some(Verb::Group),
         b"cancel" => Some(Verb::OfTxn(TxnVerb::Cancel)),
         b"commit" => Some(Verb::OfTxn(TxnVerb::Commit)),
@@ -127,6 +131,7 @@ pub(crate) fn has_verb(language: Language, verb: Verb) -> bool
 {
     match verb {
         Verb::Move => matches!(language.version, Version::Two),
+        Verb::Split | Verb::Merge => language.schema,
         Verb::OfRemoval(RemovalVerb::Drop) => language.schema,
         Verb::OfTxn(TxnVerb::Mark) => language.savepoints,
         Verb::OfNumber(NumberVerb::Release) => language.savepoints,

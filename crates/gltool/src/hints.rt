@@ -99,7 +99,7 @@ fn reason(number: &[u8]) -> &'static [u8] {
         b"16" => b"is a name in use",
         b"17" => b"the file has records, or indexes if it is dropped",
         b"18" =>
-            b"bounds have to rise from above 0, and a record has one key for each index of its file",
+            b"bounds have to rise from above 0, that of a split is inside its interval, and a record has one key for each index of its file",
         b"19" => b"a counter is at its end",
         b"21" => b"is the node itself or below it",
         b"22" => b"a transaction holds the record or waits for it",
@@ -197,7 +197,7 @@ fn needs(line: &[u8], lines: Lines) -> Option<&'static [u8]> {
         b"holders" | b"queue" | b"locks" | b"waits" | b"txns" | b"cycle" if !lines.listings => {
             Some(b"--listings")
         }
-        b"drop" if !lines.schema => Some(b"--schema"),
+        b"drop" | b"split" | b"merge" if !lines.schema => Some(b"--schema"),
         b"index" if !lines.schema && is_name_first(line) => Some(b"--schema"),
         b"mark" | b"release" if !lines.savepoints => Some(b"--savepoints"),
         b"adopt" | b"forget" | b"renew" if !lines.trace => Some(b"--trace"),
@@ -244,6 +244,8 @@ fn form(verb: &[u8]) -> Option<&'static [u8]> {
         b"rekey" => b"rekey TXN RECORD INDEX KEY",
         b"move" => b"move TXN NODE, or move TXN NODE : PARENT.., after the first line `granular 2`",
         b"drop" => b"drop TXN NODE",
+        b"split" => b"split TXN INTERVAL at BOUND",
+        b"merge" => b"merge TXN INTERVAL",
         b"mark" => b"mark TXN",
         b"release" => b"release TXN MARK",
         b"adopt" => b"adopt RECORD FILE KEY..",
