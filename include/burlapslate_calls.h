@@ -69,6 +69,8 @@ bs_reply bs_call_rekey(bs_manager *manager, bs_txn txn, bs_node record, bs_node 
 bs_reply bs_call_move(bs_manager *manager, bs_txn txn, bs_node node, const bs_node *parents, size_t count,
                       bs_notices *told);
 bs_reply bs_call_drop(bs_manager *manager, bs_txn txn, bs_node node, bs_notices *told);
+bs_reply bs_call_split(bs_manager *manager, bs_txn txn, bs_node interval, uint64_t at, bs_notices *told);
+bs_reply bs_call_merge(bs_manager *manager, bs_txn txn, bs_node interval, bs_notices *told);
 bs_reply bs_call_index_by(bs_manager *manager, bs_txn txn, const bs_node *parents, size_t count, bs_node file,
                           const uint64_t *bounds, size_t bound_count);
 bs_reply bs_call_lock_row(bs_manager *manager, bs_txn txn, bs_node file, uint64_t number, const uint64_t *keys,

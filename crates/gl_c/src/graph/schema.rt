@@ -1,4 +1,5 @@
-//! Schema changes: dropped nodes, and indexes of files that have been in use.
+//! Schema changes: dropped nodes, indexes of files that have been in use, and intervals that are split
+//! and merged.
 
 ghost use Rattle.gl_steps.specs.declared.command.Command.TheVariants as command;
 ghost use Rattle.gl_c.specs.managers.Carries.{Asks, Carries, Declines, Under, command_call};
@@ -52,4 +53,42 @@ pub extern "C" fn bs_call_index_by(
         }),
         None => Reply::with_status(BAD_NUMBER),
     }
+}
+
+/// Splits an interval of an index at a bound. The transaction holds it in X, and the new interval too.
+/// It overwrites `told`.
+#[unsafe(no_mangle)]
+pub extern "C" fn bs_call_split(
+    manager: &mut Handle,
+    txn: Txn,
+    interval: Node,
+    at: u64,
+    told: &mut Notices,
+) -> Reply
+    ensures { Carries (guarded_in manager.old) (command_call (command.Split (txn_id txn) (node_id interval) at)) result told.new (guarded_in manager.new) }
+{
+    let command = Command::Split {
+        txn: txn.id(),
+        interval: interval.id(),
+        at,
+    };
+    manager.carry_out(command, told)
+}
+
+/// Merges an interval of an index with the next one. The transaction holds both in X. It overwrites
+/// `told`.
+#[unsafe(no_mangle)]
+pub extern "C" fn bs_call_merge(
+    manager: &mut Handle,
+    txn: Txn,
+    interval: Node,
+    told: &mut Notices,
+) -> Reply
+    ensures { Carries (guarded_in manager.old) (command_call (command.Merge (txn_id txn) (node_id interval))) result told.new (guarded_in manager.new) }
+{
+    let command = Command::Merge {
+        txn: txn.id(),
+        interval: interval.id(),
+    };
+    manager.carry_out(command, told)
 }
