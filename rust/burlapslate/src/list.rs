@@ -117,6 +117,10 @@ pub enum Do<'a> {
     MoveNode(Named, &'a [Named]),
     /// As [`Session::drop_node`](crate::Session::drop_node).
     DropNode(Named),
+    /// As [`Session::split`](crate::Session::split).
+    Split(Named, u64),
+    /// As [`Session::merge`](crate::Session::merge).
+    Merge(Named),
     /// As [`Session::index_by`](crate::Session::index_by).
     IndexBy(&'a [Named], Named, &'a [u64]),
     /// As [`Table::add_inner`](crate::Table::add_inner).
@@ -156,6 +160,8 @@ impl<'a> Do<'a> {
             Do::RekeyRow(..) => commands::REKEY_ROW,
             Do::MoveNode(..) => commands::MOVE,
             Do::DropNode(..) => commands::DROP,
+            Do::Split(..) => commands::SPLIT,
+            Do::Merge(..) => commands::MERGE,
             Do::IndexBy(..) => commands::INDEX_BY,
             Do::AddInner(..) => commands::ADD_INNER,
             Do::AddFile(..) => commands::ADD_FILE,
@@ -198,7 +204,8 @@ impl<'a> Do<'a> {
                 let tried = new.row(names.row(row)).keys(keys).mode(mode as u32);
                 tried.keep(keep.as_number())
             }
-            Do::Unlock(node) | Do::Escalate(node) | Do::DropNode(node) => {
+            Do::Split(interval, at) => new.node(names.node(interval)).key(at),
+            Do::Unlock(node) | Do::Escalate(node) | Do::DropNode(node) | Do::Merge(node) => {
                 new.node(names.node(node))
             }
             Do::Delete(record) | Do::Forget(record) => new.node(names.node(record)),
@@ -271,6 +278,7 @@ impl<'a> Do<'a> {
             | Do::InsertPath(..)
             | Do::Adopt(..)
             | Do::IndexBy(..)
+            | Do::Split(..)
             | Do::AddInner(..)
             | Do::AddFile(..)
             | Do::AddRowFile(..)

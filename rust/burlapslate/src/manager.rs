@@ -787,6 +787,64 @@ impl Manager {
         Ok(Notices::of(told))
     }
 
+    /// Splits an interval of an index in two: it keeps its keys below `at`, and a new interval, which is
+    /// answered, has those from `at` on. The transaction holds [`X`](Mode::X) on the interval, and from
+    /// then on on the new one too. The records of the file get the intervals of their keys, and no
+    /// effective mode is another. The places of the later intervals of the index are one higher. Who waited
+    /// for the interval is told [`Notice::Moved`](crate::Notice::Moved).
+    ///
+    /// Refused with [`WornOut`](Refusal::WornOut), [`NoSuchTxn`](Refusal::NoSuchTxn),
+    /// [`TxnWaiting`](Refusal::TxnWaiting), [`TxnCondemned`](Refusal::TxnCondemned),
+    /// [`NoSuchNode`](Refusal::NoSuchNode), [`BadParents`](Refusal::BadParents) (no interval),
+    /// [`NeedExclusive`](Refusal::NeedExclusive), [`BadKeys`](Refusal::BadKeys) (`at` is not above the first
+    /// key of the interval and below its end, or the index has as many bounds as it may have),
+    /// [`TooManyNodes`](Refusal::TooManyNodes), [`NoMemory`](Refusal::NoMemory). Takes memory. Costs a step
+    /// for each node that the manager can have had at once.
+    ///
+    /// ```
+    /// # use burlapslate::{Detect, Manager, Mode, SLOTS};
+    /// # let mut m = Manager::new(Detect::AtBlock, SLOTS)?;
+    /// # let shop = m.add_inner(&[])?;
+    /// # let orders = m.add_file(&[shop])?;
+    /// let by_day = m.add_index(&[shop], orders, &[100])?;
+    /// let txn = m.begin()?;
+    /// let early = m.interval_of(by_day, 7)?;
+    /// m.lock_path(txn, early, Mode::X)?;
+    /// let (from_50, told) = m.split(txn, early, 50)?;
+    /// assert!(told.is_empty());
+    /// assert_eq!(m.interval_of(by_day, 49)?, early);
+    /// assert_eq!(m.interval_of(by_day, 50)?, from_50);
+    /// assert!(m.merge(txn, early)?.is_empty());
+    /// assert_eq!(m.interval_of(by_day, 50)?, early);
+    /// # Ok::<(), burlapslate::Refusal>(())
+    /// ```
+    pub fn split(
+        &mut self,
+        txn: Txn,
+        interval: Node,
+        at: u64,
+    ) -> Result<(Node, Notices<'_>), Refusal> {
+        let (place, told) = self.pinned.parts();
+        let reply = accepted(sys::bs_call_split(place, txn, interval, at, told))?;
+        Ok((reply.node, Notices::of(told)))
+    }
+
+    /// Merges an interval of an index with the next one: it has the keys of both, and the next one is gone,
+    /// with its locks. The transaction holds [`X`](Mode::X) on both. The records get the intervals of their
+    /// keys, and no effective mode is another. The places of the later intervals are one lower. Who waited
+    /// for the next one is told [`Notice::Gone`](crate::Notice::Gone).
+    ///
+    /// Refused with [`WornOut`](Refusal::WornOut), [`NoSuchTxn`](Refusal::NoSuchTxn),
+    /// [`TxnWaiting`](Refusal::TxnWaiting), [`TxnCondemned`](Refusal::TxnCondemned),
+    /// [`NoSuchNode`](Refusal::NoSuchNode), [`BadParents`](Refusal::BadParents) (no interval, or the last of
+    /// its index), [`NeedExclusive`](Refusal::NeedExclusive), [`NoMemory`](Refusal::NoMemory). Takes memory.
+    /// Costs as [`split`](Manager::split).
+    pub fn merge(&mut self, txn: Txn, interval: Node) -> Result<Notices<'_>, Refusal> {
+        let (place, told) = self.pinned.parts();
+        accepted(sys::bs_call_merge(place, txn, interval, told))?;
+        Ok(Notices::of(told))
+    }
+
     /// A new index of a file that has no record now, with parents and bounds as
     /// [`add_index`](Manager::add_index) takes them. It is the last of the file's indexes. The transaction
     /// needs [`X`](Mode::X) on the file and [`IX`](Mode::IX) or greater on each parent, and holds the index

@@ -907,6 +907,24 @@ impl<'t> Session<'t> {
         done(shared::bs_table_drop(&self.call(), self.txn, node, None))
     }
 
+    /// As [`Manager::split`](crate::Manager::split): the new interval. Threads that sleep for the interval are
+    /// woken; a path begins anew with it, and a lock is answered [`Stop::Moved`].
+    pub fn split(&mut self, interval: Node, at: u64) -> Result<Node, Refusal> {
+        let table = &self.call();
+        node_of(shared::bs_table_split(table, self.txn, interval, at, None))
+    }
+
+    /// As [`Manager::merge`](crate::Manager::merge). Threads that sleep for the next interval are woken and
+    /// answered [`Stop::Gone`].
+    pub fn merge(&mut self, interval: Node) -> Result<(), Refusal> {
+        done(shared::bs_table_merge(
+            &self.call(),
+            self.txn,
+            interval,
+            None,
+        ))
+    }
+
     /// As [`Manager::index_by`](crate::Manager::index_by).
     pub fn index_by(
         &mut self,

@@ -406,6 +406,19 @@ unsafe extern "C" {
         node: Node,
         told: &mut Notices,
     ) -> Reply;
+    pub(crate) safe fn bs_call_split(
+        manager: &mut Place,
+        txn: Txn,
+        interval: Node,
+        at: u64,
+        told: &mut Notices,
+    ) -> Reply;
+    pub(crate) safe fn bs_call_merge(
+        manager: &mut Place,
+        txn: Txn,
+        interval: Node,
+        told: &mut Notices,
+    ) -> Reply;
     fn bs_call_index_by(
         manager: &mut Place,
         txn: Txn,

@@ -101,6 +101,8 @@ fn by_a_call(table: &Table, s: &mut Session<'_>, done: &[Done], each: Do<'_>) ->
         Do::RekeyRow(held, index, key) => nothing(s.rekey_row(row(held), at(index), key)),
         Do::MoveNode(node, parents) => nothing(s.move_node(at(node), &above(parents))),
         Do::DropNode(node) => nothing(s.drop_node(at(node))),
+        Do::Split(interval, key) => made(s.split(at(interval), key)),
+        Do::Merge(interval) => nothing(s.merge(at(interval))),
         Do::IndexBy(parents, file, bounds) => made(s.index_by(&above(parents), at(file), bounds)),
         Do::AddInner(parents) => made(table.add_inner(&above(parents))),
         Do::AddFile(parents) => made(table.add_file(&above(parents))),
@@ -211,6 +213,23 @@ fn schemas_answer_as_their_calls() {
             Do::IndexBy(BOTH, ROWS, &[7]),
             Do::DropNode(Named::Made(3)),
             Do::DropNode(RECORDS),
+        ]
+    });
+}
+
+#[test]
+fn splits_answer_as_their_calls() {
+    is_as_its_calls(|store| {
+        let (below, above) = (store.below.into(), store.above.into());
+        vec![
+            Do::LockPath(below, Mode::X),
+            Do::LockPath(above, Mode::X),
+            Do::Split(below, 40),
+            Do::Split(Named::Made(2), 60),
+            Do::LockInstant(Named::Made(3), Mode::X),
+            Do::Merge(Named::Made(2)),
+            Do::Merge(below),
+            Do::Split(above, 200),
         ]
     });
 }

@@ -9,7 +9,7 @@ use burlapslate::{
 use common::{ask, at_block, begin, grant, refused_lock, store, wait, Store};
 
 /// What each command of a transaction on a node is refused with.
-fn of_each(m: &mut Manager, txn: Txn, s: &Store) -> [Option<Refusal>; 11] {
+fn of_each(m: &mut Manager, txn: Txn, s: &Store) -> [Option<Refusal>; 13] {
     [
         m.lock(txn, s.root, Mode::IS).err(),
         m.try_lock(txn, s.root, Mode::IS).err(),
@@ -22,6 +22,8 @@ fn of_each(m: &mut Manager, txn: Txn, s: &Store) -> [Option<Refusal>; 11] {
         m.move_node(txn, s.file, &[s.root]).err(),
         m.drop_node(txn, s.file).err(),
         m.index_by(txn, &[s.root], s.file, &[]).err(),
+        m.split(txn, s.below, 50).err(),
+        m.merge(txn, s.below).err(),
     ]
 }
 
@@ -33,9 +35,9 @@ fn a_transaction_that_waits_or_is_condemned() {
     grant(&mut m, a, &[root], Mode::S);
     grant(&mut m, b, &[root], Mode::S);
     wait(&mut m, a, root, Mode::X);
-    assert_eq!(of_each(&mut m, a, &s), [Some(Refusal::TxnWaiting); 11]);
+    assert_eq!(of_each(&mut m, a, &s), [Some(Refusal::TxnWaiting); 13]);
     assert_eq!(ask(&mut m, b, root, Mode::X), Asked::Victim);
-    assert_eq!(of_each(&mut m, b, &s), [Some(Refusal::TxnCondemned); 11]);
+    assert_eq!(of_each(&mut m, b, &s), [Some(Refusal::TxnCondemned); 13]);
     assert_eq!(m.cancel(b).unwrap_err(), Refusal::TxnCondemned);
 }
 
@@ -45,7 +47,7 @@ fn a_transaction_that_has_ended() {
     let s = store(&mut m, root);
     let [a] = begin(&mut m);
     assert!(m.abort(a).unwrap().is_empty());
-    assert_eq!(of_each(&mut m, a, &s), [Some(Refusal::NoSuchTxn); 11]);
+    assert_eq!(of_each(&mut m, a, &s), [Some(Refusal::NoSuchTxn); 13]);
     assert_eq!(m.cancel(a).unwrap_err(), Refusal::NoSuchTxn);
     assert_eq!(m.abort(a).unwrap_err(), Refusal::NoSuchTxn);
     assert_eq!(m.settle(a).unwrap_err(), Refusal::NoSuchTxn);
@@ -75,6 +77,8 @@ fn a_node_that_is_not() {
         Refusal::NoSuchNode
     );
     assert_eq!(m.drop_node(a, none).unwrap_err(), Refusal::NoSuchNode);
+    assert_eq!(m.split(a, none, 50).unwrap_err(), Refusal::NoSuchNode);
+    assert_eq!(m.merge(a, none).unwrap_err(), Refusal::NoSuchNode);
     for (parent, file) in [(none, s.file), (root, none)] {
         let made = m.index_by(a, &[parent], file, &[]);
         assert_eq!(made, Err(Refusal::NoSuchNode));
@@ -361,6 +365,36 @@ fn drops() {
         assert_eq!(refused(&mut m, node), Refusal::NoSuchNode);
     }
     assert_eq!((m.len(), m.lock_count(a)), (0, Ok(0)));
+}
+
+/// A split and a merge are refused in this order.
+#[test]
+fn splits_and_merges() {
+    let (mut m, root) = at_block();
+    let s = store(&mut m, root);
+    let [a] = begin(&mut m);
+    for node in [root, s.file, s.index, s.low] {
+        assert_eq!(m.split(a, node, 0).unwrap_err(), Refusal::BadParents);
+        assert_eq!(m.merge(a, node).unwrap_err(), Refusal::BadParents);
+    }
+    assert_eq!(m.merge(a, s.above).unwrap_err(), Refusal::BadParents); // It is the last.
+    grant(&mut m, a, &[root, s.index], Mode::X);
+    assert_eq!(m.split(a, s.below, 0).unwrap_err(), Refusal::NeedExclusive);
+    grant(&mut m, a, &[s.below], Mode::X);
+    assert_eq!(m.merge(a, s.below).unwrap_err(), Refusal::NeedExclusive); // For want of the next.
+    for at in [0, 100, 101] {
+        assert_eq!(m.split(a, s.below, at).unwrap_err(), Refusal::BadKeys);
+    }
+    grant(&mut m, a, &[s.above], Mode::X);
+    assert_eq!(m.split(a, s.above, 100).unwrap_err(), Refusal::BadKeys);
+    let (new, told) = m.split(a, s.above, 101).unwrap();
+    assert!(told.is_empty());
+    assert_eq!(m.held(a, new), Ok(Mode::X));
+    for (interval, gone) in [(s.above, new), (s.below, s.above)] {
+        assert!(m.merge(a, interval).unwrap().is_empty());
+        assert_eq!(m.merge(a, gone).unwrap_err(), Refusal::NoSuchNode);
+    }
+    assert_eq!(m.merge(a, s.below).unwrap_err(), Refusal::BadParents);
 }
 
 /// An index of a file that has been in use is refused in this order.

@@ -293,6 +293,45 @@ fn a_file_moves() {
     });
 }
 
+/// A lock of the interval stops; a path begins anew, by the interval that the record has then.
+#[test]
+fn an_interval_is_split() {
+    let s = Store::new(Detect::AtBlock);
+    let (mut a, mut b, c) = (s.begin(), s.begin(), s.begin());
+    a.lock_path(s.below, Mode::X).unwrap();
+    b.lock_path(s.index, Mode::IX).unwrap();
+    let end = s.woken_by(c, s.low, Mode::X, || {
+        let name = b.txn();
+        let new = thread::scope(|scope| {
+            let waits = scope.spawn(move || b.lock(s.below, Mode::IX));
+            s.await_wait(name);
+            let new = a.split(s.below, 50).unwrap();
+            assert_eq!(waits.join().unwrap(), Err(Stop::Moved));
+            new
+        });
+        assert_eq!(s.held(a.txn(), new), Mode::X);
+        assert_eq!(s.table.with(|m| m.interval_of(s.index, 50)), Ok(new));
+        a.commit().unwrap();
+    });
+    assert_eq!(end, Ok(Mode::X));
+}
+
+#[test]
+fn intervals_are_merged() {
+    let s = Store::new(Detect::AtBlock);
+    let (mut a, b) = (s.begin(), s.begin());
+    for node in [s.below, s.above] {
+        a.lock_path(node, Mode::X).unwrap();
+    }
+    let end = s.woken_by(b, s.above, Mode::S, || a.merge(s.below).unwrap());
+    assert_eq!(end, Err(Stop::Gone));
+    a.commit().unwrap();
+    let mut next = s.begin();
+    assert_eq!(next.lock_path(s.below, Mode::S), Ok(Mode::S));
+    let end = next.lock_path(s.above, Mode::S);
+    assert_eq!(end, Err(Stop::Refused(Refusal::NoSuchNode)));
+}
+
 #[test]
 fn another_thread_cancels_or_aborts() {
     let s = Store::new(Detect::AtBlock);

@@ -37,6 +37,8 @@ pub(crate) const LOCK_ROW_PATH: u32 = 31;
 pub(crate) const TRY_ROW_PATH: u32 = 32;
 pub(crate) const MARK: u32 = 33;
 pub(crate) const INSERT_PATH: u32 = 34;
+pub(crate) const SPLIT: u32 = 35;
+pub(crate) const MERGE: u32 = 36;
 
 /// In a list, the transaction that its call began, or that of its session: `bs_begun`. No transaction has this name.
 pub(crate) const BEGUN: Txn = Txn {
@@ -134,6 +136,11 @@ impl<'k> Command<'k> {
 
     pub(crate) fn keep(&mut self, keep: u32) -> &mut Command<'k> {
         self.keep = keep;
+        self
+    }
+
+    pub(crate) fn key(&mut self, key: u64) -> &mut Command<'k> {
+        self.key = key;
         self
     }
 

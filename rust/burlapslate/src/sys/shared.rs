@@ -207,6 +207,19 @@ unsafe extern "C" {
     ) -> Reply;
     pub(crate) safe fn bs_table_drop(table: &Shared, txn: Txn, node: Node, told: Told<'_>)
         -> Reply;
+    pub(crate) safe fn bs_table_split(
+        table: &Shared,
+        txn: Txn,
+        interval: Node,
+        at: u64,
+        told: Told<'_>,
+    ) -> Reply;
+    pub(crate) safe fn bs_table_merge(
+        table: &Shared,
+        txn: Txn,
+        interval: Node,
+        told: Told<'_>,
+    ) -> Reply;
     fn bs_table_index_by(
         table: &Shared,
         txn: Txn,
