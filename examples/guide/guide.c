@@ -99,6 +99,8 @@ int main(void) {
   TELL(more_rows_than_nodes);
   TELL(false_conflicts);
   TELL(buckets_under_intervals);
+  TELL(ranges_that_follow_the_leaves);
+  TELL(a_range_follows_later);
   TELL(intentions_first);
   TELL(one_order_for_all);
   TELL(no_upgrades);

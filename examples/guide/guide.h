@@ -70,6 +70,10 @@ void more_rows_than_nodes(void);
 void false_conflicts(void);
 void buckets_under_intervals(void);
 
+/* leaves.c */
+void ranges_that_follow_the_leaves(void);
+void a_range_follows_later(void);
+
 /* locks.c */
 void intentions_first(void);
 void one_order_for_all(void);
