@@ -1,6 +1,6 @@
 #!/usr/bin/env bash
 # faults.sh [--tenth] [NAME..] [LIBRARY LIBRARY]: plants faults in a copy of the C sources, one at a time: the shared
-# table, its dump, its trace and what times its waits. The stories or the crowd must find each: a check fails, or they
+# table, its dump, its trace, what times its waits, and the group. The stories or the crowd must find each: a check fails, or they
 # hang or crash. `all` means every fault there is, --tenth each tenth, by turns: the sum of the folder c chooses which.
 # The libraries are the proved one and the calls for memory; without them they are the last two that tools/c_library.sh
 # prints. Ends with status 1 if a fault is not found. CC names another compiler than cc.
@@ -363,6 +363,16 @@ a-session-s-list-has-what-others-renewed	/ table_run_in_session(/,/^}/s/^    if 
 a-session-s-list-takes-nothing-up	/ table_session_goes_on(/,/^}/s/^  if (table_session_wakes(table, session)) .*//
 a-session-s-list-begins-another	/ table_session_goes_on(/,/^}/s/  if (!table_lives(table, session->txn)) return/  return/
 a-session-s-list-wakes-nobody	/ table_session_commit(/,/^}/s/^  table_wake(.*//
+group-unmarks-under-a-request	s/^    if (at->inner->in_progress == 0 \&\& /    if (/
+group-visits-no-sleepers	s/^    if (!bs_inside_sleeps(t->table, slot)) continue;/    continue;/
+group-visits-no-parents	s/^    if (!group_is_marked(t, inner->above\[above\])) status = .*/    ;/
+group-copies-nothing-before-a-sleep	s/^  if (status == BS_DONE \&\& way->may_sleep) status = group_copy_own(.*//
+group-looks-never	s/^  while (group_settle_one(group)) continue;//
+group-forgets-who-fell	s/^  if (__builtin_expect(reply.status == BS_VICTIM, 0)) own->has_fallen = true;//
+group-sees-no-marks	s/^  if (__builtin_expect(t->marks != 0, 0) \&\& /  if (false \&\& /
+group-needs-nothing-above-an-index	s/ is_whole \&\& tops->writes \&\& place/ false \&\& place/
+group-marks-stay	/ group_end_in_main(/,/^}/s/^  group_clear(.*//
+group-frees-a-slot-early	/ group_end_txn(/,/^}/s/^  bs_status status = group_end_in_parts/  bs_status status = (__atomic_store_n(\&own->is_taken, false, __ATOMIC_RELEASE), BS_DONE) + group_end_in_parts/
 a-refused-list-of-a-session-tells	/^size_t bs_session_run(/,/^}/s/^    table_list_of(table, commands\[0\].told)->count = 0;//
 FAULTS
 }
@@ -373,6 +383,7 @@ says() {
   local there=$1 program=$2 status with=()
   [ "$program" = running ] || with+=("$there/burlapslate_running.c")
   [ "$program" = traces ] || with+=("$there/burlapslate_trace.c")
+  [ "$program" != groups ] || with+=("$there/burlapslate_shared.c")
   [ "$program" = crowd ] || with+=("-Wl,--wrap=malloc,--wrap=realloc,--wrap=free")
   # shellcheck disable=SC2086 # CC and FAULT_LINKS may have several words.
   ${CC:-cc} -std=c99 -D_POSIX_C_SOURCE=200809L -pthread -O1 -w -I"$top/include" -I"$there" -o "$there/$program" \
@@ -388,8 +399,13 @@ found() {
   local there=$work/$1
   mkdir -p "$there" && cp "$top"/c/*.[ch] "$there/" && sed -i "$2" "$there"/*.c || return 1
   ! diff -q "$top/c" "$there" -x out >/dev/null || { echo "faults.sh: $1 changes nothing"; return 1; }
-  says "$there" shared 5 && says "$there" asks 5 100 && says "$there" begins 5 && says "$there" waits 5 && says "$there" sessions 5 &&
-    says "$there" own_ends 20 && says "$there" row_paths 5 && says "$there" running 5 && says "$there" traces 5 && says "$there" crowd 4 4
+  if ! cmp -s "$top/c/burlapslate_group.c" "$there/burlapslate_group.c"; then
+    says "$there" groups
+  else
+    says "$there" shared 5 && says "$there" asks 5 100 && says "$there" begins 5 && says "$there" waits 5 && says "$there" sessions 5 &&
+      says "$there" own_ends 20 && says "$there" row_paths 5 && says "$there" running 5 && says "$there" traces 5 &&
+      says "$there" crowd 4 4 && says "$there" groups
+  fi
   [ $? -eq 1 ] || { echo "faults.sh: $1 was not found"; return 1; }
   echo "$1: found: $(grep -E ': (hangs|not so|[a-z_]*: not so)' "$there/said" | tail -n 1 | sed 's/^[^ ]*\.[ch]:[0-9]*: //')"
 }

@@ -19,6 +19,7 @@ compile() {
   local with=("${@:3}") compiler=${CC:-cc}
   [ "$2" = running ] || with+=("$top/c/burlapslate_running.c")
   [ "$2" = traces ] || with+=("$top/c/burlapslate_trace.c")
+  [ "$2" != groups ] || with+=("$top/c/burlapslate_shared.c")
   # shellcheck disable=SC2054 # The commas are of one word.
   [ "$2" = crowd ] || with+=(-Wl,--wrap=malloc,--wrap=realloc,--wrap=free)
   # shellcheck disable=SC2086 # CC may have words after the name.
@@ -60,6 +61,8 @@ for tool in "$@"; do
         quiet "tsan, rows and their paths" "$work/row_paths-tsan" 60 || status=1
         quiet "tsan, times" "$work/running-tsan" 60 || status=1
         quiet "tsan, traces" "$work/traces-tsan" 60 || status=1
+        compile groups-tsan groups -fsanitize=thread || exit 1
+        quiet "tsan, a group" "$work/groups-tsan" || status=1
       elif command -v valgrind >/dev/null; then
         compile shared shared && compile asks asks && compile begins begins && compile waits waits &&
           compile own_ends own_ends && compile row_paths row_paths && compile running running || exit 1
@@ -81,7 +84,7 @@ for tool in "$@"; do
         ! compile begins-tsan begins -fsanitize=thread || ! compile waits-tsan waits -fsanitize=thread ||
         ! compile own_ends-tsan own_ends -fsanitize=thread || ! compile row_paths-tsan row_paths -fsanitize=thread ||
         ! compile running-tsan running -fsanitize=thread ||
-        ! compile traces-tsan traces -fsanitize=thread ||
+        ! compile traces-tsan traces -fsanitize=thread || ! compile groups-tsan groups -fsanitize=thread ||
         ! compile crowd-tsan crowd -fsanitize=thread; then
         echo "tsan: this compiler has none, so nothing was tried"
         continue
@@ -94,6 +97,8 @@ for tool in "$@"; do
       quiet "tsan, rows and their paths" "$work/row_paths-tsan" 300 || status=1
       quiet "tsan, times" "$work/running-tsan" 300 || status=1
       quiet "tsan, traces" "$work/traces-tsan" 300 || status=1
+      quiet "tsan, a group" "$work/groups-tsan" || status=1
+      quiet "tsan, a crowd in a group" "$work/groups-tsan" 20 || status=1
       quiet "tsan, the crowd" "$work/crowd-tsan" 4 300 || status=1
       ;;
     helgrind | drd)
@@ -102,7 +107,8 @@ for tool in "$@"; do
         continue
       fi
       compile shared shared && compile asks asks && compile begins begins && compile waits waits &&
-        compile own_ends own_ends && compile row_paths row_paths && compile running running && compile crowd crowd || exit 1
+        compile own_ends own_ends && compile row_paths row_paths && compile running running && compile crowd crowd &&
+        compile groups groups || exit 1
       quiet "$tool, the stories" "${watched[@]}" "$work/shared" 900 256 || status=1
       quiet "$tool, the asks" "${watched[@]}" "$work/asks" 900 20 || status=1
       quiet "$tool, asked begins" "${watched[@]}" "$work/begins" 900 20 || status=1
@@ -110,6 +116,7 @@ for tool in "$@"; do
       quiet "$tool, own ends" "${watched[@]}" "$work/own_ends" 900 || status=1
       quiet "$tool, rows and their paths" "${watched[@]}" "$work/row_paths" 900 || status=1
       quiet "$tool, times" "${watched[@]}" "$work/running" 900 || status=1
+      quiet "$tool, a group" "${watched[@]}" "$work/groups" || status=1
       quiet "$tool, the crowd" "${watched[@]}" "$work/crowd" 1 900 || status=1
       ;;
     *)

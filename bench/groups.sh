@@ -1,0 +1,16 @@
+#!/usr/bin/env bash
+# groups.sh: what 1, 2, 4 and 16 threads do a second with a shared table, and with a group of tables. Run from anywhere:
+#
+#     bench/groups.sh [SECONDS [PARTS]]
+#
+# Each transaction locks a record of the thread's own in X, in a file of the thread's own, by its path from the database,
+# and commits. For each number of threads a row for each side has its transactions a second, the median of five turns of
+# SECONDS (0.3 by default), and how many times those of the table by calls they are. The sides, by turns: a table by
+# calls; the same with each transaction in one list; a group of PARTS (16 by default), with the files in parts by turns;
+# and the group while another transaction has S on an area where none of the threads works. CC names another compiler
+# than cc.
+
+# shellcheck source-path=SCRIPTDIR source=frame/frame.sh
+. "$(dirname "$0")/frame/frame.sh" || exit 2
+compile groups "$top/bench/groups/main.c" || exit 1
+"$work/groups" "${1:-0.3}" "${2:-16}"

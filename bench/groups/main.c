@@ -1,0 +1,150 @@
+/*
+ * What threads do a second with a table and with a group of tables, by turns in one program: each transaction locks a
+ * record of the thread's own in BS_X, in a file of the thread's own, by its path from the data base, and commits.
+ *
+ *   groups [SECONDS [PARTS]]    for 1, 2, 4 and 16 threads prints a row for each side, the median of five turns, each as
+ *                               long as this (0.3): transactions a second, and how many times those of the table by calls
+ *
+ * The sides are a table by calls, the same with each transaction in one list, a group, and the group while a transaction
+ * that only reads has BS_S on an area where none of the threads works. PARTS is 16 if it is not named.
+ */
+#include "burlapslate_group.h"
+
+#include <pthread.h>
+#include <stdio.h>
+#include <stdlib.h>
+#include <string.h>
+
+enum { MOST_THREADS = 16, TURNS = 5, SIDES = 4, COUNTS = 4 };
+
+static const size_t counts[COUNTS] = { 1, 2, 4, 16 };
+static const char *const sides[SIDES] = { "table, by calls", "table, in a list", "group", "group, one area in S" };
+
+static bs_table *table;
+static bs_table_group *group;
+static bs_node in_table[MOST_THREADS], in_group[MOST_THREADS], idle_area;
+static volatile bool is_over;
+
+static struct worker {
+  pthread_t thread;
+  size_t number;
+  int side;
+  uint64_t done;
+} __attribute__((aligned(128))) workers[MOST_THREADS];
+
+static bs_reply done(bs_reply reply, int line) {
+  if (reply.status == BS_DONE) return reply;
+  fprintf(stderr, "line %d: answered: %s\n", line, bs_text(reply.status));
+  exit(1);
+}
+
+#define DONE(call) done((call), __LINE__)
+
+static void by_calls(bs_node record) {
+  bs_txn txn = DONE(bs_table_begin(table)).txn;
+  DONE(bs_table_lock_path(table, txn, record, BS_X, NULL));
+  DONE(bs_table_commit(table, txn, NULL));
+}
+
+static void in_list(bs_node record) {
+  bs_command list[3];
+  list[0] = bs_do(BS_DO_BEGIN, bs_begun());
+  list[1] = bs_do_at(BS_DO_LOCK_PATH, bs_begun(), record, BS_X);
+  list[2] = bs_do(BS_DO_COMMIT, bs_begun());
+  if (bs_table_run(table, list, 3) != 3) exit(1);
+}
+
+static void in_a_group(bs_node record) {
+  bs_txn txn = DONE(bs_group_begin(group)).txn;
+  DONE(bs_group_lock_path(group, txn, record, BS_X, NULL));
+  DONE(bs_group_commit(group, txn));
+}
+
+static void *work(void *place) {
+  struct worker *own = place;
+  while (!is_over) {
+    if (own->side == 0) by_calls(in_table[own->number]);
+    else if (own->side == 1) in_list(in_table[own->number]);
+    else in_a_group(in_group[own->number]);
+    own->done++;
+  }
+  return NULL;
+}
+
+static void make_scene(uint32_t parts) {
+  bs_node base, area;
+  bs_txn txn;
+  size_t i;
+  DONE(bs_table_make(&table, NULL));
+  base = DONE(bs_table_add_inner(table, NULL, 0)).node;
+  area = DONE(bs_table_add_inner(table, &base, 1)).node;
+  txn = DONE(bs_table_begin(table)).txn;
+  for (i = 0; i < MOST_THREADS; i++) {
+    bs_node file = DONE(bs_table_add_file(table, &area, 1)).node;
+    DONE(bs_table_lock_path(table, txn, file, BS_IX, NULL));
+    in_table[i] = DONE(bs_table_insert(table, txn, file, NULL, 0)).node;
+  }
+  DONE(bs_table_commit(table, txn, NULL));
+  DONE(bs_group_make(&group, NULL, parts));
+  base = DONE(bs_group_add_inner(group, NULL, 0)).node;
+  area = DONE(bs_group_add_inner(group, &base, 1)).node;
+  idle_area = DONE(bs_group_add_inner(group, &base, 1)).node;
+  txn = DONE(bs_group_begin(group)).txn;
+  for (i = 0; i < MOST_THREADS; i++) {
+    bs_node file = DONE(bs_group_add_file(group, 0, &area, 1)).node;
+    in_group[i] = DONE(bs_group_insert(group, txn, file, NULL, 0)).node;
+  }
+  DONE(bs_group_commit(group, txn));
+}
+
+static double turn(int side, size_t threads, double seconds) {
+  struct timespec rest = { (time_t)seconds, (long)((seconds - (double)(time_t)seconds) * 1e9) }, from, to;
+  uint64_t all = 0;
+  bs_txn reader = { 0, 0 };
+  size_t i;
+  if (side == 3) DONE(bs_group_lock_path(group, reader = DONE(bs_group_begin(group)).txn, idle_area, BS_S, NULL));
+  is_over = false;
+  clock_gettime(CLOCK_MONOTONIC, &from);
+  for (i = 0; i < threads; i++) {
+    workers[i].number = i;
+    workers[i].side = side;
+    workers[i].done = 0;
+    if (pthread_create(&workers[i].thread, NULL, work, &workers[i]) != 0) exit(1);
+  }
+  nanosleep(&rest, NULL);
+  is_over = true;
+  for (i = 0; i < threads; i++) {
+    pthread_join(workers[i].thread, NULL);
+    all += workers[i].done;
+  }
+  clock_gettime(CLOCK_MONOTONIC, &to);
+  if (side == 3) DONE(bs_group_commit(group, reader));
+  return (double)all / ((double)(to.tv_sec - from.tv_sec) + (double)(to.tv_nsec - from.tv_nsec) / 1e9);
+}
+
+static int by_size(const void *a, const void *b) {
+  const double *one = a, *other = b;
+  return (*one > *other) - (*one < *other);
+}
+
+int main(int count, char **words) {
+  double seconds = count > 1 ? atof(words[1]) : 0.3, figures[SIDES][TURNS];
+  size_t i;
+  int side, at;
+  make_scene(count > 2 ? (uint32_t)atoi(words[2]) : 16);
+  for (i = 0; i < COUNTS; i++) {
+    for (at = 0; at < TURNS; at++) {
+      for (side = 0; side < SIDES; side++) figures[side][at] = turn(side, counts[i], seconds);
+    }
+    for (side = 0; side < SIDES; side++) {
+      qsort(figures[side], TURNS, sizeof figures[side][0], by_size);
+      printf("%8zu  %-24s%12.0f%8.2f\n", counts[i], sides[side], figures[side][TURNS / 2],
+             figures[side][TURNS / 2] / figures[0][TURNS / 2]);
+    }
+  }
+  DONE(bs_group_end(group));
+  DONE(bs_group_free(&group));
+  DONE(bs_table_end(table));
+  DONE(bs_table_free(&table));
+  return 0;
+}

@@ -1,0 +1,1429 @@
+/*
+ * burlapslate_group.c: the group of burlapslate_group.h: a main table and parts, each a table of burlapslate_shared.h.
+ *
+ * WHAT IS PROVED, AND WHAT IS NOT. The library is proved, and so are the laws of managers that work as one (gl_parts):
+ * if the main manager leads the parts, no two transactions conflict on any node of the whole; and each step that is
+ * allowed leaves it so. That this source takes only such steps is written in C, and tested.
+ *
+ * LATCHES are acquired by rising number: nobody acquires the main table's while holding a part's.
+ *
+ * MARKS. Each part has marks, a set of inner nodes. They are read with the part's latch or the main table's, and are
+ * changed with both. For each inner node and each part:
+ *   - in the part it is requested in BS_IS or BS_IX alone;
+ *   - if it is not marked, nobody has more than an intention on it in the main table, nobody waits there for more, and
+ *     no request for more is in progress, which may wait for a node above it;
+ *   - if it is marked, who holds it in the part holds at least that in the main table, and who waits in the part for
+ *     something below it has there the intention that its path needs.
+ * group_reach, before a request in a part, and group_visit, before a request for more in the main table, see to that.
+ *
+ * VISITORS act in the main table for others, with the latch of a part where these hold something or sleep: they join it
+ * for them and copy their locks. A transaction looks at its end whether it is in the main table, after it has left its
+ * parts: no visitor finds it any more.
+ *
+ * BEFORE A SLEEP in the main table all that a transaction holds in its parts on inner nodes is copied there, since
+ * nobody can copy it while it waits.
+ */
+#include "burlapslate_group.h"
+#include "burlapslate_inside.h"
+#include "burlapslate_parts.h"
+
+#include <stdlib.h>
+
+/* Rare code is not inlined. */
+#define GROUP_APART __attribute__((noinline))
+
+enum { GROUP_LINE = 64, GROUP_AGES = 64, GROUP_FIRST_ROOM = 16, GROUP_MOST_INDEXES = 8 };
+
+/* An inner node. Its number is its place in each table, and rises from parents to children. It never changes, but for
+ * `in_progress`, which is read and written with the main table's latch. */
+typedef struct group_inner {
+  uint64_t birth;                   /* of its name in the group: that of its name in the main table */
+  const struct group_inner *parent; /* its first one; null if it is a root */
+  uint32_t number;
+  uint32_t in_progress;             /* how many requests for more than an intention on it have not ended */
+  uint32_t above_count;
+  uint32_t above[];                 /* all nodes above it, by rising number */
+} group_inner;
+
+/* An inner node in a table. */
+typedef struct group_place {
+  bs_node node;
+  group_inner *inner;
+} group_place;
+
+/* A table of a group. `at` and `numbers` are read and written with its latch. */
+typedef struct group_table {
+  bs_table *table;
+  bs_manager *manager;
+  group_place *at;      /* the inner nodes by number */
+  uint32_t *numbers;    /* a hash by the keys of the names in the table: numbers, each plus 1, in twice as many places
+                         * as there is room */
+  uint64_t *marked;     /* the bits of the marks, by number */
+  uint32_t marks;       /* how many are marked */
+  uint32_t count, room; /* of inner nodes; the room is a power of two */
+  uint32_t number;
+} __attribute__((aligned(GROUP_LINE))) group_table;
+
+/* What a transaction requests in a part, by the part's names. */
+typedef struct group_target {
+  bs_node node;
+  bool is_whole; /* it is a file, and a record or a row of it is requested, which is below its indexes too */
+  bs_mode mode;
+} group_target;
+
+/* A transaction, by slot. Its thread alone uses it. Others read `since` and `target` with the latch of a part where it
+ * holds something or sleeps: its thread wrote them before it acquired that latch, or with it. */
+typedef struct group_slot {
+  bool is_taken;               /* atomic */
+  bool has_fallen;
+  bool is_in_main, is_spread;  /* atomic: it has joined the main table; it has joined two tables */
+  uint32_t number;
+  uint64_t age;                /* atomic; 0: there is none */
+  uint64_t since;
+  uint64_t next_age, end_age;  /* the ages that the slot may give */
+  uint64_t used;               /* bit p: it has joined part p */
+  group_target target;
+  bs_txn in[];                 /* its name in each part, by number; with age 0 it has not joined */
+} group_slot;
+
+typedef enum group_stage { GROUP_OPEN = 0, GROUP_ENDING, GROUP_ENDED } group_stage;
+
+struct bs_table_group {
+  void *block;              /* what malloc gave */
+  uint32_t parts, most;     /* how many parts there are, and slots */
+  uint32_t stage;           /* atomic, of enum group_stage */
+  size_t stride;            /* from a slot to the next */
+  unsigned char *slots;
+  void *slots_block;
+  uint64_t *seen;           /* with the main table's latch, as up to `faults`: bits by number, none between two uses */
+  uint32_t *strong;         /* numbers */
+  uint64_t faults;          /* how many copies were not granted at once: by the laws there is none */
+  bs_board joined, one;     /* with all latches, as the next: of a look */
+  uint32_t sleeps_in[BS_SLOTS];
+  uint64_t ages __attribute__((aligned(GROUP_LINE)));   /* atomic: the next ages for a slot */
+  uint64_t next_part;                                   /* atomic: for the next file by turns */
+  uint64_t spread __attribute__((aligned(GROUP_LINE))); /* atomic: how many transactions are in several tables */
+  uint64_t looked;                                      /* atomic: the time of the last look */
+  group_table tables[];
+};
+
+/* The slot that this thread had last. */
+static __thread __attribute__((tls_model("initial-exec"))) struct {
+  const bs_table_group *group;
+  uint32_t slot;
+} group_last;
+
+static inline group_slot *group_slot_at(const bs_table_group *group, uint32_t slot) {
+  return (group_slot *)(void *)(group->slots + slot * group->stride);
+}
+
+static inline bs_reply group_only(bs_status status) {
+  return bs_call_only(status);
+}
+
+/* ------------------------------------------------------------------------------------------------
+ * Inner nodes in a table, and names.
+ */
+
+static inline size_t group_hash(const group_table *t, size_t key) {
+  return (size_t)((uint64_t)key * UINT64_C(0x9E3779B97F4A7C15) >> 32) & (2 * (size_t)t->room - 1);
+}
+
+static inline bool group_is_node(bs_node one, bs_node other) {
+  return one.key == other.key && one.birth == other.birth;
+}
+
+/* The inner node that has this name in the table; null if none has. */
+static group_inner *group_inner_of(const group_table *t, bs_node node) {
+  size_t place;
+  if (t->room == 0) return NULL;
+  for (place = group_hash(t, node.key); t->numbers[place] != 0; place = (place + 1) & (2 * (size_t)t->room - 1)) {
+    const group_place *at = &t->at[t->numbers[place] - 1];
+    if (group_is_node(at->node, node)) return at->inner;
+  }
+  return NULL;
+}
+
+/* The inner node that has this name in the group, if the table has it; else null. */
+static group_inner *group_inner_named(const group_table *t, bs_node node) {
+  if (node.key >= t->count || t->at[node.key].inner->birth != node.birth) return NULL;
+  return t->at[node.key].inner;
+}
+
+/* The name in a table of a node of the group; all zero, which names nothing, if it is not there. */
+static bs_node group_name_there(const group_table *t, bs_node node) {
+  bs_node name = { 0, 0 };
+  uint32_t of = bs_group_table(node);
+  if (of == 0 && group_inner_named(t, node) != NULL) return t->at[node.key].node;
+  if (of == 0 || of != t->number) return name;
+  name.key = (uint32_t)node.key;
+  name.birth = node.birth;
+  return name;
+}
+
+/* The name in the group of a node of a table; all zero if it has none. */
+static bs_node group_name_here(const group_table *t, bs_node node) {
+  const group_inner *inner = group_inner_of(t, node);
+  bs_node name = { 0, 0 };
+  if (node.birth == 0 || (inner == NULL && t->number == 0)) return name;
+  name.key = inner != NULL ? inner->number : (size_t)t->number << 32 | node.key;
+  name.birth = inner != NULL ? inner->birth : node.birth;
+  return name;
+}
+
+/* Releases the latch of a table after a call that was answered so, whose node gets its name in the group. */
+static inline bs_reply group_leave(const group_table *t, bs_reply reply) {
+  if (reply.node.birth != 0) reply.node = group_name_here(t, reply.node);
+  bs_inside_release(t->table);
+  return reply;
+}
+
+static inline bool group_is_marked(const group_table *t, uint32_t number) {
+  return (t->marked[number / 64] >> number % 64 & 1) != 0;
+}
+
+static void group_mark(group_table *t, uint32_t number, bool is_marked) {
+  if (group_is_marked(t, number) == is_marked) return;
+  t->marked[number / 64] ^= (uint64_t)1 << number % 64;
+  if (is_marked) t->marks++;
+  else t->marks--;
+}
+
+/* Writes an inner node into the hash. */
+static void group_enlist(group_table *t, uint32_t number) {
+  size_t place = group_hash(t, t->at[number].node.key);
+  while (t->numbers[place] != 0) place = (place + 1) & (2 * (size_t)t->room - 1);
+  t->numbers[place] = number + 1;
+}
+
+/* Memory that is zero; null if it is refused. */
+static void *group_zero(size_t size) {
+  void *block = malloc(size);
+  if (block != NULL) memset(block, 0, size);
+  return block;
+}
+
+/* Makes room in a table for one more inner node; false if memory is refused. */
+static bool group_make_room(group_table *t) {
+  uint32_t room = t->room == 0 ? GROUP_FIRST_ROOM : 2 * t->room, number;
+  group_place *at;
+  uint32_t *numbers;
+  uint64_t *marked;
+  if (t->count < t->room) return true;
+  at = (group_place *)group_zero(room * sizeof *at);
+  numbers = (uint32_t *)group_zero(2 * (size_t)room * sizeof *numbers);
+  marked = (uint64_t *)group_zero((room + 63) / 64 * sizeof *marked);
+  if (at == NULL || numbers == NULL || marked == NULL) {
+    free(at);
+    free(numbers);
+    free(marked);
+    return false;
+  }
+  if (t->count > 0) {
+    memcpy(at, t->at, t->count * sizeof *at);
+    memcpy(marked, t->marked, (t->room + 63) / 64 * sizeof *marked);
+  }
+  free(t->at);
+  free(t->numbers);
+  free(t->marked);
+  t->at = at;
+  t->numbers = numbers;
+  t->marked = marked;
+  t->room = room;
+  for (number = 0; number < t->count; number++) group_enlist(t, number);
+  return true;
+}
+
+/* ------------------------------------------------------------------------------------------------
+ * Groups.
+ */
+
+static bs_inside_look group_look;
+
+/* Memory that is zero and begins a cache line, in `block` to be freed; null if it is refused. */
+static void *group_lines(size_t size, void **block) {
+  *block = group_zero(size + GROUP_LINE);
+  if (*block == NULL) return NULL;
+  return (void *)(((uintptr_t)*block + GROUP_LINE - 1) & ~(uintptr_t)(GROUP_LINE - 1));
+}
+
+/* A group without tables; null if memory is refused. */
+static bs_table_group *group_new(uint32_t parts, uint32_t most) {
+  void *block;
+  uint32_t slot;
+  bs_table_group *group = (bs_table_group *)group_lines(sizeof *group + (parts + 1) * sizeof(group_table), &block);
+  if (group == NULL) return NULL;
+  group->block = block;
+  group->parts = parts;
+  group->most = most;
+  group->ages = 1;
+  group->stride = (sizeof(group_slot) + (parts + 1) * sizeof(bs_txn) + GROUP_LINE - 1) / GROUP_LINE * GROUP_LINE;
+  group->slots = (unsigned char *)group_lines(most * group->stride, &group->slots_block);
+  if (group->slots == NULL) {
+    free(block);
+    return NULL;
+  }
+  for (slot = 0; slot < most; slot++) group_slot_at(group, slot)->number = slot;
+  return group;
+}
+
+/* Frees a group whose tables were ended, or were not made. */
+static void group_free_group(bs_table_group *group) {
+  group_table *main = &group->tables[0];
+  uint32_t number;
+  for (number = 0; number < main->count; number++) free(main->at[number].inner);
+  for (number = 0; number <= group->parts; number++) {
+    group_table *t = &group->tables[number];
+    if (t->table != NULL) bs_table_free(&t->table);
+    free(t->at);
+    free(t->numbers);
+    free(t->marked);
+  }
+  free(group->seen);
+  free(group->strong);
+  free(group->slots_block);
+  free(group->block);
+}
+
+/* Makes the tables of a group, up to the first that is refused. */
+static bs_reply group_make_tables(bs_table_group *group, const bs_options *options) {
+  bs_reply reply = group_only(BS_DONE);
+  uint32_t number;
+  for (number = 0; number <= group->parts && reply.status == BS_DONE; number++) {
+    group_table *t = &group->tables[number];
+    t->number = number;
+    reply = bs_table_make(&t->table, options);
+    if (reply.status != BS_DONE) return reply;
+    t->manager = bs_inside_manager(t->table);
+    bs_inside_look_by(t->table, group_look, group);
+  }
+  return reply;
+}
+
+static void group_end_tables(bs_table_group *group) {
+  uint32_t number;
+  for (number = 0; number <= group->parts; number++) bs_table_end(group->tables[number].table);
+}
+
+bs_reply bs_call_group_make(bs_table_group **group, const bs_options *options, size_t size, uint32_t parts) {
+  bs_options chosen = bs_call_chosen(options, size);
+  bs_table_group *made;
+  bs_reply reply;
+  if (*group != NULL) return group_only(BS_IN_USE);
+  if (parts == 0 || parts > BS_MOST_PARTS || chosen.detect != BS_AT_BLOCK) return group_only(BS_BAD_NUMBER);
+  if (chosen.transactions > BS_SLOTS) return group_only(BS_BAD_NUMBER);
+  made = group_new(parts, chosen.transactions);
+  if (made == NULL) return group_only(BS_NO_MEMORY);
+  reply = group_make_tables(made, &chosen);
+  if (reply.status == BS_DONE) {
+    *group = made;
+  } else {
+    group_end_tables(made);
+    group_free_group(made);
+  }
+  return reply;
+}
+
+/* Why this thread may not call a group; BS_DONE if it may. */
+static inline bs_status group_shut(const bs_table_group *group) {
+  if (group == NULL) return BS_NULL_POINTER;
+  if (!bs_call_may_sleep()) return BS_IN_USE;
+  return __atomic_load_n(&group->stage, __ATOMIC_ACQUIRE) == GROUP_OPEN ? BS_DONE : BS_NO_MANAGER;
+}
+
+bs_reply bs_group_end(bs_table_group *group) {
+  bs_status status = group_shut(group);
+  if (status != BS_DONE) return group_only(status);
+  if (__atomic_exchange_n(&group->stage, GROUP_ENDING, __ATOMIC_ACQ_REL) != GROUP_OPEN) {
+    return group_only(BS_NO_MANAGER);
+  }
+  group_end_tables(group);
+  __atomic_store_n(&group->stage, GROUP_ENDED, __ATOMIC_RELEASE);
+  return group_only(BS_DONE);
+}
+
+bs_reply bs_group_free(bs_table_group **group) {
+  if (group == NULL || *group == NULL) return bs_call_null();
+  if (__atomic_load_n(&(*group)->stage, __ATOMIC_ACQUIRE) != GROUP_ENDED) return group_only(BS_IN_USE);
+  group_free_group(*group);
+  *group = NULL;
+  return group_only(BS_DONE);
+}
+
+/* Acquires the latches of all tables, whether these are open or not; and releases them. */
+static void group_take_all(bs_table_group *group) {
+  uint32_t number;
+  for (number = 0; number <= group->parts; number++) bs_inside_take(group->tables[number].table);
+}
+
+static void group_release_all(bs_table_group *group) {
+  uint32_t number;
+  for (number = 0; number <= group->parts; number++) bs_inside_release(group->tables[number].table);
+}
+
+/* ------------------------------------------------------------------------------------------------
+ * The graph.
+ */
+
+/* The names in a table of parents, of which there are BS_MOST_PARENTS at most. */
+static void group_parents_there(const group_table *t, const bs_node *parents, size_t count, bs_node *there) {
+  size_t i;
+  for (i = 0; i < count; i++) there[i] = group_name_there(t, parents[i]);
+}
+
+/* Why no list of parents can be this one. */
+static bs_status group_bad_parents(const bs_node *parents, size_t count) {
+  if (parents == NULL && count != 0) return BS_NULL_POINTER;
+  return count > BS_MOST_PARENTS ? BS_BAD_NUMBER : BS_DONE;
+}
+
+/* Sets the bits of these nodes and of all above them in `seen`, and answers how many are set. Parents that are none are
+ * left out: the table refuses them. */
+static uint32_t group_see_above(bs_table_group *group, const bs_node *parents, size_t count) {
+  const group_table *main = &group->tables[0];
+  uint32_t bits = 0, above;
+  size_t i;
+  for (i = 0; i < count; i++) {
+    const group_inner *inner = bs_group_table(parents[i]) == 0 ? group_inner_named(main, parents[i]) : NULL;
+    for (above = 0; inner != NULL && above < inner->above_count; above++) {
+      group->seen[inner->above[above] / 64] |= (uint64_t)1 << inner->above[above] % 64;
+    }
+    if (inner != NULL) group->seen[inner->number / 64] |= (uint64_t)1 << inner->number % 64;
+  }
+  for (i = 0; i < (main->count + 63) / 64; i++) bits += (uint32_t)__builtin_popcountll(group->seen[i]);
+  return bits;
+}
+
+/* Takes the lowest number off the bits of `seen`, from this word on, which it raises; false if there is none. */
+static bool group_take_seen(bs_table_group *group, uint32_t *word, uint32_t *number) {
+  uint32_t words = (group->tables[0].count + 63) / 64;
+  while (*word < words && group->seen[*word] == 0) ++*word;
+  if (*word == words) return false;
+  *number = *word * 64 + (uint32_t)__builtin_ctzll(group->seen[*word]);
+  group->seen[*word] &= group->seen[*word] - 1;
+  return true;
+}
+
+/* A new inner node below these, with the next number; null if memory is refused. */
+static group_inner *group_new_inner(bs_table_group *group, const bs_node *parents, size_t count) {
+  group_table *main = &group->tables[0];
+  uint32_t above = group_see_above(group, parents, count), word = 0, number;
+  group_inner *inner = (group_inner *)group_zero(sizeof *inner + above * sizeof inner->above[0]);
+  while (group_take_seen(group, &word, &number)) {
+    if (inner != NULL) inner->above[inner->above_count++] = number;
+  }
+  if (inner == NULL) return NULL;
+  inner->number = main->count;
+  if (count > 0 && bs_group_table(parents[0]) == 0) inner->parent = group_inner_named(main, parents[0]);
+  return inner;
+}
+
+/* Makes what is by number longer before the main table gets more room; false if memory is refused. */
+static bool group_make_scratch(bs_table_group *group) {
+  const group_table *main = &group->tables[0];
+  uint32_t room = main->room == 0 ? GROUP_FIRST_ROOM : 2 * main->room;
+  uint64_t *seen;
+  uint32_t *strong;
+  if (main->count < main->room) return true;
+  seen = (uint64_t *)group_zero((room + 63) / 64 * sizeof *seen);
+  strong = (uint32_t *)group_zero(room * sizeof *strong);
+  if (seen == NULL || strong == NULL) {
+    free(seen);
+    free(strong);
+    return false;
+  }
+  free(group->seen);
+  free(group->strong);
+  group->seen = seen;
+  group->strong = strong;
+  return true;
+}
+
+/* Why there cannot be one more inner node, with all latches held; makes room for it in all tables. */
+static bs_status group_no_room(bs_table_group *group) {
+  uint32_t number;
+  for (number = 0; number <= group->parts; number++) {
+    if (!group->tables[number].manager->is_open) return BS_NO_MANAGER;
+  }
+  for (number = 0; number <= group->parts; number++) {
+    const bs_manager *m = group->tables[number].manager;
+    if (number > 0 && bs_len(m).count >= bs_call_most_nodes(m).count) return BS_TOO_MANY_NODES;
+  }
+  if (!group_make_scratch(group)) return BS_NO_MEMORY;
+  for (number = 0; number <= group->parts; number++) {
+    if (!group_make_room(&group->tables[number])) return BS_NO_MEMORY;
+  }
+  return BS_DONE;
+}
+
+/* Makes an inner node in all tables, up to the first that refuses it, with all latches held. */
+static bs_reply group_add_in_all(bs_table_group *group, group_inner *inner, const bs_node *parents, size_t count) {
+  bs_node there[BS_MOST_PARENTS], nodes[BS_MOST_PARTS + 1];
+  bs_reply reply = group_only(BS_DONE);
+  uint32_t number;
+  for (number = 0; number <= group->parts; number++) {
+    group_parents_there(&group->tables[number], parents, count, there);
+    reply = bs_add_inner(group->tables[number].manager, there, count);
+    if (reply.status != BS_DONE) return reply;
+    nodes[number] = reply.node;
+  }
+  inner->birth = nodes[0].birth;
+  for (number = 0; number <= group->parts; number++) {
+    group_table *t = &group->tables[number];
+    t->at[t->count].node = nodes[number];
+    t->at[t->count].inner = inner;
+    group_enlist(t, t->count++);
+  }
+  reply.node = group_name_here(&group->tables[0], nodes[0]);
+  return reply;
+}
+
+bs_reply bs_group_add_inner(bs_table_group *group, const bs_node *parents, size_t count) {
+  bs_status status = group_bad_parents(parents, count), shut = group_shut(group);
+  group_inner *inner;
+  bs_reply reply;
+  if (shut == BS_NULL_POINTER || status == BS_NULL_POINTER) return bs_call_null();
+  if (status != BS_DONE || shut != BS_DONE) return group_only(status != BS_DONE ? status : shut);
+  group_take_all(group);
+  reply = group_only(group_no_room(group));
+  if (reply.status == BS_DONE) {
+    inner = group_new_inner(group, parents, count);
+    reply = inner == NULL ? group_only(BS_NO_MEMORY) : group_add_in_all(group, inner, parents, count);
+    if (reply.status != BS_DONE) free(inner);
+  }
+  group_release_all(group);
+  return reply;
+}
+
+/* The next part by turns. */
+static uint32_t group_next_part(bs_table_group *group) {
+  return (uint32_t)(__atomic_fetch_add(&group->next_part, 1, __ATOMIC_RELAXED) % group->parts) + 1;
+}
+
+/* Makes a file in a part. */
+static bs_reply group_add_file_by(bs_reply (*add)(bs_manager *manager, const bs_node *parents, size_t count),
+                                  bs_table_group *group, uint32_t part, const bs_node *parents, size_t count) {
+  bs_status status = group_bad_parents(parents, count), shut = group_shut(group);
+  bs_node there[BS_MOST_PARENTS];
+  group_table *t;
+  if (shut == BS_NULL_POINTER || status == BS_NULL_POINTER) return bs_call_null();
+  if (status == BS_DONE && part > group->parts) status = BS_BAD_NUMBER;
+  if (status != BS_DONE || shut != BS_DONE) return group_only(status != BS_DONE ? status : shut);
+  t = &group->tables[part == 0 ? group_next_part(group) : part];
+  if (!bs_inside_enter(t->table)) return group_only(BS_NO_MANAGER);
+  group_parents_there(t, parents, count, there);
+  return group_leave(t, add(t->manager, there, count));
+}
+
+bs_reply bs_group_add_file(bs_table_group *group, uint32_t part, const bs_node *parents, size_t count) {
+  return group_add_file_by(bs_add_file, group, part, parents, count);
+}
+
+bs_reply bs_group_add_row_file(bs_table_group *group, uint32_t part, const bs_node *parents, size_t count) {
+  return group_add_file_by(bs_add_row_file, group, part, parents, count);
+}
+
+/* Whether the group has this inner node. */
+static bs_status group_knows(bs_table_group *group, bs_node node) {
+  bs_status status;
+  group_table *main = &group->tables[0];
+  if (!bs_inside_enter(main->table)) return BS_NO_MANAGER;
+  status = group_inner_named(main, node) != NULL ? BS_DONE : BS_NO_SUCH_NODE;
+  bs_inside_release(main->table);
+  return status;
+}
+
+/* The part of a node of the group, which an inner node has not: that is refused so. */
+static bs_status group_part_of(bs_table_group *group, bs_node node, bs_status inner, group_table **t) {
+  uint32_t number = bs_group_table(node);
+  bs_status status;
+  if (number > 0 && number <= group->parts) {
+    *t = &group->tables[number];
+    return BS_DONE;
+  }
+  if (inner == BS_NOT_ROWS) return BS_NOT_ROWS;
+  status = number == 0 ? group_knows(group, node) : BS_NO_SUCH_NODE;
+  return status == BS_DONE ? inner : status;
+}
+
+bs_reply bs_group_add_index(bs_table_group *group, const bs_node *parents, size_t count, bs_node file,
+                            const uint64_t *bounds, size_t bound_count) {
+  bs_status status = group_bad_parents(parents, count), shut = group_shut(group);
+  bs_node there[BS_MOST_PARENTS];
+  group_table *t;
+  if (bounds == NULL && bound_count != 0) return bs_call_null();
+  if (shut == BS_NULL_POINTER || status == BS_NULL_POINTER) return bs_call_null();
+  if (status == BS_DONE) status = shut;
+  if (status == BS_DONE) status = group_part_of(group, file, BS_BAD_PARENTS, &t);
+  if (status != BS_DONE) return group_only(status);
+  if (!bs_inside_enter(t->table)) return group_only(BS_NO_MANAGER);
+  group_parents_there(t, parents, count, there);
+  return group_leave(t, bs_add_index(t->manager, there, count, group_name_there(t, file), bounds, bound_count));
+}
+
+/* ------------------------------------------------------------------------------------------------
+ * Transactions.
+ */
+
+/* Takes a slot if it is free. */
+static bool group_takes(const bs_table_group *group, uint32_t number) {
+  group_slot *own = group_slot_at(group, number);
+  return !__atomic_load_n(&own->is_taken, __ATOMIC_RELAXED) &&
+         !__atomic_exchange_n(&own->is_taken, true, __ATOMIC_ACQUIRE);
+}
+
+/* Takes a free slot: the one that this thread had last, or the next one after it; null if there is none. */
+static group_slot *group_take_slot(const bs_table_group *group) {
+  uint32_t first, tried;
+  if (group_last.group != group) group_last.slot = (uint32_t)((uintptr_t)&group_last >> 6);
+  first = group_last.slot % group->most;
+  for (tried = 0; tried < group->most; tried++) {
+    uint32_t number = (first + tried) % group->most;
+    if (!group_takes(group, number)) continue;
+    group_last.group = group;
+    group_last.slot = number;
+    return group_slot_at(group, number);
+  }
+  return NULL;
+}
+
+bs_reply bs_group_begin_again(bs_table_group *group, uint64_t since) {
+  bs_reply reply = group_only(group_shut(group));
+  group_slot *own;
+  uint64_t age;
+  if (reply.status != BS_DONE) return reply;
+  own = group_take_slot(group);
+  if (own == NULL) return group_only(BS_TOO_MANY_TXNS);
+  if (own->next_age == own->end_age) {
+    own->next_age = __atomic_fetch_add(&group->ages, GROUP_AGES, __ATOMIC_RELAXED);
+    own->end_age = own->next_age + GROUP_AGES;
+  }
+  age = own->next_age++;
+  own->since = since < age ? since : age;
+  __atomic_store_n(&own->age, age, __ATOMIC_RELAXED);
+  reply.txn.slot = own->number;
+  reply.txn.age = age;
+  return reply;
+}
+
+bs_reply bs_group_begin(bs_table_group *group) {
+  return bs_group_begin_again(group, UINT64_MAX);
+}
+
+/* The transaction of this name; null if it names none. */
+static inline group_slot *group_named(const bs_table_group *group, bs_txn txn) {
+  group_slot *own;
+  if (txn.slot >= group->most || txn.age == 0) return NULL;
+  own = group_slot_at(group, txn.slot);
+  return __atomic_load_n(&own->age, __ATOMIC_RELAXED) == txn.age ? own : NULL;
+}
+
+/* Finds the transaction of a call; BS_DONE if it may request something. */
+static inline bs_status group_finds(const bs_table_group *group, bs_txn txn, group_slot **own) {
+  bs_status shut = group_shut(group);
+  if (shut != BS_DONE) return shut;
+  *own = group_named(group, txn);
+  if (*own == NULL) return BS_NO_SUCH_TXN;
+  return (*own)->has_fallen ? BS_TXN_CONDEMNED : BS_DONE;
+}
+
+/* A transaction is in two tables. */
+static GROUP_APART void group_note_spread(bs_table_group *group, group_slot *own) {
+  if (__atomic_exchange_n(&own->is_spread, true, __ATOMIC_RELAXED)) return;
+  __atomic_fetch_add(&group->spread, 1, __ATOMIC_RELAXED);
+}
+
+/* Joins a part, whose latch is held, if the transaction has not done so. */
+static inline bs_status group_join(bs_table_group *group, group_slot *own, group_table *t) {
+  bs_reply reply;
+  if (own->in[t->number].age != 0) return BS_DONE;
+  reply = bs_call_join(t->manager, own->number, own->since);
+  if (reply.status != BS_DONE) return reply.status;
+  if (own->used != 0 || __atomic_load_n(&own->is_in_main, __ATOMIC_RELAXED)) group_note_spread(group, own);
+  own->in[t->number] = reply.txn;
+  own->used |= (uint64_t)1 << t->number;
+  return BS_DONE;
+}
+
+/* Joins the main table for a transaction that has not, with its latch held; its name there in `txn`. If the caller is a
+ * visitor, it holds the latch of a part where the transaction is. */
+static bs_status group_join_main(bs_table_group *group, group_slot *own, bool is_visitor, bs_txn *txn) {
+  group_table *main = &group->tables[0];
+  bs_reply reply = bs_living(main->manager, own->number);
+  if (reply.status == BS_NO_PLACE) {
+    reply = bs_call_join(main->manager, own->number, own->since);
+    if (reply.status != BS_DONE) return reply.status;
+    __atomic_store_n(&own->is_in_main, true, __ATOMIC_RELAXED);
+    if (is_visitor || own->used != 0) group_note_spread(group, own);
+  }
+  *txn = reply.txn;
+  return reply.status;
+}
+
+/* ------------------------------------------------------------------------------------------------
+ * What is above a target.
+ */
+
+static inline bool group_writes(bs_mode mode) {
+  return mode == BS_IX || mode >= BS_SIX;
+}
+
+/* What a mode needs above. */
+static inline bs_mode group_intention(bs_mode mode) {
+  return group_writes(mode) ? BS_IX : BS_IS;
+}
+
+/* The inner nodes that are parents of what a request passes: of a file, and of its indexes or of one of them. */
+typedef struct group_tops {
+  bool writes; /* it needs all that is above them; else the first parents up from the only one here */
+  uint32_t count;
+  const group_inner *at[BS_MOST_PARENTS * (GROUP_MOST_INDEXES + 1)];
+} group_tops;
+
+/* Adds the parents of a file or an index; to read the first alone. */
+static void group_add_tops(const group_table *t, bs_node node, group_tops *tops) {
+  size_t place, most = tops->writes ? BS_MOST_PARENTS : 1;
+  for (place = 0; place < most; place++) {
+    bs_reply parent = bs_parent(t->manager, node, place);
+    const group_inner *inner = parent.status == BS_DONE ? group_inner_of(t, parent.node) : NULL;
+    if (inner == NULL) return;
+    tops->at[tops->count++] = inner;
+  }
+}
+
+/* The tops of a target, in its part, whose latch is held. A path to a record that moves meanwhile passes no others: the
+ * interval is another, but of the same index. What the part refuses has none: a name that names nothing or is
+ * no file's, and a mode that the node cannot have. */
+static void group_find_tops(const group_table *t, const group_target *target, group_tops *tops) {
+  bs_node node = target->node;
+  uint64_t kind = bs_kind(t->manager, node).count;
+  bool is_whole = target->is_whole || kind == BS_RECORD;
+  size_t place;
+  tops->writes = group_writes(target->mode);
+  tops->count = 0;
+  if (target->mode == BS_NL || (is_whole && target->mode != BS_S && target->mode != BS_X)) return;
+  if (target->is_whole && kind != BS_FILE) return;
+  if (kind == BS_RECORD || kind == BS_INTERVAL) node = bs_parent(t->manager, node, 0).node;
+  group_add_tops(t, node, tops);
+  for (place = 0; is_whole && tops->writes && place < GROUP_MOST_INDEXES; place++) {
+    bs_reply index = bs_index(t->manager, node, place);
+    if (index.status != BS_DONE) return;
+    group_add_tops(t, index.node, tops);
+  }
+}
+
+/* Whether a number is in a list that rises. */
+static bool group_is_above(const group_inner *inner, uint32_t number) {
+  uint32_t low = 0, high = inner->above_count;
+  while (low < high) {
+    uint32_t middle = low + (high - low) / 2;
+    if (inner->above[middle] < number) low = middle + 1;
+    else high = middle;
+  }
+  return low < inner->above_count && inner->above[low] == number;
+}
+
+/* Whether a path below these tops may request an inner node. */
+static bool group_may_pass(const group_tops *tops, uint32_t number) {
+  uint32_t top;
+  const group_inner *inner;
+  for (top = 0; top < tops->count && tops->writes; top++) {
+    if (tops->at[top]->number == number || group_is_above(tops->at[top], number)) return true;
+  }
+  if (tops->writes || tops->count == 0) return false;
+  for (inner = tops->at[0]; inner != NULL && inner->number > number; inner = inner->parent) continue;
+  return inner != NULL && inner->number == number;
+}
+
+/* Whether a mode covers an intention or another mode up to BS_IX. */
+static inline bool group_covers(bs_mode held, bs_mode mode) {
+  if (mode == BS_NL) return true;
+  return mode == BS_IS ? held != BS_NL : held == BS_IX || held >= BS_SIX;
+}
+
+/* ------------------------------------------------------------------------------------------------
+ * Requests in a part that is marked.
+ */
+
+/* A request in a part, while it is found out what it lacks in the main table. */
+typedef struct group_way {
+  bs_table_group *group;
+  group_slot *own;
+  group_table *part;
+  const group_target *target;
+  const struct timespec *until;
+  bool may_sleep;
+  bool in_main;   /* the main table's latch is held, and the transaction has joined it, by this name */
+  bs_txn main_txn;
+} group_way;
+
+#define GROUP_NONE UINT32_MAX
+
+/* Whether the request lacks the intention on an inner node: that is marked, and the transaction has the intention neither
+ * in the part, which implies that it has it in the main table, nor, as far as that is known, in the main table. */
+static bool group_lacks_at(const group_way *way, const group_inner *inner) {
+  const group_table *t = way->part, *main = &way->group->tables[0];
+  bs_mode intention = group_intention(way->target->mode);
+  bs_txn own = way->own->in[t->number];
+  uint32_t number = inner->number;
+  if (!group_is_marked(t, number)) return false;
+  if (own.age != 0 && group_covers(bs_held(t->manager, own, t->at[number].node).mode, intention)) return false;
+  return !way->in_main || !group_covers(bs_held(main->manager, way->main_txn, main->at[number].node).mode, intention);
+}
+
+/* An inner node on which the request lacks the intention, by its number; GROUP_NONE if there is none. The latch of the
+ * part is held. */
+static GROUP_APART uint32_t group_lacks(const group_way *way) {
+  const group_table *t = way->part;
+  const group_inner *inner;
+  group_tops tops;
+  uint32_t top, above;
+  group_find_tops(t, way->target, &tops);
+  for (top = 0; top < tops.count; top++) {
+    const group_inner *at = tops.at[top];
+    for (above = 0; tops.writes && above < at->above_count; above++) {
+      if (group_lacks_at(way, t->at[at->above[above]].inner)) return at->above[above];
+    }
+    for (inner = at; inner != NULL; inner = tops.writes ? NULL : inner->parent) {
+      if (group_lacks_at(way, inner)) return inner->number;
+    }
+  }
+  return GROUP_NONE;
+}
+
+static bs_status group_copy_own(bs_table_group *group, group_slot *own, bs_txn main_txn);
+
+/* Acquires in the main table, whose latch is held before and after, what the request lacks on an inner node. */
+static bs_reply group_acquire(const group_way *way, uint32_t number) {
+  const group_table *main = &way->group->tables[0];
+  bs_node node = main->at[number].node;
+  bs_mode intention = group_intention(way->target->mode);
+  if (!way->may_sleep) return bs_inside_try_path(main->table, way->main_txn, node, intention);
+  return bs_inside_path(main->table, way->main_txn, node, intention, way->until);
+}
+
+/* Joins the main table for a request that lacks something there, with the main table's latch held. */
+static bs_status group_way_by_main(group_way *way) {
+  bs_status status = group_join_main(way->group, way->own, false, &way->main_txn);
+  if (status == BS_DONE && way->may_sleep) status = group_copy_own(way->group, way->own, way->main_txn);
+  way->in_main = status == BS_DONE;
+  return status;
+}
+
+/* Acquires all that a request lacks in the main table. If that is done, the part's latch is held, and it lacks nothing;
+ * else no latch is. The part may get marks while the main table's latch is free. */
+static GROUP_APART bs_reply group_reach_by_main(group_way *way) {
+  group_table *main = &way->group->tables[0];
+  bs_reply reply;
+  if (!bs_inside_enter(main->table)) return group_only(BS_NO_MANAGER);
+  reply = group_only(group_way_by_main(way));
+  while (reply.status == BS_DONE) {
+    uint32_t lacks;
+    if (!bs_inside_enter(way->part->table)) {
+      reply = group_only(BS_NO_MANAGER);
+      break;
+    }
+    lacks = group_lacks(way);
+    if (lacks == GROUP_NONE) {
+      bs_inside_release(main->table);
+      return reply;
+    }
+    bs_inside_release(way->part->table);
+    reply = group_acquire(way, lacks);
+  }
+  if (reply.status == BS_VICTIM) way->own->has_fallen = true;
+  return group_leave(main, reply);
+}
+
+/* Before a request in a part: acquires in the main table what it needs there, and joins the part. If that is done, the
+ * part's latch is held; else no latch is, and the answer is in `why`. */
+static inline bool group_reach(group_way *way, bs_reply *why) {
+  group_table *t = way->part;
+  bs_status status;
+  if (!bs_inside_enter(t->table)) {
+    *why = group_only(BS_NO_MANAGER);
+    return false;
+  }
+  if (__builtin_expect(t->marks != 0, 0) && group_lacks(way) != GROUP_NONE) {
+    bs_inside_release(t->table);
+    *why = group_reach_by_main(way);
+    if (why->status != BS_DONE) return false;
+  }
+  way->own->target = *way->target;
+  status = group_join(way->group, way->own, t);
+  if (status != BS_DONE) *why = group_leave(t, group_only(status));
+  return status == BS_DONE;
+}
+
+/* ------------------------------------------------------------------------------------------------
+ * Copies and visits. The main table's latch is held.
+ */
+
+/* A copy was answered so. By the laws nothing else refuses one than want of memory, or of numbers. */
+static void group_note_fault(bs_table_group *group, bs_status status) {
+  if (status != BS_DONE && status != BS_NO_MEMORY && status != BS_WORN_OUT) group->faults++;
+}
+
+/* Copies to the main table a mode that a transaction has on an inner node in a part. It is granted at once. */
+static bs_status group_copy(bs_table_group *group, bs_txn main_txn, uint32_t number, bs_mode mode) {
+  const group_table *main = &group->tables[0];
+  bs_reply reply = bs_try(main->manager, main_txn, main->at[number].node, mode);
+  group_note_fault(group, reply.status);
+  return reply.status;
+}
+
+/* Sets in `seen` the inner nodes that a transaction holds in a part. */
+static void group_see_own(bs_table_group *group, const group_table *t, bs_txn txn) {
+  uint64_t locks = bs_lock_count(t->manager, txn).count, place;
+  uint32_t number;
+  for (place = 0; locks < t->count && place < locks; place++) {
+    const group_inner *inner = group_inner_of(t, bs_lock_at(t->manager, txn, (size_t)place).node);
+    if (inner != NULL) group->seen[inner->number / 64] |= (uint64_t)1 << inner->number % 64;
+  }
+  for (number = 0; locks >= t->count && number < t->count; number++) {
+    if (bs_held(t->manager, txn, t->at[number].node).mode == BS_NL) continue;
+    group->seen[number / 64] |= (uint64_t)1 << number % 64;
+  }
+}
+
+/* Copies all that a transaction holds in a part on inner nodes, parents first. */
+static bs_status group_copy_own_in(bs_table_group *group, const group_table *t, bs_txn txn, bs_txn main_txn) {
+  const group_table *main = &group->tables[0];
+  bs_status status = BS_DONE;
+  uint32_t word = 0, number;
+  group_see_own(group, t, txn);
+  while (group_take_seen(group, &word, &number)) {
+    bs_mode mode = bs_held(t->manager, txn, t->at[number].node).mode;
+    bs_mode held = bs_held(main->manager, main_txn, main->at[number].node).mode;
+    if (status == BS_DONE && !group_covers(held, mode)) status = group_copy(group, main_txn, number, mode);
+  }
+  return status;
+}
+
+/* The same in all its parts. */
+static bs_status group_copy_own(bs_table_group *group, group_slot *own, bs_txn main_txn) {
+  uint64_t left;
+  for (left = own->used; left != 0; left &= left - 1) {
+    const group_table *t = &group->tables[__builtin_ctzll(left)];
+    bs_status status;
+    if (!bs_inside_enter(t->table)) return BS_NO_MANAGER;
+    status = group_copy_own_in(group, t, own->in[t->number], main_txn);
+    bs_inside_release(t->table);
+    if (status != BS_DONE) return status;
+  }
+  return BS_DONE;
+}
+
+/* Copies what anybody holds on an inner node in a part, whose latch is held too. That on its parents was copied. */
+static bs_status group_copy_holders(bs_table_group *group, const group_table *t, uint32_t number) {
+  const group_table *main = &group->tables[0];
+  for (;;) {
+    bs_reply next = bs_next_copy(main->manager, main->at[number].node, t->manager, t->at[number].node);
+    bs_status status;
+    bs_txn main_txn;
+    if (next.status != BS_DONE) return next.status == BS_NO_PLACE ? BS_DONE : next.status;
+    status = group_join_main(group, group_slot_at(group, (uint32_t)next.count), true, &main_txn);
+    if (status == BS_DONE) status = group_copy(group, main_txn, number, next.mode);
+    if (status != BS_DONE) return status;
+  }
+}
+
+/* Acquires for a transaction that sleeps in a part, whose latch is held too, the intention on an inner node, if its
+ * path may pass that. It is granted at once, with those above. */
+static bs_status group_copy_sleeper(bs_table_group *group, const group_table *t, group_slot *other, uint32_t number) {
+  const group_table *main = &group->tables[0];
+  bs_mode intention = group_intention(other->target.mode);
+  group_tops tops;
+  bs_status status;
+  bs_txn main_txn;
+  group_find_tops(t, &other->target, &tops);
+  if (!group_may_pass(&tops, number)) return BS_DONE;
+  status = group_join_main(group, other, true, &main_txn);
+  if (status != BS_DONE) return status;
+  if (group_covers(bs_held(main->manager, main_txn, main->at[number].node).mode, intention)) return BS_DONE;
+  status = bs_inside_try_path(main->table, main_txn, main->at[number].node, intention).status;
+  group_note_fault(group, status);
+  return status;
+}
+
+/* Marks an inner node in a part, whose latch is held too, after all that others have there was copied. */
+static bs_status group_visit(bs_table_group *group, group_table *t, const group_inner *inner) {
+  bs_status status = BS_DONE;
+  uint32_t above, slot;
+  for (above = 0; above < inner->above_count && status == BS_DONE; above++) {
+    if (!group_is_marked(t, inner->above[above])) status = group_copy_holders(group, t, inner->above[above]);
+  }
+  if (status == BS_DONE) status = group_copy_holders(group, t, inner->number);
+  for (slot = 0; slot < group->most && status == BS_DONE; slot++) {
+    if (!bs_inside_sleeps(t->table, slot)) continue;
+    status = group_copy_sleeper(group, t, group_slot_at(group, slot), inner->number);
+  }
+  if (status == BS_DONE) group_mark(t, inner->number, true);
+  return status;
+}
+
+/* Visits each part that is not marked for an inner node. */
+static bs_status group_visit_all(bs_table_group *group, const group_inner *inner) {
+  uint32_t part;
+  for (part = 1; part <= group->parts; part++) {
+    group_table *t = &group->tables[part];
+    bs_status status;
+    if (group_is_marked(t, inner->number)) continue;
+    if (!bs_inside_enter(t->table)) return BS_NO_MANAGER;
+    status = group_visit(group, t, inner);
+    bs_inside_release(t->table);
+    if (status != BS_DONE) return status;
+  }
+  return BS_DONE;
+}
+
+/* Clears the marks of those of these inner nodes that no one has, wants or requests in more than an intention. */
+static void group_clear(bs_table_group *group, uint32_t *numbers, uint32_t count) {
+  const group_table *main = &group->tables[0];
+  uint32_t i, clear = 0, part;
+  for (i = 0; i < count; i++) {
+    const group_place *at = &main->at[numbers[i]];
+    if (at->inner->in_progress == 0 && bs_is_clear(main->manager, at->node).count != 0) numbers[clear++] = numbers[i];
+  }
+  for (part = 1; clear > 0 && part <= group->parts; part++) {
+    group_table *t = &group->tables[part];
+    bs_inside_take(t->table);
+    for (i = 0; i < clear; i++) group_mark(t, numbers[i], false);
+    bs_inside_release(t->table);
+  }
+}
+
+/* ------------------------------------------------------------------------------------------------
+ * Locks of inner nodes.
+ */
+
+/* Requests more than an intention on an inner node. */
+static bs_reply group_lock_more(bs_table_group *group, bs_txn main_txn, group_inner *inner, bs_mode mode,
+                                const struct timespec *until) {
+  const group_table *main = &group->tables[0];
+  uint32_t number = inner->number;
+  bs_reply reply;
+  inner->in_progress++;
+  reply = group_only(group_visit_all(group, inner));
+  if (reply.status == BS_DONE) reply = bs_inside_path(main->table, main_txn, main->at[number].node, mode, until);
+  inner->in_progress--;
+  if (reply.status != BS_DONE) group_clear(group, &number, 1);
+  return reply;
+}
+
+/* Locks an inner node in the main table. */
+static bs_reply group_lock_inner(bs_table_group *group, group_slot *own, bs_node node, bs_mode mode,
+                                 const struct timespec *until) {
+  group_table *main = &group->tables[0];
+  group_inner *inner;
+  bs_txn main_txn;
+  bs_reply reply;
+  if (!bs_inside_enter(main->table)) return group_only(BS_NO_MANAGER);
+  inner = group_inner_named(main, node);
+  reply = group_only(inner == NULL ? BS_NO_SUCH_NODE : mode == BS_NL ? BS_BAD_MODE : BS_DONE);
+  if (reply.status == BS_DONE) reply.status = group_join_main(group, own, false, &main_txn);
+  if (reply.status == BS_DONE) reply.status = group_copy_own(group, own, main_txn);
+  if (reply.status != BS_DONE) return group_leave(main, reply);
+  if (mode > BS_IX) reply = group_lock_more(group, main_txn, inner, mode, until);
+  else reply = bs_inside_path(main->table, main_txn, main->at[inner->number].node, mode, until);
+  if (reply.status == BS_VICTIM) own->has_fallen = true;
+  return group_leave(main, reply);
+}
+
+/* ------------------------------------------------------------------------------------------------
+ * The ends of transactions.
+ */
+
+/* Collects the inner nodes on which a transaction has more than an intention in the main table; how many they are. */
+static uint32_t group_find_strong(bs_table_group *group, bs_txn main_txn) {
+  const group_table *main = &group->tables[0];
+  uint64_t locks = bs_lock_count(main->manager, main_txn).count, place;
+  uint32_t count = 0;
+  for (place = 0; place < locks; place++) {
+    bs_reply lock = bs_lock_at(main->manager, main_txn, (size_t)place);
+    if (lock.status == BS_DONE && lock.mode > BS_IX) group->strong[count++] = group_inner_of(main, lock.node)->number;
+  }
+  return count;
+}
+
+/* Ends a transaction in the main table, after it has ended in all parts. */
+static GROUP_APART bs_status group_end_in_main(bs_table_group *group, group_slot *own, bool commits) {
+  group_table *main = &group->tables[0];
+  uint32_t strong;
+  bs_reply reply;
+  if (!bs_inside_enter(main->table)) return BS_NO_MANAGER;
+  reply = bs_living(main->manager, own->number);
+  strong = group_find_strong(group, reply.txn);
+  reply = (commits ? bs_inside_commit : bs_inside_abort)(main->table, reply.txn);
+  group_clear(group, group->strong, strong);
+  bs_inside_release(main->table);
+  return reply.status;
+}
+
+/* Ends it in all parts. */
+static bs_status group_end_in_parts(bs_table_group *group, group_slot *own, bool commits) {
+  bs_status status = BS_DONE;
+  for (; own->used != 0; own->used &= own->used - 1) {
+    const group_table *t = &group->tables[__builtin_ctzll(own->used)];
+    bs_reply reply;
+    if (!bs_inside_enter(t->table)) return BS_NO_MANAGER;
+    reply = (commits ? bs_inside_commit : bs_inside_abort)(t->table, own->in[t->number]);
+    bs_inside_release(t->table);
+    own->in[t->number].age = 0;
+    if (reply.status != BS_DONE) status = reply.status;
+  }
+  return status;
+}
+
+/* Ends a transaction, and frees its slot. */
+static bs_reply group_end_txn(bs_table_group *group, group_slot *own, bool commits) {
+  bs_status status = group_end_in_parts(group, own, commits);
+  if (status == BS_NO_MANAGER) return group_only(status);
+  if (__atomic_load_n(&own->is_in_main, __ATOMIC_RELAXED)) {
+    bs_status in_main = group_end_in_main(group, own, commits);
+    if (in_main != BS_DONE) status = in_main;
+    __atomic_store_n(&own->is_in_main, false, __ATOMIC_RELAXED);
+  }
+  if (__atomic_load_n(&own->is_spread, __ATOMIC_RELAXED)) {
+    __atomic_fetch_sub(&group->spread, 1, __ATOMIC_RELAXED);
+    __atomic_store_n(&own->is_spread, false, __ATOMIC_RELAXED);
+  }
+  own->has_fallen = false;
+  __atomic_store_n(&own->age, 0, __ATOMIC_RELAXED);
+  __atomic_store_n(&own->is_taken, false, __ATOMIC_RELEASE);
+  return group_only(status);
+}
+
+bs_reply bs_group_commit(bs_table_group *group, bs_txn txn) {
+  group_slot *own;
+  bs_status status = group_finds(group, txn, &own);
+  return status == BS_DONE ? group_end_txn(group, own, true) : group_only(status);
+}
+
+bs_reply bs_group_abort(bs_table_group *group, bs_txn txn) {
+  group_slot *own;
+  bs_status status = group_finds(group, txn, &own);
+  if (status != BS_DONE && status != BS_TXN_CONDEMNED) return group_only(status);
+  return group_end_txn(group, own, false);
+}
+
+/* ------------------------------------------------------------------------------------------------
+ * Locks and records in a part.
+ */
+
+/* A request in a part. */
+static inline group_way group_way_to(bs_table_group *group, group_slot *own, group_table *t, const group_target *target,
+                                     const struct timespec *until) {
+  group_way way;
+  way.group = group;
+  way.own = own;
+  way.part = t;
+  way.target = target;
+  way.until = until;
+  way.may_sleep = true;
+  way.in_main = false;
+  return way;
+}
+
+/* Leaves a part after a request that was answered so. */
+static inline bs_reply group_requested(group_slot *own, const group_table *t, bs_reply reply) {
+  if (__builtin_expect(reply.status == BS_VICTIM, 0)) own->has_fallen = true;
+  return group_leave(t, reply);
+}
+
+/* Why no call can have this mode and this time. */
+static inline bs_status group_bad_call(const bs_table_group *group, bs_mode mode, const struct timespec *until) {
+  if (group == NULL) return BS_NULL_POINTER;
+  return mode > BS_X || !bs_inside_is_time(until) ? BS_BAD_NUMBER : BS_DONE;
+}
+
+bs_reply bs_group_lock_path(bs_table_group *group, bs_txn txn, bs_node node, bs_mode mode,
+                            const struct timespec *until) {
+  bs_status status = group_bad_call(group, mode, until);
+  uint32_t part = bs_group_table(node);
+  group_target target;
+  group_table *t;
+  group_slot *own;
+  group_way way;
+  bs_reply reply;
+  if (status == BS_DONE) status = group_finds(group, txn, &own);
+  if (status == BS_DONE && part > group->parts) status = BS_NO_SUCH_NODE;
+  if (status != BS_DONE) return group_only(status);
+  if (part == 0) return group_lock_inner(group, own, node, mode, until);
+  t = &group->tables[part];
+  target.node = group_name_there(t, node);
+  target.is_whole = false;
+  target.mode = mode;
+  way = group_way_to(group, own, t, &target, until);
+  if (!group_reach(&way, &reply)) return reply;
+  return group_requested(own, t, bs_inside_path(t->table, own->in[part], target.node, mode, until));
+}
+
+/* The target of a request of something in a file. */
+static group_target group_in_file(const group_table *t, bs_node file, bs_mode mode) {
+  group_target target;
+  target.node = group_name_there(t, file);
+  target.is_whole = true;
+  target.mode = mode;
+  return target;
+}
+
+bs_reply bs_group_lock_row_path(bs_table_group *group, bs_txn txn, bs_node file, uint64_t number, const uint64_t *keys,
+                                size_t count, bs_mode mode, const struct timespec *until) {
+  bs_status status = group_bad_call(group, mode, until);
+  group_target target;
+  group_table *t;
+  group_slot *own;
+  group_way way;
+  bs_reply reply;
+  if (keys == NULL && count != 0) status = BS_NULL_POINTER;
+  if (status == BS_DONE) status = group_finds(group, txn, &own);
+  if (status == BS_DONE) status = group_part_of(group, file, BS_NOT_ROWS, &t);
+  if (status != BS_DONE) return group_only(status);
+  target = group_in_file(t, file, mode);
+  way = group_way_to(group, own, t, &target, until);
+  if (!group_reach(&way, &reply)) return reply;
+  reply = bs_inside_row_path(t->table, own->in[t->number], target.node, number, keys, count, mode, until);
+  return group_requested(own, t, reply);
+}
+
+bs_reply bs_group_insert(bs_table_group *group, bs_txn txn, bs_node file, const uint64_t *keys, size_t count) {
+  bs_status status = group_bad_call(group, BS_X, NULL);
+  group_target target;
+  group_table *t;
+  group_slot *own;
+  group_way way;
+  bs_reply reply;
+  if (keys == NULL && count != 0) status = BS_NULL_POINTER;
+  if (status == BS_DONE) status = group_finds(group, txn, &own);
+  if (status == BS_DONE) status = group_part_of(group, file, BS_BAD_PARENTS, &t);
+  if (status != BS_DONE) return group_only(status);
+  target = group_in_file(t, file, BS_X);
+  way = group_way_to(group, own, t, &target, NULL);
+  way.may_sleep = false;
+  if (!group_reach(&way, &reply)) return reply;
+  return group_leave(t, bs_inside_insert(t->table, own->in[t->number], target.node, keys, count));
+}
+
+/* A call of a transaction in a part that requests nothing on an inner node. */
+typedef struct group_call {
+  group_table *at;
+  bs_table *table;
+  bs_txn txn; /* its name in the part */
+} group_call;
+
+/* Enters the part of a node for such a call; an inner node is refused so. The part's latch is held if that is done. */
+static bs_status group_enter(bs_table_group *group, bs_txn txn, bs_node node, bs_status inner, group_call *call) {
+  group_slot *own;
+  bs_status status = group_finds(group, txn, &own);
+  if (status == BS_DONE) status = group_part_of(group, node, inner, &call->at);
+  if (status != BS_DONE) return status;
+  call->table = call->at->table;
+  if (!bs_inside_enter(call->table)) return BS_NO_MANAGER;
+  status = group_join(group, own, call->at);
+  if (status != BS_DONE) bs_inside_release(call->table);
+  call->txn = own->in[call->at->number];
+  return status;
+}
+
+bs_reply bs_group_unlock_row(bs_table_group *group, bs_txn txn, bs_node file, uint64_t number) {
+  group_call call;
+  bs_status status = group_enter(group, txn, file, BS_NOT_ROWS, &call);
+  if (status != BS_DONE) return group_only(status);
+  return group_leave(call.at, bs_inside_unlock_row(call.table, call.txn, group_name_there(call.at, file), number));
+}
+
+bs_reply bs_group_escalate(bs_table_group *group, bs_txn txn, bs_node node) {
+  group_call call;
+  bs_status status = group_enter(group, txn, node, BS_BAD_PARENTS, &call);
+  if (status != BS_DONE) return group_only(status);
+  return group_leave(call.at, bs_inside_escalate(call.table, call.txn, group_name_there(call.at, node)));
+}
+
+bs_reply bs_group_delete(bs_table_group *group, bs_txn txn, bs_node record) {
+  group_call call;
+  bs_status status = group_enter(group, txn, record, BS_BAD_PARENTS, &call);
+  if (status != BS_DONE) return group_only(status);
+  return group_leave(call.at, bs_inside_delete(call.table, call.txn, group_name_there(call.at, record)));
+}
+
+bs_reply bs_group_rekey(bs_table_group *group, bs_txn txn, bs_node record, bs_node index, uint64_t key) {
+  group_call call;
+  bs_status status = group_enter(group, txn, record, BS_BAD_PARENTS, &call);
+  bs_node there;
+  if (status != BS_DONE) return group_only(status);
+  there = group_name_there(call.at, record);
+  return group_leave(call.at, bs_inside_rekey(call.table, call.txn, there, group_name_there(call.at, index), key));
+}
+
+bs_reply bs_group_rekey_row(bs_table_group *group, bs_txn txn, bs_node file, uint64_t number, bs_node index,
+                            uint64_t key) {
+  group_call call;
+  bs_status status = group_enter(group, txn, file, BS_NOT_ROWS, &call);
+  bs_node there, by;
+  if (status != BS_DONE) return group_only(status);
+  there = group_name_there(call.at, file);
+  by = group_name_there(call.at, index);
+  return group_leave(call.at, bs_inside_rekey_row(call.table, call.txn, there, number, by, key));
+}
+
+/* Enters the part of a node for a call of no transaction. */
+static bs_status group_enter_part(bs_table_group *group, bs_node node, group_table **t) {
+  bs_status status = group_shut(group);
+  if (status == BS_DONE) status = group_part_of(group, node, BS_BAD_PARENTS, t);
+  if (status == BS_DONE && !bs_inside_enter((*t)->table)) status = BS_NO_MANAGER;
+  return status;
+}
+
+bs_reply bs_group_adopt(bs_table_group *group, bs_node file, const uint64_t *keys, size_t count) {
+  group_table *t;
+  bs_status status = keys == NULL && count != 0 ? BS_NULL_POINTER : group_enter_part(group, file, &t);
+  if (status != BS_DONE) return group_only(status);
+  return group_leave(t, bs_adopt(t->manager, group_name_there(t, file), keys, count));
+}
+
+bs_reply bs_group_forget(bs_table_group *group, bs_node record) {
+  group_table *t;
+  bs_status status = group_enter_part(group, record, &t);
+  if (status != BS_DONE) return group_only(status);
+  return group_leave(t, bs_forget(t->manager, group_name_there(t, record)));
+}
+
+/* ------------------------------------------------------------------------------------------------
+ * Questions.
+ */
+
+/* The least mode that covers both. */
+static bs_mode group_join_modes(bs_mode one, bs_mode other) {
+  bs_mode low = one < other ? one : other, high = one < other ? other : one;
+  return low == BS_IX && high == BS_S ? BS_SIX : high;
+}
+
+/* What a transaction holds on a node in a table; BS_NL if it has not joined. */
+static bs_reply group_held_in(const group_table *t, bs_txn txn, bs_node node) {
+  bs_node there = group_name_there(t, node);
+  bs_reply reply = bs_kind(t->manager, there);
+  reply.count = 0;
+  if (reply.status == BS_DONE && txn.age != 0) reply = bs_held(t->manager, txn, there);
+  return reply;
+}
+
+/* The same of an inner node in all tables. */
+static bs_reply group_held_in_all(bs_table_group *group, const group_slot *own, bs_node node) {
+  group_table *main = &group->tables[0];
+  bs_reply reply, in_part;
+  uint64_t left;
+  if (!bs_inside_enter(main->table)) return group_only(BS_NO_MANAGER);
+  reply = group_held_in(main, bs_living(main->manager, own->number).txn, node);
+  reply.node = group_only(BS_DONE).node;
+  bs_inside_release(main->table);
+  for (left = own->used; left != 0 && reply.status == BS_DONE; left &= left - 1) {
+    const group_table *t = &group->tables[__builtin_ctzll(left)];
+    if (!bs_inside_enter(t->table)) return group_only(BS_NO_MANAGER);
+    in_part = group_held_in(t, own->in[t->number], node);
+    bs_inside_release(t->table);
+    reply.mode = group_join_modes(reply.mode, in_part.mode);
+  }
+  return reply;
+}
+
+bs_reply bs_group_held(bs_table_group *group, bs_txn txn, bs_node node) {
+  group_slot *own;
+  bs_status status = group_finds(group, txn, &own);
+  uint32_t part = bs_group_table(node);
+  const group_table *t;
+  if (status != BS_DONE && status != BS_TXN_CONDEMNED) return group_only(status);
+  if (part > group->parts) return group_only(BS_NO_SUCH_NODE);
+  if (part == 0) return group_held_in_all(group, own, node);
+  t = &group->tables[part];
+  if (!bs_inside_enter(t->table)) return group_only(BS_NO_MANAGER);
+  return group_leave(t, group_held_in(t, own->in[part], node));
+}
+
+const bs_manager *bs_group_hold(bs_table_group *group, uint32_t table) {
+  if (group_shut(group) != BS_DONE || table > group->parts) return NULL;
+  return bs_table_hold(group->tables[table].table);
+}
+
+bs_reply bs_group_let_go(bs_table_group *group, uint32_t table) {
+  if (group == NULL) return bs_call_null();
+  if (table > group->parts) return group_only(BS_BAD_NUMBER);
+  return bs_table_let_go(group->tables[table].table);
+}
+
+/* Translates a name, by the table's latch. */
+static bs_reply group_translate(bs_table_group *group, uint32_t table, bs_node node,
+                                bs_node (*name)(const group_table *t, bs_node node)) {
+  const group_table *t;
+  bs_reply reply = group_only(BS_DONE);
+  bool is_held;
+  if (group == NULL) return bs_call_null();
+  if (table > group->parts) return group_only(BS_BAD_NUMBER);
+  t = &group->tables[table];
+  is_held = bs_inside_holds(t->table);
+  if (!is_held) reply.status = group_shut(group);
+  if (!is_held && reply.status == BS_DONE && !bs_inside_enter(t->table)) reply.status = BS_NO_MANAGER;
+  if (reply.status != BS_DONE) return reply;
+  reply.node = name(t, node);
+  if (reply.node.birth == 0) reply = group_only(BS_NO_SUCH_NODE);
+  if (!is_held) bs_inside_release(t->table);
+  return reply;
+}
+
+bs_reply bs_group_name_in(bs_table_group *group, bs_node node, uint32_t table) {
+  return group_translate(group, table, node, group_name_there);
+}
+
+bs_reply bs_group_name_of(bs_table_group *group, bs_node node, uint32_t table) {
+  return group_translate(group, table, node, group_name_here);
+}
+
+/* ------------------------------------------------------------------------------------------------
+ * Deadlocks over several tables. All latches are held.
+ */
+
+/* Adds what a board says of who waits for whom to that of all tables, by the `since` of each. */
+static void group_add_board(bs_table_group *group, uint32_t table) {
+  uint32_t slot;
+  size_t word;
+  for (slot = 0; slot < group->most; slot++) {
+    if (group->one.ages[slot] == 0) continue;
+    group->joined.ages[slot] = group_slot_at(group, slot)->since + 1;
+    for (word = 0; word < BS_SLOTS / 64; word++) {
+      if (group->one.rows[slot].words[word] != 0) group->sleeps_in[slot] = table;
+      group->joined.rows[slot].words[word] |= group->one.rows[slot].words[word];
+    }
+  }
+}
+
+/* Lets the youngest fall of those that are on a cycle of waits over all tables; false if there is none. */
+static bool group_settle_one(bs_table_group *group) {
+  bs_reply youngest;
+  uint32_t table;
+  memset(&group->joined, 0, sizeof group->joined);
+  for (table = 0; table <= group->parts; table++) {
+    const group_table *t = &group->tables[table];
+    if (!bs_inside_any_sleeps(t->table) || bs_read_board(t->manager, &group->one).status != BS_DONE) continue;
+    group_add_board(group, table);
+  }
+  youngest = bs_youngest(&group->joined, bs_suspects(&group->joined).slots);
+  if (youngest.status != BS_DONE) return false;
+  return bs_inside_fall(group->tables[group->sleeps_in[youngest.count]].table, (uint32_t)youngest.count);
+}
+
+/* A thread that sleeps in a table of the group looks for cycles over several tables: its own latch is held before and
+ * after. If another has looked since it fell asleep, or since its own last look, that one has seen its wait. Whoever
+ * falls is woken: after each the boards are read again, since its end may have opened other cycles. */
+static void group_look(void *context, bs_table *table, uint64_t since) {
+  bs_table_group *group = (bs_table_group *)context;
+  uint32_t number;
+  if (__atomic_load_n(&group->spread, __ATOMIC_RELAXED) == 0) return;
+  if (__atomic_load_n(&group->looked, __ATOMIC_RELAXED) > since) return;
+  bs_inside_release(table);
+  group_take_all(group);
+  __atomic_store_n(&group->looked, bs_call_now(), __ATOMIC_RELAXED);
+  while (group_settle_one(group)) continue;
+  for (number = 0; number <= group->parts; number++) {
+    if (group->tables[number].table != table) bs_inside_release(group->tables[number].table);
+  }
+}

@@ -1,0 +1,185 @@
+/*
+ * burlapslate_group.h: a group of tables that work as one, for C and C++. A table of burlapslate_shared.h has one latch;
+ * the parts of a group have one each. So threads that work in different parts do not wait for each other's calls.
+ *
+ * A group has a main table and 1 to 63 parts. Its inner nodes (a database, areas) are in all of them. A file is in one
+ * part, with its indexes, their intervals and its records. A transaction of the group locks nodes of any parts. It is in
+ * a table only from its first call there on.
+ *
+ * A lock on a file or below it is made in its part alone, with the intentions above it. More than an intention on an
+ * inner node (BS_S, BS_SIX, BS_X) is requested in the main table, after a visit of each part: from then on, until the
+ * last such lock of the node is over, who locks below it acquires the intention in the main table first. So such a lock
+ * costs a visit of each part, and as long as it lasts each transaction that comes below it costs a call of the main
+ * table more. It is for what is rare: a backup, a change of the schema. What is locked below conflicts with it as in one
+ * table; a group is one lock manager, with the rules of burlapslate.h. Two things differ. To read by a node that has
+ * several inner nodes as parents, a transaction needs the first of them, also if it has BS_S or more on another. And a
+ * lock of an inner node in BS_IS or BS_IX is made in the main table: none is needed, since locks below bring their own.
+ *
+ * WHAT YOU KEEP. What burlapslate_shared.h asks of pointers, memory and threads holds here too. The calls of one
+ * transaction, its commit and its abort among them, come from one thread at a time. Names of nodes and transactions are
+ * the group's own: use them with no table and no other group.
+ *
+ * WHAT A CALL ANSWERS. A call answers as the call of a table that has its name (`bs_table_` for `bs_group_`), and is
+ * refused as that, after these:
+ *   - BS_NULL_POINTER;
+ *   - BS_BAD_NUMBER: a mode that is none of enum bs_modes, BS_INSTANT among them, or a time that is not valid;
+ *   - BS_IN_USE: this thread holds a table, of the group or another, or is in a callback of a table;
+ *   - BS_NO_MANAGER: the group was ended;
+ *   - BS_NO_SUCH_TXN, of a call with a transaction;
+ *   - BS_TXN_CONDEMNED: the transaction fell, to end a deadlock, and can only abort;
+ *   - BS_NO_SUCH_NODE: the name names no table of the group, or no node there.
+ * An inner node in place of a file, an index, an interval or a record is refused with BS_BAD_PARENTS, or, as a file of
+ * rows, with BS_NOT_ROWS. Two tables share no node but the inner ones: an index of another part than its file's, for
+ * example, is refused with BS_NO_SUCH_NODE. A call that acquires something in the main table first can be refused after
+ * that, as for keys that the file cannot have; what it acquired above the node stays.
+ *
+ * DEADLOCKS. A cycle of waits within one table is ended by that table, as it arises. A cycle over several tables is
+ * ended by a thread that sleeps: it looks after 2 ms, and then after twice as long each time, up to 256 ms, if any
+ * transaction is in two tables and no other thread has looked meanwhile. To look costs the latches of all tables, and
+ * the boards of those where threads sleep. The youngest on a cycle falls, by `since`: its call is answered BS_VICTIM.
+ *
+ * COSTS. A call costs what that of a table does, a begin no latch at all. A transaction in several parts ends in one
+ * after the other: what it has released in one can be had by others before it ends in the next.
+ */
+#ifndef BURLAPSLATE_GROUP_H
+#define BURLAPSLATE_GROUP_H
+
+#include "burlapslate_shared.h"
+
+#if SIZE_MAX < UINT64_MAX
+#error "burlapslate_group.h takes a size_t of 64 bits: a name has the number of a table in the upper half of its key"
+#endif
+
+#ifdef __cplusplus
+extern "C" {
+#endif
+
+/* A group, which callers know by pointer alone. */
+typedef struct bs_table_group bs_table_group;
+
+/* How many parts a group can have. */
+enum { BS_MOST_PARTS = 63 };
+
+/* The table of a node, by its number: 0 is the main one, which has the inner nodes; the parts are numbered from 1. */
+static inline uint32_t bs_group_table(bs_node node) {
+  return (uint32_t)((uint64_t)node.key >> 32);
+}
+
+/* ------------------------------------------------------------------------------------------------
+ * Groups.
+ */
+
+bs_reply bs_call_group_make(bs_table_group **group, const bs_options *options, size_t size, uint32_t parts);
+
+/* Makes a group with so many parts, by options as bs_table_make takes them, and writes the pointer to it, which must be
+ * null before. Each of its tables may have as many nodes as the options say, and the group as many transactions.
+ * Refused as bs_table_make; with BS_BAD_NUMBER also if the parts are not 1 to BS_MOST_PARTS, or deadlocks are not
+ * detected at block. Takes memory. */
+static inline bs_reply bs_group_make(bs_table_group **group, const bs_options *options, uint32_t parts) {
+  bs_status misfit = bs_call_misfit();
+  if (group == NULL) return bs_call_null();
+  return misfit == BS_DONE ? bs_call_group_make(group, options, sizeof *options, parts) : bs_call_only(misfit);
+}
+
+/* Ends a group, as bs_table_end ends a table: each call from now on, and each that sleeps, is answered BS_NO_MANAGER.
+ * Refused with BS_NO_MANAGER also if another thread is ending it. */
+bs_reply bs_group_end(bs_table_group *group);
+
+/* Frees the memory of a group that was ended, as bs_table_free does. */
+bs_reply bs_group_free(bs_table_group **group);
+
+/* ------------------------------------------------------------------------------------------------
+ * The graph. Its nodes neither move nor are dropped.
+ */
+
+/* Makes an inner node, in all tables. Costs the latches of all tables at once. Refused as bs_add_inner, and with
+ * BS_TOO_MANY_NODES if any table is full. After BS_NO_MEMORY some tables may keep a node that nobody can name. */
+bs_reply bs_group_add_inner(bs_table_group *group, const bs_node *parents, size_t count);
+
+/* Makes a file in this part; with 0, in each part by turns. Refused with BS_BAD_NUMBER also if there is no such part. */
+bs_reply bs_group_add_file(bs_table_group *group, uint32_t part, const bs_node *parents, size_t count);
+bs_reply bs_group_add_row_file(bs_table_group *group, uint32_t part, const bs_node *parents, size_t count);
+
+/* Makes an index in the part of its file. */
+bs_reply bs_group_add_index(bs_table_group *group, const bs_node *parents, size_t count, bs_node file,
+                            const uint64_t *bounds, size_t bound_count);
+
+/* ------------------------------------------------------------------------------------------------
+ * Transactions.
+ */
+
+/* Begins a transaction, in `txn`, without any latch. Its age is its own in the group, and greater than that of any
+ * earlier one of its slot. A slot takes 64 ages at a time, so a later transaction of another slot may have a smaller
+ * age, and counts as the older one: but no more than 63 of each slot do. Refused with BS_TOO_MANY_TXNS. */
+bs_reply bs_group_begin(bs_table_group *group);
+
+/* The same for work that has been tried since an earlier begin, as in bs_begin_again. */
+bs_reply bs_group_begin_again(bs_table_group *group, uint64_t since);
+
+/* End a transaction in each of its tables, one after the other, the main one last. */
+bs_reply bs_group_commit(bs_table_group *group, bs_txn txn);
+bs_reply bs_group_abort(bs_table_group *group, bs_txn txn);
+
+/* ------------------------------------------------------------------------------------------------
+ * Locks.
+ */
+
+/* As bs_table_lock_path, of any node. If it is a file or below one, and an inner node above it is locked in more than an
+ * intention, or somebody waits for that, it may sleep in the main table first. A mode of more than an intention on an
+ * inner node is the one that the main table grants: what the transaction has there alone, it keeps until it ends. */
+bs_reply bs_group_lock_path(bs_table_group *group, bs_txn txn, bs_node node, bs_mode mode,
+                            const struct timespec *until);
+
+/* As bs_table_lock_row_path. */
+bs_reply bs_group_lock_row_path(bs_table_group *group, bs_txn txn, bs_node file, uint64_t number, const uint64_t *keys,
+                                size_t count, bs_mode mode, const struct timespec *until);
+
+bs_reply bs_group_unlock_row(bs_table_group *group, bs_txn txn, bs_node file, uint64_t number);
+
+/* As bs_table_escalate, of a file, an index or an interval; refused with BS_BAD_PARENTS also for an inner node. */
+bs_reply bs_group_escalate(bs_table_group *group, bs_txn txn, bs_node node);
+
+/* ------------------------------------------------------------------------------------------------
+ * Records.
+ */
+
+/* As bs_table_insert_path: it never sleeps, and tries what it lacks above the record, also in the main table.
+ * BS_WOULD_BLOCK: `node` is the one that cannot be had at once. If it is refused, it keeps nothing of what it got in the
+ * part, but what it got in the main table stays. */
+bs_reply bs_group_insert(bs_table_group *group, bs_txn txn, bs_node file, const uint64_t *keys, size_t count);
+
+/* As the calls of a table: what they need must be held, and they request nothing. */
+bs_reply bs_group_delete(bs_table_group *group, bs_txn txn, bs_node record);
+bs_reply bs_group_rekey(bs_table_group *group, bs_txn txn, bs_node record, bs_node index, uint64_t key);
+bs_reply bs_group_rekey_row(bs_table_group *group, bs_txn txn, bs_node file, uint64_t number, bs_node index,
+                            uint64_t key);
+bs_reply bs_group_adopt(bs_table_group *group, bs_node file, const uint64_t *keys, size_t count);
+bs_reply bs_group_forget(bs_table_group *group, bs_node record);
+
+/* ------------------------------------------------------------------------------------------------
+ * Questions.
+ */
+
+/* The mode in which a transaction holds a node, in `mode`: of an inner node the supremum of what it has in all tables.
+ * Of an inner node it costs the latches of the main table and of the transaction's parts, one after the other; of
+ * another node that of its part. Also of a transaction that fell. Refused with BS_NO_SUCH_TXN, BS_NO_SUCH_NODE. */
+bs_reply bs_group_held(bs_table_group *group, bs_txn txn, bs_node node);
+
+/* Acquires the latch of a table of the group, by its number, and lends its manager, as bs_table_hold does: for questions
+ * of one table. Null also if this thread holds a table already. The manager has names of its own: of nodes, as the two
+ * calls below say, and of transactions, which have the slot of the group's, but another age (bs_living). */
+const bs_manager *bs_group_hold(bs_table_group *group, uint32_t table);
+bs_reply bs_group_let_go(bs_table_group *group, uint32_t table);
+
+/* The name in this table of a node of the group, in `node`; and the name in the group of a node of this table. This
+ * thread may hold the table; it may hold no other. Refused with BS_BAD_NUMBER, first of all, if there is no such table,
+ * and with BS_NO_SUCH_NODE if the node is not there. A name of a node that is not an inner one is translated whether it
+ * names a node or not. Costs a look-up, and the latch of the table if this thread does not hold it. */
+bs_reply bs_group_name_in(bs_table_group *group, bs_node node, uint32_t table);
+bs_reply bs_group_name_of(bs_table_group *group, bs_node node, uint32_t table);
+
+#ifdef __cplusplus
+}
+#endif
+
+#endif

@@ -1,0 +1,1445 @@
+/*
+ * groups.c: stories of a group of tables, and a crowd that uses one. It looks into the group, whose source it includes.
+ *
+ *   groups                          the stories, and a crowd for a second
+ *   groups SECONDS [SEED]           crowds for so many seconds, and before that many calls beside a table
+ */
+#include "burlapslate_group.c"
+#include "burlapslate_rows.h"
+
+#include "memory.h"
+#include "pcg.h"
+#include "threads.h"
+
+enum { PARTS = 4, AREAS = 3 };
+
+/* ------------------------------------------------------------------------------------------------
+ * A look into a group, under all latches.
+ */
+
+/* What holds of an inner node in a part, whatever happens. */
+static void want_rules_of(const bs_table_group *group, const group_table *t, uint32_t number) {
+  const group_table *main_table = &group->tables[0];
+  bs_node node = t->at[number].node, in_main = main_table->at[number].node;
+  bs_slots holders = bs_holders(t->manager, node).slots;
+  uint32_t slot;
+  for (slot = 0; slot < BS_SLOTS; slot++) {
+    if (!bs_has(holders, slot)) continue;
+    WANT(bs_held(t->manager, bs_living(t->manager, slot).txn, node).mode <= BS_IX);
+  }
+  WANT(bs_queue_len(t->manager, node).count == 0);
+  if (!group_is_marked(t, number)) {
+    WANT(bs_is_clear(main_table->manager, in_main).count == 1);
+    WANT(main_table->at[number].inner->in_progress == 0);
+    return;
+  }
+  WANT(bs_next_copy(main_table->manager, in_main, t->manager, node).status == BS_NO_PLACE);
+  for (slot = 0; slot < group->most; slot++) {
+    const group_slot *other = group_slot_at(group, slot);
+    bs_reply there;
+    group_tops tops;
+    if (!bs_inside_sleeps(t->table, slot)) continue;
+    group_find_tops(t, &other->target, &tops);
+    if (!group_may_pass(&tops, number)) continue;
+    there = bs_living(main_table->manager, slot);
+    WANT(there.status == BS_DONE);
+    there = bs_held(main_table->manager, there.txn, in_main);
+    WANT(group_covers(there.mode, group_intention(other->target.mode)));
+  }
+}
+
+/* Who is in the main table knows it, and nobody is in a table without a slot. */
+static void want_rules_of_slot(const bs_table_group *group, uint32_t slot) {
+  const group_slot *own = group_slot_at(group, slot);
+  uint32_t number, tables = 0;
+  for (number = 0; number <= group->parts; number++) {
+    tables += bs_living(group->tables[number].manager, slot).status == BS_DONE;
+  }
+  if (bs_living(group->tables[0].manager, slot).status == BS_DONE) {
+    WANT(__atomic_load_n(&own->is_in_main, __ATOMIC_RELAXED));
+  }
+  if (tables > 0) WANT(__atomic_load_n(&own->is_taken, __ATOMIC_RELAXED));
+  if (tables > 1) WANT(__atomic_load_n(&own->is_spread, __ATOMIC_RELAXED));
+}
+
+static void want_rules(bs_table_group *group) {
+  uint32_t part, number, slot;
+  group_take_all(group);
+  WANT(group->faults == 0);
+  for (part = 1; part <= group->parts; part++) {
+    const group_table *t = &group->tables[part];
+    uint32_t marks = 0;
+    WANT(t->count == group->tables[0].count);
+    for (number = 0; number < t->count; number++) {
+      want_rules_of(group, t, number);
+      marks += group_is_marked(t, number);
+    }
+    WANT(marks == t->marks);
+  }
+  for (slot = 0; slot < group->most; slot++) want_rules_of_slot(group, slot);
+  group_release_all(group);
+}
+
+/* How many inner nodes a part is marked for. */
+static uint32_t marks_in(bs_table_group *group, uint32_t part) {
+  uint32_t marks;
+  bs_inside_take(group->tables[part].table);
+  marks = group->tables[part].marks;
+  bs_inside_release(group->tables[part].table);
+  return marks;
+}
+
+/* Nobody has a slot, holds anything or is in any table, and nothing is marked. */
+static void want_rest(bs_table_group *group) {
+  uint32_t table, number, slot;
+  want_rules(group);
+  for (table = 0; table <= group->parts; table++) {
+    const group_table *t = &group->tables[table];
+    WANT(marks_in(group, table) == 0);
+    bs_inside_take(t->table);
+    for (number = 0; number < t->count; number++) WANT(bs_group(t->manager, t->at[number].node).mode == BS_NL);
+    for (slot = 0; slot < BS_SLOTS; slot++) WANT(bs_living(t->manager, slot).status == BS_NO_PLACE);
+    bs_inside_release(t->table);
+  }
+  for (slot = 0; slot < group->most; slot++) WANT(!group_slot_at(group, slot)->is_taken);
+  WANT(group->spread == 0);
+}
+
+/* The mode in which a transaction holds an inner node in one table. */
+static bs_mode held_in(bs_table_group *group, uint32_t table, bs_txn txn, bs_node node) {
+  bs_node there = DONE(bs_group_name_in(group, node, table)).node;
+  const bs_manager *m = bs_group_hold(group, table);
+  bs_reply there_txn = bs_living(m, txn.slot);
+  bs_mode mode = there_txn.status == BS_DONE ? DONE(bs_held(m, there_txn.txn, there)).mode : BS_NL;
+  DONE(bs_group_let_go(group, table));
+  return mode;
+}
+
+/* ------------------------------------------------------------------------------------------------
+ * A world: a data base with areas, which have a quarter each; for each part a file of records in an area, and a file of
+ * rows in its quarter, with an index in the next area.
+ */
+
+enum { RECORDS = 4, BOUND = 100 };
+
+static bs_table_group *group;
+static bs_node base, areas[AREAS], quarters[AREAS];
+static bs_node files[PARTS + 1], row_files[PARTS + 1], indexes[PARTS + 1]; /* by part; area (part - 1) % AREAS */
+static bs_node records[PARTS + 1][RECORDS];
+
+static bs_txn begun(void) {
+  return DONE(bs_group_begin(group)).txn;
+}
+
+static void commit(bs_txn txn) {
+  DONE(bs_group_commit(group, txn));
+}
+
+static bs_node area_of(uint32_t part) {
+  return areas[(part - 1) % AREAS];
+}
+
+static void make_part(uint32_t part) {
+  const uint64_t bound = BOUND;
+  bs_node area = area_of(part);
+  bs_txn txn;
+  size_t i;
+  files[part] = DONE(bs_group_add_file(group, part, &area, 1)).node;
+  row_files[part] = DONE(bs_group_add_row_file(group, part, &quarters[(part - 1) % AREAS], 1)).node;
+  indexes[part] = DONE(bs_group_add_index(group, &areas[part % AREAS], 1, row_files[part], &bound, 1)).node;
+  WANT(bs_group_table(files[part]) == part && bs_group_table(indexes[part]) == part);
+  txn = begun();
+  for (i = 0; i < RECORDS; i++) records[part][i] = DONE(bs_group_insert(group, txn, files[part], NULL, 0)).node;
+  commit(txn);
+}
+
+static void make_world(uint32_t transactions) {
+  bs_options options;
+  uint32_t i;
+  memset(&options, 0, sizeof options);
+  options.transactions = transactions;
+  DONE(bs_group_make(&group, &options, PARTS));
+  base = DONE(bs_group_add_inner(group, NULL, 0)).node;
+  for (i = 0; i < AREAS; i++) areas[i] = DONE(bs_group_add_inner(group, &base, 1)).node;
+  for (i = 0; i < AREAS; i++) quarters[i] = DONE(bs_group_add_inner(group, &areas[i], 1)).node;
+  for (i = 1; i <= PARTS; i++) make_part(i);
+  want_rest(group);
+}
+
+static void end_world(void) {
+  want_rest(group);
+  DONE(bs_group_end(group));
+  DONE(bs_group_free(&group));
+  WANT(group == NULL);
+}
+
+static bs_reply lock_path(bs_txn txn, bs_node node, bs_mode mode) {
+  return bs_group_lock_path(group, txn, node, mode, NULL);
+}
+
+static bs_reply lock_for(bs_txn txn, bs_node node, bs_mode mode, uint64_t milliseconds) {
+  struct timespec until = bs_after(milliseconds);
+  return bs_group_lock_path(group, txn, node, mode, &until);
+}
+
+/* ------------------------------------------------------------------------------------------------
+ * Stories of one thread.
+ */
+
+static void groups_are_made_and_ended(void) {
+  bs_table_group *other = NULL;
+  bs_options options;
+  memset(&options, 0, sizeof options);
+  ANSWERS(BS_NULL_POINTER, bs_group_make(NULL, NULL, 1));
+  ANSWERS(BS_BAD_NUMBER, bs_group_make(&other, NULL, 0));
+  ANSWERS(BS_BAD_NUMBER, bs_group_make(&other, NULL, BS_MOST_PARTS + 1));
+  options.transactions = BS_SLOTS + 1;
+  ANSWERS(BS_BAD_NUMBER, bs_group_make(&other, &options, 1));
+  options.transactions = 0;
+  options.detect = BS_BY_WATCHER;
+  ANSWERS(BS_BAD_NUMBER, bs_group_make(&other, &options, 1));
+  options.detect = 0;
+  options.victims = 7;
+  ANSWERS(BS_BAD_NUMBER, bs_group_make(&other, &options, 1));
+  WANT(other == NULL);
+  DONE(bs_group_make(&other, NULL, BS_MOST_PARTS));
+  ANSWERS(BS_IN_USE, bs_group_make(&other, NULL, 1));
+  ANSWERS(BS_IN_USE, bs_group_free(&other));
+  DONE(bs_group_end(other));
+  ANSWERS(BS_NO_MANAGER, bs_group_end(other));
+  ANSWERS(BS_NO_MANAGER, bs_group_begin(other));
+  ANSWERS(BS_NO_MANAGER, bs_group_add_inner(other, NULL, 0));
+  WANT(bs_group_hold(other, 0) == NULL);
+  DONE(bs_group_free(&other));
+  ANSWERS(BS_NULL_POINTER, bs_group_free(&other));
+  ANSWERS(BS_NULL_POINTER, bs_group_free(NULL));
+  ANSWERS(BS_NULL_POINTER, bs_group_end(NULL));
+}
+
+static void null_groups_are_refused(void) {
+  bs_txn txn = { 0, 1 };
+  ANSWERS(BS_NULL_POINTER, bs_group_begin(NULL));
+  ANSWERS(BS_NULL_POINTER, bs_group_begin_again(NULL, 1));
+  ANSWERS(BS_NULL_POINTER, bs_group_commit(NULL, txn));
+  ANSWERS(BS_NULL_POINTER, bs_group_abort(NULL, txn));
+  ANSWERS(BS_NULL_POINTER, bs_group_add_inner(NULL, NULL, 0));
+  ANSWERS(BS_NULL_POINTER, bs_group_add_inner(group, NULL, 1));
+  ANSWERS(BS_NULL_POINTER, bs_group_add_file(NULL, 1, &base, 1));
+  ANSWERS(BS_NULL_POINTER, bs_group_add_file(group, 1, NULL, 1));
+  ANSWERS(BS_NULL_POINTER, bs_group_add_row_file(group, 1, NULL, 1));
+  ANSWERS(BS_NULL_POINTER, bs_group_add_index(group, &base, 1, files[1], NULL, 1));
+  ANSWERS(BS_NULL_POINTER, bs_group_lock_path(NULL, txn, base, BS_S, NULL));
+  ANSWERS(BS_NULL_POINTER, bs_group_lock_row_path(NULL, txn, base, 1, NULL, 0, BS_S, NULL));
+  ANSWERS(BS_NULL_POINTER, bs_group_lock_row_path(group, txn, base, 1, NULL, 1, BS_S, NULL));
+  ANSWERS(BS_NULL_POINTER, bs_group_insert(NULL, txn, base, NULL, 0));
+  ANSWERS(BS_NULL_POINTER, bs_group_insert(group, txn, base, NULL, 1));
+  ANSWERS(BS_NULL_POINTER, bs_group_adopt(group, base, NULL, 1));
+  ANSWERS(BS_NULL_POINTER, bs_group_forget(NULL, base));
+  ANSWERS(BS_NULL_POINTER, bs_group_delete(NULL, txn, base));
+  ANSWERS(BS_NULL_POINTER, bs_group_rekey(NULL, txn, base, base, 1));
+  ANSWERS(BS_NULL_POINTER, bs_group_rekey_row(NULL, txn, base, 1, base, 1));
+  ANSWERS(BS_NULL_POINTER, bs_group_unlock_row(NULL, txn, base, 1));
+  ANSWERS(BS_NULL_POINTER, bs_group_escalate(NULL, txn, base));
+  ANSWERS(BS_NULL_POINTER, bs_group_held(NULL, txn, base));
+  ANSWERS(BS_NULL_POINTER, bs_group_name_in(NULL, base, 0));
+  ANSWERS(BS_NULL_POINTER, bs_group_let_go(NULL, 0));
+  WANT(bs_group_hold(NULL, 0) == NULL && bs_group_hold(group, PARTS + 1) == NULL);
+}
+
+static void wrong_graphs_are_refused(void) {
+  bs_node nine[9], none = { 77, 3 }, far = { (size_t)(PARTS + 1) << 32 | 1, 1 };
+  const uint64_t falling[2] = { 5, 4 };
+  uint64_t key = 1;
+  size_t i;
+  for (i = 0; i < 9; i++) nine[i] = base;
+  ANSWERS(BS_BAD_NUMBER, bs_group_add_inner(group, nine, 9));
+  ANSWERS(BS_BAD_NUMBER, bs_group_add_file(group, 1, nine, 9));
+  ANSWERS(BS_BAD_NUMBER, bs_group_add_file(group, PARTS + 1, &base, 1));
+  ANSWERS(BS_BAD_NUMBER, bs_group_add_index(group, nine, 9, files[1], NULL, 0));
+  ANSWERS(BS_NO_SUCH_NODE, bs_group_add_inner(group, &none, 1));
+  ANSWERS(BS_NO_SUCH_NODE, bs_group_add_inner(group, &far, 1));
+  ANSWERS(BS_NO_SUCH_NODE, bs_group_add_inner(group, &files[1], 1));
+  ANSWERS(BS_BAD_PARENTS, bs_group_add_inner(group, nine, 2));
+  ANSWERS(BS_NO_SUCH_NODE, bs_group_add_file(group, 1, &none, 1));
+  ANSWERS(BS_NO_SUCH_NODE, bs_group_add_file(group, 1, &files[2], 1));
+  ANSWERS(BS_BAD_PARENTS, bs_group_add_file(group, 1, &files[1], 1));
+  ANSWERS(BS_BAD_PARENTS, bs_group_add_file(group, 1, NULL, 0));
+  ANSWERS(BS_BAD_PARENTS, bs_group_add_index(group, &base, 1, base, NULL, 0));
+  ANSWERS(BS_NO_SUCH_NODE, bs_group_add_index(group, &base, 1, none, NULL, 0));
+  ANSWERS(BS_NO_SUCH_NODE, bs_group_add_index(group, &base, 1, far, NULL, 0));
+  ANSWERS(BS_BAD_KEYS, bs_group_add_index(group, &base, 1, DONE(bs_group_add_file(group, 1, &base, 1)).node, falling, 2));
+  ANSWERS(BS_BAD_PARENTS, bs_group_adopt(group, base, &key, 1));
+  ANSWERS(BS_NO_SUCH_NODE, bs_group_adopt(group, far, &key, 1));
+  ANSWERS(BS_BAD_PARENTS, bs_group_forget(group, base));
+  ANSWERS(BS_BAD_PARENTS, bs_group_forget(group, files[1]));
+  want_rest(group);
+}
+
+static void wrong_requests_are_refused(void) {
+  bs_txn txn = begun(), gone = txn, far = { BS_SLOTS, 1 };
+  bs_node none = { 77, 3 }, beyond = { (size_t)(PARTS + 1) << 32 | 1, 1 };
+  struct timespec bad = { 0, 1000000000 };
+  uint64_t key = 5;
+  ANSWERS(BS_BAD_NUMBER, lock_path(txn, base, BS_X + 1));
+  ANSWERS(BS_BAD_NUMBER, lock_path(txn, records[1][0], BS_X | BS_INSTANT));
+  ANSWERS(BS_BAD_NUMBER, bs_group_lock_path(group, txn, base, BS_S, &bad));
+  ANSWERS(BS_BAD_NUMBER, bs_group_lock_row_path(group, txn, row_files[1], 1, &key, 1, BS_S, &bad));
+  ANSWERS(BS_BAD_MODE, lock_path(txn, base, BS_NL));
+  ANSWERS(BS_BAD_MODE, lock_path(txn, files[1], BS_NL));
+  ANSWERS(BS_BAD_MODE, lock_path(txn, records[1][0], BS_IX));
+  ANSWERS(BS_NO_SUCH_NODE, lock_path(txn, none, BS_S));
+  ANSWERS(BS_NO_SUCH_NODE, lock_path(txn, beyond, BS_S));
+  ANSWERS(BS_NOT_ROWS, bs_group_lock_row_path(group, txn, base, 1, &key, 1, BS_S, NULL));
+  ANSWERS(BS_NOT_ROWS, bs_group_lock_row_path(group, txn, beyond, 1, &key, 1, BS_S, NULL));
+  ANSWERS(BS_NOT_ROWS, bs_group_lock_row_path(group, txn, files[1], 1, NULL, 0, BS_S, NULL));
+  ANSWERS(BS_BAD_KEYS, bs_group_lock_row_path(group, txn, row_files[1], 1, NULL, 0, BS_S, NULL));
+  ANSWERS(BS_BAD_PARENTS, bs_group_insert(group, txn, base, NULL, 0));
+  ANSWERS(BS_BAD_PARENTS, bs_group_insert(group, txn, records[1][0], NULL, 0));
+  ANSWERS(BS_ROWS_BY_NUMBER, bs_group_insert(group, txn, row_files[1], &key, 1));
+  ANSWERS(BS_BAD_PARENTS, bs_group_delete(group, txn, areas[0]));
+  ANSWERS(BS_NEED_EXCLUSIVE, bs_group_delete(group, txn, records[1][0]));
+  ANSWERS(BS_BAD_PARENTS, bs_group_rekey(group, txn, base, indexes[1], 1));
+  ANSWERS(BS_NO_SUCH_NODE, bs_group_rekey_row(group, txn, row_files[1], 9, indexes[1], 1));
+  ANSWERS(BS_NOT_ROWS, bs_group_unlock_row(group, txn, base, 1));
+  ANSWERS(BS_BAD_PARENTS, bs_group_escalate(group, txn, base));
+  ANSWERS(BS_NOT_HELD, bs_group_escalate(group, txn, files[1]));
+  ANSWERS(BS_NO_SUCH_NODE, bs_group_held(group, txn, none));
+  ANSWERS(BS_NO_SUCH_NODE, bs_group_held(group, txn, beyond));
+  ANSWERS(BS_NO_SUCH_TXN, lock_path(far, base, BS_S));
+  commit(txn);
+  ANSWERS(BS_NO_SUCH_TXN, lock_path(gone, records[1][0], BS_S));
+  ANSWERS(BS_NO_SUCH_TXN, bs_group_commit(group, gone));
+  ANSWERS(BS_NO_SUCH_TXN, bs_group_abort(group, gone));
+  ANSWERS(BS_NO_SUCH_TXN, bs_group_held(group, gone, base));
+  ANSWERS(BS_NO_SUCH_TXN, bs_group_insert(group, gone, files[1], NULL, 0));
+  want_rest(group);
+}
+
+static void who_holds_a_table_is_refused(void) {
+  bs_txn txn = begun();
+  bs_table_group *same = group;
+  WANT(bs_group_hold(group, 2) != NULL);
+  WANT(bs_group_hold(group, 2) == NULL && bs_group_hold(group, 3) == NULL);
+  ANSWERS(BS_IN_USE, bs_group_begin(group));
+  ANSWERS(BS_IN_USE, lock_path(txn, records[1][0], BS_S));
+  ANSWERS(BS_IN_USE, bs_group_commit(group, txn));
+  ANSWERS(BS_IN_USE, bs_group_add_inner(group, NULL, 0));
+  ANSWERS(BS_IN_USE, bs_group_end(group));
+  ANSWERS(BS_IN_USE, bs_group_free(&same));
+  ANSWERS(BS_IN_USE, bs_group_name_in(group, base, 1));
+  DONE(bs_group_name_in(group, base, 2));
+  ANSWERS(BS_NOT_HELD, bs_group_let_go(group, 1));
+  ANSWERS(BS_BAD_NUMBER, bs_group_let_go(group, PARTS + 1));
+  DONE(bs_group_let_go(group, 2));
+  ANSWERS(BS_NOT_HELD, bs_group_let_go(group, 2));
+  commit(txn);
+}
+
+static void names_are_translated(void) {
+  bs_node none = { 77, 3 }, there;
+  uint32_t table;
+  for (table = 0; table <= PARTS; table++) {
+    there = DONE(bs_group_name_in(group, areas[1], table)).node;
+    WANT(bs_kind(bs_group_hold(group, table), there).count == BS_INNER);
+    DONE(bs_group_let_go(group, table));
+    WANT(group_is_node(DONE(bs_group_name_of(group, there, table)).node, areas[1]));
+  }
+  there = DONE(bs_group_name_in(group, files[3], 3)).node;
+  WANT(bs_kind(bs_group_hold(group, 3), there).count == BS_FILE);
+  DONE(bs_group_let_go(group, 3));
+  WANT(group_is_node(DONE(bs_group_name_of(group, there, 3)).node, files[3]));
+  ANSWERS(BS_NO_SUCH_NODE, bs_group_name_in(group, files[3], 2));
+  ANSWERS(BS_NO_SUCH_NODE, bs_group_name_in(group, files[3], 0));
+  ANSWERS(BS_NO_SUCH_NODE, bs_group_name_in(group, none, 1));
+  ANSWERS(BS_NO_SUCH_NODE, bs_group_name_of(group, none, 0));
+  ANSWERS(BS_BAD_NUMBER, bs_group_name_in(group, base, PARTS + 1));
+  ANSWERS(BS_BAD_NUMBER, bs_group_name_of(group, base, PARTS + 1));
+}
+
+static void one_part_needs_no_other(void) {
+  bs_txn txn = begun();
+  uint32_t table;
+  WANT(DONE(lock_path(txn, records[2][0], BS_X)).mode == BS_X);
+  WANT(DONE(bs_group_held(group, txn, records[2][0])).mode == BS_X);
+  WANT(DONE(bs_group_held(group, txn, records[3][0])).mode == BS_NL);
+  WANT(DONE(bs_group_held(group, txn, base)).mode == BS_IX);
+  for (table = 0; table <= PARTS; table++) WANT(held_in(group, table, txn, base) == (table == 2 ? BS_IX : BS_NL));
+  WANT(!group_slot_at(group, txn.slot)->is_in_main && group->spread == 0);
+  commit(txn);
+  want_rest(group);
+}
+
+static void begins_have_ages(void) {
+  bs_txn old = begun(), txns[BS_SLOTS];
+  bs_reply again;
+  uint32_t i, j;
+  commit(old);
+  for (i = 0; i < 100; i++) {
+    bs_txn txn = begun();
+    WANT(txn.slot == old.slot && txn.age > old.age);
+    old = txn;
+    commit(txn);
+  }
+  again = DONE(bs_group_begin_again(group, 3));
+  WANT(group_slot_at(group, again.txn.slot)->since == 3 && again.txn.age > old.age);
+  DONE(lock_path(again.txn, records[1][0], BS_S));
+  DONE(bs_group_abort(group, again.txn));
+  again = DONE(bs_group_begin_again(group, UINT64_MAX));
+  WANT(group_slot_at(group, again.txn.slot)->since == again.txn.age);
+  commit(again.txn);
+  for (i = 0; i < group->most; i++) txns[i] = begun();
+  ANSWERS(BS_TOO_MANY_TXNS, bs_group_begin(group));
+  for (i = 0; i < group->most; i++) {
+    for (j = 0; j < i; j++) WANT(txns[i].slot != txns[j].slot && txns[i].age != txns[j].age);
+    DONE(lock_path(txns[i], records[1 + i % PARTS][0], BS_S));
+  }
+  commit(txns[5]);
+  txns[5] = begun();
+  for (i = 0; i < group->most; i++) commit(txns[i]);
+  want_rest(group);
+}
+
+static void records_come_and_go(void) {
+  const uint64_t bounds[2] = { 10, 20 };
+  bs_node two[2], file, index, record, interval, other;
+  uint64_t key = 15;
+  bs_txn txn = begun();
+  two[0] = areas[0];
+  two[1] = areas[1];
+  file = DONE(bs_group_add_file(group, 2, two, 2)).node;
+  index = DONE(bs_group_add_index(group, &areas[2], 1, file, bounds, 2)).node;
+  record = DONE(bs_group_insert(group, txn, file, &key, 1)).node;
+  WANT(DONE(bs_group_held(group, txn, record)).mode == BS_X);
+  WANT(held_in(group, 2, txn, areas[0]) == BS_IX && held_in(group, 2, txn, areas[1]) == BS_IX);
+  WANT(held_in(group, 2, txn, areas[2]) == BS_IX && held_in(group, 2, txn, base) == BS_IX);
+  interval = bs_interval_of(bs_group_hold(group, 2), DONE(bs_group_name_in(group, index, 2)).node, 25).node;
+  interval = DONE(bs_group_name_of(group, interval, 2)).node;
+  DONE(bs_group_let_go(group, 2));
+  WANT(group_is_node(ANSWERS(BS_NEED_PARENTS, bs_group_rekey(group, txn, record, index, 25)).node, interval));
+  DONE(lock_path(txn, interval, BS_IX));
+  DONE(bs_group_rekey(group, txn, record, index, 25));
+  ANSWERS(BS_NO_SUCH_NODE, bs_group_rekey(group, txn, record, indexes[3], 25));
+  DONE(bs_group_delete(group, txn, record));
+  ANSWERS(BS_NO_SUCH_NODE, bs_group_delete(group, txn, record));
+  commit(txn);
+  other = DONE(bs_group_adopt(group, file, &key, 1)).node;
+  WANT(bs_group_table(other) == 2);
+  txn = begun();
+  DONE(lock_path(txn, other, BS_S));
+  ANSWERS(BS_RECORD_IN_USE, bs_group_forget(group, other));
+  WANT(DONE(bs_group_escalate(group, txn, file)).mode == BS_S);
+  WANT(DONE(bs_group_held(group, txn, other)).mode == BS_NL);
+  commit(txn);
+  DONE(bs_group_forget(group, other));
+  want_rest(group);
+}
+
+static void rows_have_numbers(void) {
+  bs_txn txn = begun(), reader = begun();
+  uint64_t keys[2] = { 50, 150 };
+  bs_reply reply;
+  reply = DONE(bs_group_lock_row_path(group, txn, row_files[3], 7, keys, 1, BS_X, NULL));
+  WANT(bs_group_table(reply.node) == 3);
+  WANT(held_in(group, 3, txn, area_of(3)) == BS_IX && held_in(group, 3, txn, areas[3 % AREAS]) == BS_IX);
+  ANSWERS(BS_NEED_PARENTS, bs_group_rekey_row(group, txn, row_files[3], 7, indexes[3], 150));
+  DONE(bs_group_lock_row_path(group, txn, row_files[3], 8, keys + 1, 1, BS_X, NULL));
+  DONE(bs_group_rekey_row(group, txn, row_files[3], 7, indexes[3], 150));
+  DONE(bs_group_unlock_row(group, txn, row_files[3], 7));
+  ANSWERS(BS_NO_SUCH_NODE, bs_group_unlock_row(group, txn, row_files[3], 7));
+  DONE(bs_group_lock_row_path(group, reader, row_files[3], 7, keys, 1, BS_S, NULL));
+  WANT(held_in(group, 3, reader, area_of(3)) == BS_IS && held_in(group, 3, reader, areas[3 % AREAS]) == BS_NL);
+  commit(txn);
+  commit(reader);
+  want_rest(group);
+}
+
+/* More than an intention on an inner node is held in the main table; what its holder has below needs it there. */
+static void strong_locks_are_in_main(void) {
+  bs_txn txn = begun();
+  uint32_t part;
+  DONE(lock_path(txn, records[1][0], BS_X));
+  WANT(DONE(lock_path(txn, areas[1], BS_S)).mode == BS_S);
+  WANT(held_in(group, 0, txn, areas[1]) == BS_S && held_in(group, 0, txn, base) == BS_IX);
+  WANT(held_in(group, 0, txn, area_of(1)) == BS_IX);
+  for (part = 1; part <= PARTS; part++) WANT(marks_in(group, part) == 1);
+  want_rules(group);
+  DONE(lock_path(txn, records[2][0], BS_X));
+  WANT(held_in(group, 0, txn, areas[1]) == BS_SIX && held_in(group, 2, txn, areas[1]) == BS_IX);
+  WANT(DONE(bs_group_held(group, txn, areas[1])).mode == BS_SIX);
+  WANT(DONE(lock_path(txn, base, BS_IS)).mode == BS_IX);
+  WANT(DONE(lock_path(txn, base, BS_X)).mode == BS_X);
+  for (part = 1; part <= PARTS; part++) WANT(marks_in(group, part) == 2);
+  DONE(lock_path(txn, records[4][0], BS_S));
+  want_rules(group);
+  commit(txn);
+  want_rest(group);
+}
+
+/* An insert never sleeps; what it cannot have is named. */
+static void inserts_are_tried(void) {
+  bs_txn txn = begun(), other = begun();
+  DONE(lock_path(txn, base, BS_S));
+  WANT(group_is_node(ANSWERS(BS_WOULD_BLOCK, bs_group_insert(group, other, files[1], NULL, 0)).node, base));
+  ANSWERS(BS_TIMED_OUT, lock_for(other, records[1][0], BS_X, 1));
+  DONE(lock_path(other, records[1][0], BS_S));
+  WANT(held_in(group, 0, other, base) == BS_IS && held_in(group, 1, other, base) == BS_IS);
+  WANT(held_in(group, 0, other, area_of(1)) == BS_NL && held_in(group, 1, other, area_of(1)) == BS_IS);
+  commit(txn);
+  commit(other);
+  want_rest(group);
+}
+
+/* Nodes that are made while a node above them is locked. */
+static void nodes_are_made_at_any_time(void) {
+  bs_txn txn = begun(), other = begun();
+  bs_node area, file, many[40], record;
+  size_t i;
+  DONE(lock_path(txn, base, BS_X));
+  area = DONE(bs_group_add_inner(group, &base, 1)).node;
+  file = DONE(bs_group_add_file(group, 0, &area, 1)).node;
+  ANSWERS(BS_TIMED_OUT, lock_for(other, file, BS_IS, 1));
+  DONE(lock_path(txn, file, BS_X));
+  commit(txn);
+  DONE(lock_path(other, file, BS_X));
+  record = DONE(bs_group_insert(group, other, file, NULL, 0)).node;
+  WANT(DONE(bs_group_held(group, other, record)).mode == BS_X);
+  commit(other);
+  for (i = 0; i < 40; i++) many[i] = DONE(bs_group_add_inner(group, i == 0 ? &area : &many[i - 1], 1)).node;
+  file = DONE(bs_group_add_file(group, 2, &many[39], 1)).node;
+  txn = begun();
+  DONE(lock_path(txn, many[20], BS_SIX));
+  want_rules(group);
+  other = begun();
+  ANSWERS(BS_TIMED_OUT, lock_for(other, file, BS_IX, 1));
+  DONE(lock_path(other, file, BS_IS));
+  want_rules(group);
+  commit(other);
+  commit(txn);
+  want_rest(group);
+}
+
+/* A file below more marked nodes than any small list has places. */
+static void many_marks_are_reached(void) {
+  bs_node nodes[24], parents[8], file;
+  bs_txn owners[24], txn;
+  size_t i;
+  for (i = 0; i < 24; i++) nodes[i] = DONE(bs_group_add_inner(group, i < 8 ? &base : &nodes[i - 8], 1)).node;
+  memcpy(parents, nodes + 16, sizeof parents);
+  file = DONE(bs_group_add_file(group, 3, parents, 8)).node;
+  for (i = 0; i < 24; i++) DONE(lock_path(owners[i] = begun(), nodes[i], BS_S));
+  WANT(marks_in(group, 3) == 24);
+  txn = begun();
+  DONE(lock_path(txn, file, BS_S));
+  want_rules(group);
+  ANSWERS(BS_TIMED_OUT, lock_for(txn, file, BS_X, 1));
+  for (i = 0; i < 24; i++) commit(owners[i]);
+  WANT(marks_in(group, 3) == 0);
+  DONE(lock_path(txn, file, BS_X));
+  owners[0] = begun();
+  ANSWERS(BS_TIMED_OUT, lock_for(owners[0], nodes[23], BS_S, 1));
+  WANT(marks_in(group, 3) == 0);
+  commit(owners[0]);
+  commit(txn);
+  want_rest(group);
+}
+
+/* ------------------------------------------------------------------------------------------------
+ * One thread makes the same calls of a group and of a table with the same nodes, as several transactions. No call sleeps:
+ * its time is over. All answers are the same, and all that is held.
+ */
+
+enum { TWINS = 6, TWIN_NODES = 1 + 2 * AREAS + PARTS * (1 + RECORDS), TWIN_STEPS = 3000 };
+
+static const struct timespec at_once = { 0, 0 };
+static bs_table *twin_table;
+static bs_node twin_nodes[2][TWIN_NODES]; /* of the group and of the table; files are the last but their records */
+static size_t twin_count;
+static bs_txn twin_txns[2][TWINS];
+
+static void add_twins(bs_node of_group, bs_node of_table) {
+  twin_nodes[0][twin_count] = of_group;
+  twin_nodes[1][twin_count++] = of_table;
+}
+
+static bs_node twin_of(bs_node node) {
+  size_t i;
+  for (i = 0; i < twin_count && !group_is_node(twin_nodes[0][i], node); i++) continue;
+  WANT(i < twin_count);
+  return twin_nodes[1][i];
+}
+
+static void make_twin_table(void) {
+  bs_txn txn;
+  uint32_t i, record;
+  DONE(bs_table_make(&twin_table, NULL));
+  twin_count = 0;
+  add_twins(base, DONE(bs_table_add_inner(twin_table, NULL, 0)).node);
+  for (i = 0; i < AREAS; i++) add_twins(areas[i], DONE(bs_table_add_inner(twin_table, &twin_nodes[1][0], 1)).node);
+  for (i = 0; i < AREAS; i++) add_twins(quarters[i], DONE(bs_table_add_inner(twin_table, &twin_nodes[1][1 + i], 1)).node);
+  txn = DONE(bs_table_begin(twin_table)).txn;
+  for (i = 1; i <= PARTS; i++) {
+    bs_node area = twin_of(area_of(i)), file = DONE(bs_table_add_file(twin_table, &area, 1)).node;
+    add_twins(files[i], file);
+    DONE(bs_table_lock_path(twin_table, txn, file, BS_IX, NULL));
+    for (record = 0; record < RECORDS; record++) {
+      add_twins(records[i][record], DONE(bs_table_insert(twin_table, txn, file, NULL, 0)).node);
+    }
+  }
+  DONE(bs_table_commit(twin_table, txn, NULL));
+  WANT(twin_count == TWIN_NODES);
+}
+
+static void begin_twins(size_t which) {
+  twin_txns[0][which] = begun();
+  twin_txns[1][which] = DONE(bs_table_begin(twin_table)).txn;
+}
+
+/* Inserts a record by both, and deletes it. A refused insert keeps in the group what it has got in the main table: so the
+ * transactions end. */
+static bs_reply insert_twins(size_t which, size_t node, bs_reply *twin) {
+  bs_txn one = twin_txns[0][which], other = twin_txns[1][which];
+  bs_reply answer = bs_group_insert(group, one, twin_nodes[0][node], NULL, 0);
+  *twin = bs_table_insert_path(twin_table, other, twin_nodes[1][node], NULL, 0, BS_KEEP_NOTHING);
+  if (answer.status == BS_DONE) DONE(bs_group_delete(group, one, answer.node));
+  if (twin->status == BS_DONE) DONE(bs_table_delete(twin_table, other, twin->node, NULL));
+  if (answer.status != BS_WOULD_BLOCK || twin->status != BS_WOULD_BLOCK) return answer;
+  WANT(same_node(twin_of(answer.node), twin->node));
+  commit(one);
+  DONE(bs_table_commit(twin_table, other, NULL));
+  begin_twins(which);
+  return answer;
+}
+
+/* Makes one random call of both. */
+static void step_twins(pcg *dice) {
+  size_t which = pcg_below(dice, TWINS), node = pcg_below(dice, TWIN_NODES), what = pcg_below(dice, 100);
+  bs_mode mode = 1 + (bs_mode)pcg_below(dice, 5);
+  bs_txn one = twin_txns[0][which], other = twin_txns[1][which];
+  bs_node in_group = twin_nodes[0][node], in_table = twin_nodes[1][node];
+  bs_reply answer, twin;
+  if (what < 12) {
+    answer = what < 6 ? bs_group_commit(group, one) : bs_group_abort(group, one);
+    twin = what < 6 ? bs_table_commit(twin_table, other, NULL) : bs_table_abort(twin_table, other, NULL);
+    begin_twins(which);
+  } else if (what < 17) {
+    answer = insert_twins(which, node, &twin);
+  } else if (what < 22 && node > 2 * AREAS) {
+    answer = bs_group_escalate(group, one, in_group);
+    twin = bs_table_escalate(twin_table, other, in_table, NULL);
+    WANT(answer.released == twin.released && answer.kept == twin.kept);
+  } else {
+    answer = bs_group_lock_path(group, one, in_group, mode, &at_once);
+    twin = bs_table_lock_path(twin_table, other, in_table, mode, &at_once);
+  }
+  if (answer.status != twin.status) fprintf(stderr, "%s, and %s\n", bs_text(answer.status), bs_text(twin.status));
+  WANT(answer.status == twin.status && answer.mode == twin.mode);
+}
+
+static void want_twins_hold_the_same(void) {
+  size_t which, node;
+  for (which = 0; which < TWINS; which++) {
+    for (node = 0; node < TWIN_NODES; node++) {
+      bs_mode mode = DONE(bs_group_held(group, twin_txns[0][which], twin_nodes[0][node])).mode;
+      bs_reply held = bs_held(bs_table_hold(twin_table), twin_txns[1][which], twin_nodes[1][node]);
+      DONE(bs_table_let_go(twin_table));
+      WANT(held.status == BS_DONE && held.mode == mode);
+    }
+  }
+}
+
+static void step_twins_often(uint64_t seed, size_t steps) {
+  pcg dice = pcg_new(seed, 7);
+  size_t step, which;
+  make_twin_table();
+  for (which = 0; which < TWINS; which++) begin_twins(which);
+  for (step = 0; step < steps; step++) {
+    step_twins(&dice);
+    if (step % 20 != 0) continue;
+    want_rules(group);
+    want_twins_hold_the_same();
+  }
+  for (which = 0; which < TWINS; which++) commit(twin_txns[0][which]);
+  DONE(bs_table_end(twin_table));
+  DONE(bs_table_free(&twin_table));
+  want_rest(group);
+}
+
+static void answers_are_those_of_a_table(void) {
+  step_twins_often(1, TWIN_STEPS);
+}
+
+/* ------------------------------------------------------------------------------------------------
+ * Memory that is refused.
+ */
+
+static void refused_memory_makes_no_group(void) {
+  long before = blocks_out(), next;
+  bs_table_group *made = NULL;
+  bs_reply reply;
+  for (next = 1;; next++) {
+    refused_allocation = next;
+    reply = bs_group_make(&made, NULL, 2);
+    refused_allocation = 0;
+    if (reply.status == BS_DONE) break;
+    ANSWERS(BS_NO_MEMORY, reply);
+    WANT(made == NULL && blocks_out() == before);
+  }
+  WANT(next > 3);
+  DONE(bs_group_end(made));
+  DONE(bs_group_free(&made));
+  WANT(blocks_out() == before);
+}
+
+/* Whatever is refused, the rules hold, and the call can be made again. */
+static void refused_memory_breaks_no_rule(void) {
+  bs_txn readers[PARTS + 1], strong;
+  bs_node parent = base;
+  bs_reply reply;
+  long next;
+  uint32_t part, made;
+  for (made = 0; made < 20; made++) {
+    for (next = 1, reply.status = BS_NO_MEMORY; reply.status == BS_NO_MEMORY; next++) {
+      refused_allocation = next;
+      reply = bs_group_add_inner(group, &parent, 1);
+      refused_allocation = 0;
+      want_rules(group);
+    }
+    parent = DONE(reply).node;
+  }
+  for (part = 1; part <= PARTS; part++) DONE(lock_path(readers[part] = begun(), records[part][0], BS_S));
+  strong = begun();
+  for (next = 1, reply.status = BS_NO_MEMORY; reply.status == BS_NO_MEMORY; next++) {
+    refused_allocation = next;
+    reply = lock_path(strong, base, BS_S);
+    refused_allocation = 0;
+    want_rules(group);
+    if (reply.status != BS_DONE) WANT(marks_in(group, 1) == 0);
+  }
+  DONE(reply);
+  for (next = 1, reply.status = BS_NO_MEMORY; reply.status == BS_NO_MEMORY; next++) {
+    refused_allocation = next;
+    reply = lock_path(readers[1], records[2][0], BS_S);
+    refused_allocation = 0;
+    want_rules(group);
+  }
+  DONE(reply);
+  for (part = 1; part <= PARTS; part++) commit(readers[part]);
+  commit(strong);
+  want_rest(group);
+}
+
+/* ------------------------------------------------------------------------------------------------
+ * Stories of several threads.
+ */
+
+/* A thread that requests one lock. */
+typedef struct sleeper {
+  pthread_t thread;
+  bs_txn txn;
+  bs_node node;
+  bs_mode mode;
+  uint64_t milliseconds; /* 0: it sleeps until the end */
+  bool is_row;
+  uint64_t number, key;
+  bs_reply reply;
+  bool is_over; /* atomic */
+} sleeper;
+
+static void *sleep_for_it(void *place) {
+  sleeper *own = (sleeper *)place;
+  struct timespec time = bs_after(own->milliseconds), *until = own->milliseconds == 0 ? NULL : &time;
+  if (own->is_row) {
+    own->reply = bs_group_lock_row_path(group, own->txn, own->node, own->number, &own->key, 1, own->mode, until);
+  } else {
+    own->reply = bs_group_lock_path(group, own->txn, own->node, own->mode, until);
+  }
+  __atomic_store_n(&own->is_over, true, __ATOMIC_RELEASE);
+  return NULL;
+}
+
+static bool sleeps_in(uint32_t table, bs_txn txn) {
+  bool sleeps;
+  bs_inside_take(group->tables[table].table);
+  sleeps = bs_inside_sleeps(group->tables[table].table, txn.slot);
+  bs_inside_release(group->tables[table].table);
+  return sleeps;
+}
+
+/* Starts a thread that requests a lock, and waits until it sleeps in this table. */
+static void sleep_in(sleeper *own, uint32_t table, bs_txn txn, bs_node node, bs_mode mode) {
+  memset(own, 0, sizeof *own);
+  own->txn = txn;
+  own->node = node;
+  own->mode = mode;
+  start(&own->thread, sleep_for_it, own);
+  while (!sleeps_in(table, txn)) nap();
+  want_rules(group);
+}
+
+static void wakes_with(sleeper *own, bs_status status) {
+  join(own->thread);
+  ANSWERS(status, own->reply);
+  want_rules(group);
+}
+
+static void strong_waits_for_records_of_any_part(void) {
+  uint32_t part;
+  for (part = 1; part <= PARTS; part++) {
+    bs_txn writer = begun(), reader = begun(), strong = begun();
+    sleeper own;
+    DONE(lock_path(reader, records[part][1], BS_S));
+    DONE(lock_path(writer, records[part][0], BS_X));
+    sleep_in(&own, 0, strong, base, BS_S);
+    WANT(marks_in(group, part) == 1);
+    commit(reader);
+    WANT(sleeps_in(0, strong));
+    commit(writer);
+    wakes_with(&own, BS_DONE);
+    commit(strong);
+    want_rest(group);
+  }
+}
+
+static void records_wait_for_strong(void) {
+  uint32_t part;
+  for (part = 1; part <= PARTS; part++) {
+    bs_txn writer = begun(), reader = begun(), strong = begun();
+    sleeper own, too;
+    DONE(lock_path(strong, area_of(part), BS_S));
+    DONE(lock_path(reader, records[part][0], BS_S));
+    sleep_in(&own, 0, writer, records[part][1], BS_X);
+    WANT(held_in(group, 0, writer, base) == BS_IX);
+    commit(strong);
+    wakes_with(&own, BS_DONE);
+    commit(writer);
+    strong = begun();
+    sleep_in(&too, 0, strong, base, BS_X);
+    commit(reader);
+    wakes_with(&too, BS_DONE);
+    commit(strong);
+    want_rest(group);
+  }
+}
+
+/* Who waits in a part when that is visited gets its intentions in the main table, and its path goes on below. */
+static void sleepers_are_visited(void) {
+  bs_txn holder = begun(), waiter = begun(), strong = begun(), late = begun();
+  sleeper own, too, last;
+  DONE(lock_path(holder, files[2], BS_S));
+  sleep_in(&own, 2, waiter, records[2][0], BS_X);
+  WANT(!group_slot_at(group, waiter.slot)->is_in_main);
+  sleep_in(&too, 0, strong, base, BS_S);
+  WANT(held_in(group, 0, waiter, base) == BS_IX && held_in(group, 0, holder, base) == BS_IS);
+  commit(holder);
+  wakes_with(&own, BS_DONE);
+  WANT(sleeps_in(0, strong));
+  sleep_in(&last, 0, late, records[3][0], BS_X);
+  commit(waiter);
+  wakes_with(&too, BS_DONE);
+  WANT(sleeps_in(0, late));
+  commit(strong);
+  wakes_with(&last, BS_DONE);
+  commit(late);
+  want_rest(group);
+}
+
+/* The same of a row, whose index is in another area than its file; and a visit of the index's area alone. */
+static void rows_that_wait_are_visited(void) {
+  bs_txn holder = begun(), waiter = begun(), strong = begun();
+  sleeper own, too;
+  DONE(lock_path(holder, row_files[1], BS_S));
+  memset(&own, 0, sizeof own);
+  own.is_row = true;
+  own.number = 5;
+  own.key = 200;
+  own.txn = waiter;
+  own.node = row_files[1];
+  own.mode = BS_X;
+  start(&own.thread, sleep_for_it, &own);
+  while (!sleeps_in(1, waiter)) nap();
+  sleep_in(&too, 0, strong, areas[1], BS_S);
+  WANT(held_in(group, 0, waiter, areas[1]) == BS_IX);
+  WANT(held_in(group, 1, waiter, areas[1]) == BS_NL || held_in(group, 1, waiter, areas[1]) == BS_IX);
+  commit(holder);
+  wakes_with(&own, BS_DONE);
+  WANT(held_in(group, 1, waiter, areas[1]) == BS_IX);
+  commit(waiter);
+  wakes_with(&too, BS_DONE);
+  commit(strong);
+  want_rest(group);
+}
+
+/* A reader that waits is visited too, and is in nobody's way. */
+static void readers_that_wait_are_visited(void) {
+  bs_txn holder = begun(), waiter = begun(), strong = begun();
+  sleeper own, too;
+  DONE(lock_path(holder, records[3][0], BS_X));
+  sleep_in(&own, 3, waiter, records[3][0], BS_S);
+  sleep_in(&too, 0, strong, area_of(3), BS_S);
+  WANT(held_in(group, 0, waiter, area_of(3)) == BS_IS);
+  DONE(bs_group_abort(group, holder));
+  wakes_with(&own, BS_DONE);
+  wakes_with(&too, BS_DONE);
+  commit(waiter);
+  commit(strong);
+  want_rest(group);
+}
+
+/* A mark stays while a request for more waits for a node above: the last holder before it leaves it. Otherwise the reader
+ * would not be seen by that request. */
+static void marks_stay_for_requests_above(void) {
+  bs_txn first = begun(), above = begun(), strong = begun(), reader = begun();
+  sleeper own;
+  DONE(lock_path(reader, records[3][0], BS_S));
+  DONE(lock_path(first, areas[0], BS_S));
+  DONE(lock_path(above, base, BS_S));
+  sleep_in(&own, 0, strong, areas[0], BS_X);
+  WANT(held_in(group, 0, strong, base) == BS_NL);
+  commit(first);
+  want_rules(group);
+  WANT(group_is_marked(&group->tables[1], (uint32_t)areas[0].key));
+  DONE(lock_path(reader, records[1][0], BS_S));
+  commit(above);
+  while (held_in(group, 0, strong, base) != BS_IX) nap();
+  WANT(sleeps_in(0, strong));
+  WANT(held_in(group, 0, strong, areas[0]) == BS_NL);
+  commit(reader);
+  wakes_with(&own, BS_DONE);
+  commit(strong);
+  want_rest(group);
+}
+
+/* The time of a strong request, and of one that waits for it, is over. */
+static void times_leave_no_marks(void) {
+  bs_txn writer = begun(), strong = begun(), other = begun();
+  DONE(lock_path(writer, records[1][0], BS_X));
+  ANSWERS(BS_TIMED_OUT, lock_for(strong, base, BS_S, 5));
+  WANT(marks_in(group, 1) == 0);
+  want_rules(group);
+  WANT(held_in(group, 0, writer, base) == BS_IX);
+  DONE(lock_path(other, areas[1], BS_X));
+  ANSWERS(BS_TIMED_OUT, lock_for(strong, areas[1], BS_S, 5));
+  WANT(marks_in(group, 1) == 1);
+  ANSWERS(BS_TIMED_OUT, lock_for(strong, records[2][0], BS_S, 5));
+  ANSWERS(BS_TIMED_OUT, lock_for(other, records[1][0], BS_S, 5));
+  commit(other);
+  WANT(marks_in(group, 1) == 0);
+  DONE(lock_path(strong, records[2][0], BS_S));
+  commit(strong);
+  commit(writer);
+  want_rest(group);
+}
+
+/* Of two that wait for each other in two parts, the younger falls. */
+static void cycles_over_parts_end(void) {
+  bs_txn old = begun(), young = begun();
+  sleeper own, too;
+  DONE(lock_path(old, records[1][0], BS_X));
+  DONE(lock_path(young, records[2][0], BS_X));
+  sleep_in(&own, 2, old, records[2][0], BS_X);
+  memset(&too, 0, sizeof too);
+  too.txn = young;
+  too.node = records[1][0];
+  too.mode = BS_S;
+  start(&too.thread, sleep_for_it, &too);
+  wakes_with(&too, BS_VICTIM);
+  WANT(sleeps_in(2, old));
+  ANSWERS(BS_TXN_CONDEMNED, bs_group_commit(group, young));
+  ANSWERS(BS_TXN_CONDEMNED, lock_path(young, records[3][0], BS_S));
+  ANSWERS(BS_TXN_CONDEMNED, bs_group_insert(group, young, files[1], NULL, 0));
+  WANT(DONE(bs_group_held(group, young, records[2][0])).mode == BS_X);
+  DONE(bs_group_abort(group, young));
+  wakes_with(&own, BS_DONE);
+  commit(old);
+  want_rest(group);
+}
+
+/* The same with the younger by its `since`, and over the main table: who waits there holds a record that the other
+ * wants. */
+static void cycles_over_main_end(void) {
+  bs_txn other = begun(), strong = DONE(bs_group_begin_again(group, 0)).txn;
+  sleeper own, too;
+  DONE(lock_path(strong, records[1][0], BS_X));
+  DONE(lock_path(other, records[2][0], BS_X));
+  sleep_in(&own, 0, strong, base, BS_S);
+  memset(&too, 0, sizeof too);
+  too.txn = other;
+  too.node = records[1][0];
+  too.mode = BS_S;
+  start(&too.thread, sleep_for_it, &too);
+  wakes_with(&too, BS_VICTIM);
+  WANT(sleeps_in(0, strong));
+  DONE(bs_group_abort(group, other));
+  wakes_with(&own, BS_DONE);
+  commit(strong);
+  want_rest(group);
+}
+
+/* Three on a cycle over three tables: one falls. */
+static void one_of_a_cycle_falls(void) {
+  bs_txn txns[3];
+  sleeper own[3];
+  size_t i, fallen = 0;
+  for (i = 0; i < 3; i++) DONE(lock_path(txns[i] = begun(), records[i + 1][0], BS_X));
+  for (i = 0; i < 3; i++) {
+    memset(&own[i], 0, sizeof own[i]);
+    own[i].txn = txns[i];
+    own[i].node = records[(i + 1) % 3 + 1][0];
+    own[i].mode = BS_X;
+    start(&own[i].thread, sleep_for_it, &own[i]);
+  }
+  while (fallen == 0) {
+    for (i = 0; i < 3; i++) {
+      if (!__atomic_load_n(&own[i].is_over, __ATOMIC_ACQUIRE)) continue;
+      join(own[i].thread);
+      ANSWERS(BS_VICTIM, own[i].reply);
+      DONE(bs_group_abort(group, txns[i]));
+      fallen++;
+      break;
+    }
+    if (fallen == 0) nap();
+  }
+  join(own[(i + 2) % 3].thread);
+  DONE(own[(i + 2) % 3].reply);
+  commit(txns[(i + 2) % 3]);
+  join(own[(i + 1) % 3].thread);
+  DONE(own[(i + 1) % 3].reply);
+  commit(txns[(i + 1) % 3]);
+  want_rest(group);
+}
+
+/* A cycle within one part, and one within the main table, end at once. */
+static void cycles_of_one_table_end(void) {
+  bs_txn old = begun(), young = begun();
+  sleeper own;
+  DONE(lock_path(old, records[1][0], BS_X));
+  DONE(lock_path(young, records[1][1], BS_X));
+  sleep_in(&own, 1, old, records[1][1], BS_X);
+  ANSWERS(BS_VICTIM, lock_path(young, records[1][0], BS_X));
+  ANSWERS(BS_TXN_CONDEMNED, lock_path(young, base, BS_S));
+  DONE(bs_group_abort(group, young));
+  wakes_with(&own, BS_DONE);
+  commit(old);
+  old = begun();
+  young = begun();
+  DONE(lock_path(old, base, BS_S));
+  DONE(lock_path(young, base, BS_S));
+  sleep_in(&own, 0, old, base, BS_X);
+  ANSWERS(BS_VICTIM, lock_path(young, records[1][0], BS_X));
+  ANSWERS(BS_TXN_CONDEMNED, bs_group_commit(group, young));
+  DONE(bs_group_abort(group, young));
+  wakes_with(&own, BS_DONE);
+  commit(old);
+  old = begun();
+  young = begun();
+  DONE(lock_path(old, base, BS_S));
+  DONE(lock_path(young, base, BS_S));
+  sleep_in(&own, 0, old, base, BS_X);
+  ANSWERS(BS_VICTIM, lock_path(young, base, BS_SIX));
+  ANSWERS(BS_TXN_CONDEMNED, bs_group_commit(group, young));
+  DONE(bs_group_abort(group, young));
+  wakes_with(&own, BS_DONE);
+  commit(old);
+  want_rest(group);
+}
+
+/* A group ends under those who sleep in it. */
+static void ends_wake_all(void) {
+  bs_txn holder = begun(), one = begun(), two = begun();
+  sleeper own, too;
+  DONE(lock_path(holder, records[2][0], BS_X));
+  sleep_in(&own, 2, one, records[2][0], BS_X);
+  sleep_in(&too, 0, two, base, BS_S);
+  DONE(bs_group_end(group));
+  join(own.thread);
+  join(too.thread);
+  ANSWERS(BS_NO_MANAGER, own.reply);
+  ANSWERS(BS_NO_MANAGER, too.reply);
+  ANSWERS(BS_NO_MANAGER, bs_group_commit(group, holder));
+  ANSWERS(BS_NO_MANAGER, lock_path(one, base, BS_S));
+  DONE(bs_group_free(&group));
+}
+
+/* The same while they look for cycles. */
+static void ends_come_between_looks(void) {
+  enum { SLEEPERS = 8 };
+  sleeper own[SLEEPERS];
+  struct timespec some = { 0, 15000000 };
+  bs_txn holder = begun(), txns[SLEEPERS];
+  uint32_t i;
+  for (i = 1; i <= PARTS; i++) DONE(lock_path(holder, records[i][0], BS_X));
+  for (i = 0; i < SLEEPERS; i++) DONE(lock_path(txns[i] = begun(), records[1 + (i + 1) % PARTS][1], BS_S));
+  for (i = 0; i < SLEEPERS; i++) {
+    bool is_last = i >= SLEEPERS - 2;
+    sleep_in(&own[i], is_last ? 0 : 1 + i % PARTS, txns[i], is_last ? base : records[1 + i % PARTS][0], BS_S);
+  }
+  WANT(__atomic_load_n(&group->spread, __ATOMIC_RELAXED) > SLEEPERS / 2);
+  nanosleep(&some, NULL);
+  DONE(bs_group_end(group));
+  for (i = 0; i < SLEEPERS; i++) {
+    join(own[i].thread);
+    ANSWERS(BS_NO_MANAGER, own[i].reply);
+  }
+  DONE(bs_group_free(&group));
+}
+
+/* ------------------------------------------------------------------------------------------------
+ * A crowd: threads make random transactions, and each lock that is granted is checked against a shadow, which counts who
+ * has what.
+ */
+
+enum { MOST_THREADS = 16, MOST_CLAIMS = 512, ROWS = 6 };
+
+/* What is counted of a node or a row: who holds it in S or more, or in X; and who reads or writes something below it, the
+ * node itself not counted. */
+typedef struct shade {
+  uint64_t readers, writers; /* of the node itself, by BS_S, BS_SIX or BS_X; by BS_X */
+  uint64_t reads, writes;    /* below it */
+} shade;
+
+static shade of_base, of_areas[AREAS], of_quarters[AREAS], of_files[PARTS + 1], of_row_files[PARTS + 1], of_crossed;
+static shade of_records[PARTS + 1][RECORDS], of_rows[PARTS + 1][ROWS], of_crossed_records[RECORDS];
+static bs_node crossed, crossed_records[RECORDS]; /* a file below two areas */
+
+/* A thread of the crowd. */
+typedef struct crowd_thread {
+  pthread_t thread;
+  uint32_t number;
+  pcg dice;
+  bs_txn txn;
+  uint64_t since;
+  size_t claims;
+  uint64_t *at[MOST_CLAIMS];
+  uint64_t commits, aborts, victims, times, strong, checks;
+} crowd_thread;
+
+static uint64_t crowd_end;     /* the time of the clock */
+static uint32_t strong_share;  /* of a thousand requests */
+
+static void claim(crowd_thread *own, uint64_t *count) {
+  WANT(own->claims < MOST_CLAIMS);
+  __atomic_fetch_add(count, 1, __ATOMIC_SEQ_CST);
+  own->at[own->claims++] = count;
+}
+
+/* How many others there are. */
+static uint64_t others(const crowd_thread *own, const uint64_t *count) {
+  uint64_t all = __atomic_load_n(count, __ATOMIC_SEQ_CST), mine = 0;
+  size_t i;
+  for (i = 0; i < own->claims; i++) mine += own->at[i] == count;
+  WANT(all >= mine);
+  return all - mine;
+}
+
+static void give_up_claims(crowd_thread *own) {
+  while (own->claims > 0) __atomic_fetch_sub(own->at[--own->claims], 1, __ATOMIC_SEQ_CST);
+}
+
+/* This thread has read or written something below a node. */
+static void below(crowd_thread *own, shade *of, bool writes) {
+  claim(own, writes ? &of->writes : &of->reads);
+  WANT(others(own, &of->writers) == 0);
+  if (writes) WANT(others(own, &of->readers) == 0);
+}
+
+/* This thread has a node or a row in a mode. */
+static void has(crowd_thread *own, shade *of, bs_mode mode) {
+  if (mode == BS_IS || mode == BS_IX) {
+    below(own, of, mode == BS_IX);
+    return;
+  }
+  claim(own, &of->readers);
+  if (mode == BS_X) claim(own, &of->writers);
+  if (mode == BS_SIX) claim(own, &of->writes);
+  WANT(others(own, &of->writers) == 0 && others(own, &of->writes) == 0);
+  if (mode == BS_X) WANT(others(own, &of->readers) == 0 && others(own, &of->reads) == 0);
+  if (mode == BS_SIX) WANT(others(own, &of->readers) == 0);
+}
+
+static void above_part(crowd_thread *own, uint32_t part, bool writes) {
+  below(own, &of_base, writes);
+  below(own, &of_areas[(part - 1) % AREAS], writes);
+}
+
+static uint32_t draw(crowd_thread *own, uint32_t below_this) {
+  return (uint32_t)pcg_below(&own->dice, below_this);
+}
+
+/* Whether a request was granted. If its transaction fell, `fell` is set. */
+static bool was_granted(crowd_thread *own, bs_reply reply, bool *fell) {
+  if (reply.status == BS_DONE) return true;
+  if (reply.status == BS_VICTIM) *fell = true;
+  else own->times++;
+  if (reply.status != BS_VICTIM && reply.status != BS_TIMED_OUT && reply.status != BS_WOULD_BLOCK) DONE(reply);
+  return false;
+}
+
+/* A time for a request: mostly none. */
+static const struct timespec *some_time(crowd_thread *own, struct timespec *time) {
+  if (draw(own, 10) > 0) return NULL;
+  *time = moment_in(draw(own, 2000));
+  return time;
+}
+
+static bool request(crowd_thread *own, bs_node node, bs_mode mode, bool *fell) {
+  struct timespec time;
+  return was_granted(own, bs_group_lock_path(group, own->txn, node, mode, some_time(own, &time)), fell);
+}
+
+static bs_mode some_mode(crowd_thread *own) {
+  static const bs_mode modes[] = { BS_IS, BS_IX, BS_S, BS_SIX, BS_X };
+  return modes[draw(own, 5)];
+}
+
+static void touch_inner(crowd_thread *own, bool *fell) {
+  uint32_t area = draw(own, AREAS), depth = draw(own, 3);
+  bs_mode mode = some_mode(own);
+  if (!request(own, depth == 0 ? base : depth == 1 ? areas[area] : quarters[area], mode, fell)) return;
+  own->strong++;
+  if (depth > 0) below(own, &of_base, group_writes(mode));
+  if (depth > 1) below(own, &of_areas[area], group_writes(mode));
+  has(own, depth == 0 ? &of_base : depth == 1 ? &of_areas[area] : &of_quarters[area], mode);
+}
+
+static void touch_file(crowd_thread *own, bool *fell) {
+  uint32_t part = 1 + draw(own, PARTS);
+  bs_mode mode = some_mode(own);
+  if (!request(own, files[part], mode, fell)) return;
+  above_part(own, part, group_writes(mode));
+  has(own, &of_files[part], mode);
+}
+
+static void touch_record(crowd_thread *own, bool *fell) {
+  uint32_t part = 1 + draw(own, PARTS), record = draw(own, RECORDS);
+  bool writes = draw(own, 2) == 0;
+  if (!request(own, records[part][record], writes ? BS_X : BS_S, fell)) return;
+  above_part(own, part, writes);
+  below(own, &of_files[part], writes);
+  has(own, &of_records[part][record], writes ? BS_X : BS_S);
+}
+
+/* A row: to write it the area of its index is needed too. */
+static void touch_row(crowd_thread *own, bool *fell) {
+  uint32_t part = 1 + draw(own, PARTS), row = draw(own, ROWS);
+  uint64_t key = row * (uint64_t)50;
+  bool writes = draw(own, 2) == 0;
+  struct timespec time;
+  bs_reply reply = bs_group_lock_row_path(group, own->txn, row_files[part], row, &key, 1, writes ? BS_X : BS_S,
+                                          some_time(own, &time));
+  if (!was_granted(own, reply, fell)) return;
+  above_part(own, part, writes);
+  below(own, &of_quarters[(part - 1) % AREAS], writes);
+  if (writes) below(own, &of_areas[part % AREAS], true);
+  below(own, &of_row_files[part], writes);
+  has(own, &of_rows[part][row], writes ? BS_X : BS_S);
+}
+
+/* A record of a file below two areas. Who reads needs one of them, and it is not known here which. */
+static void touch_crossed(crowd_thread *own, bool *fell) {
+  uint32_t record = draw(own, RECORDS);
+  bool writes = draw(own, 2) == 0;
+  if (!request(own, crossed_records[record], writes ? BS_X : BS_S, fell)) return;
+  below(own, &of_base, writes);
+  if (writes) {
+    below(own, &of_areas[0], true);
+    below(own, &of_areas[1], true);
+  }
+  below(own, &of_crossed, writes);
+  has(own, &of_crossed_records[record], writes ? BS_X : BS_S);
+}
+
+/* A record that is inserted, and mostly deleted. */
+static void touch_new(crowd_thread *own, bool *fell) {
+  uint32_t part = 1 + draw(own, PARTS);
+  bs_reply reply = bs_group_insert(group, own->txn, files[part], NULL, 0);
+  if (!was_granted(own, reply, fell)) return;
+  above_part(own, part, true);
+  below(own, &of_files[part], true);
+  DONE(bs_group_delete(group, own->txn, reply.node));
+}
+
+static void touch_escalated(crowd_thread *own) {
+  uint32_t part = 1 + draw(own, PARTS);
+  bs_reply reply = bs_group_escalate(group, own->txn, files[part]);
+  if (reply.status == BS_NOT_HELD || reply.status == BS_WOULD_BLOCK) return;
+  DONE(reply);
+  has(own, &of_files[part], reply.mode);
+}
+
+static void touch_something(crowd_thread *own, bool *fell) {
+  uint32_t drawn = draw(own, 1000);
+  if (drawn < strong_share) touch_inner(own, fell);
+  else if (drawn < strong_share + 50) touch_file(own, fell);
+  else if (drawn < strong_share + 100) touch_new(own, fell);
+  else if (drawn < strong_share + 200) touch_crossed(own, fell);
+  else if (drawn < strong_share + 220) touch_escalated(own);
+  else if (drawn < 600) touch_record(own, fell);
+  else touch_row(own, fell);
+}
+
+/* Begins a transaction; others may have all slots. */
+static void begin_one(crowd_thread *own) {
+  bs_reply reply = bs_group_begin_again(group, own->since);
+  while (reply.status == BS_TOO_MANY_TXNS) {
+    nap();
+    reply = bs_group_begin_again(group, own->since);
+  }
+  own->txn = DONE(reply).txn;
+  if (own->since == UINT64_MAX) own->since = own->txn.age;
+}
+
+/* Makes one transaction. A victim begins again, as old as before. */
+static void make_one(crowd_thread *own) {
+  uint32_t left = 1 + draw(own, 6);
+  bool fell = false;
+  begin_one(own);
+  while (left-- > 0 && !fell) {
+    touch_something(own, &fell);
+    if (draw(own, 200) == 0) nap();
+  }
+  give_up_claims(own);
+  if (fell || draw(own, 10) == 0) {
+    DONE(bs_group_abort(group, own->txn));
+    if (fell) own->victims++;
+    else own->aborts++;
+  } else {
+    DONE(bs_group_commit(group, own->txn));
+    own->commits++;
+  }
+  if (!fell) own->since = UINT64_MAX;
+}
+
+static void *in_crowd(void *place) {
+  crowd_thread *own = (crowd_thread *)place;
+  uint32_t made = 0;
+  own->since = UINT64_MAX;
+  while (own->commits == 0 || bs_call_now() < crowd_end) {
+    make_one(own);
+    if (++made % 300 != own->number) continue;
+    want_rules(group);
+    own->checks++;
+  }
+  return NULL;
+}
+
+static void make_crossed(void) {
+  bs_txn txn = begun();
+  size_t i;
+  crossed = DONE(bs_group_add_file(group, 2, areas, 2)).node;
+  for (i = 0; i < RECORDS; i++) crossed_records[i] = DONE(bs_group_insert(group, txn, crossed, NULL, 0)).node;
+  commit(txn);
+}
+
+/* A crowd of so many threads, over so many slots. */
+static void crowd(uint32_t threads, uint32_t slots, uint32_t strong, uint64_t milliseconds, uint64_t seed) {
+  static crowd_thread all[MOST_THREADS];
+  crowd_thread sum;
+  uint32_t i;
+  make_world(slots);
+  make_crossed();
+  strong_share = strong;
+  crowd_end = bs_call_now() + milliseconds * 1000000;
+  memset(all, 0, sizeof all);
+  memset(&sum, 0, sizeof sum);
+  for (i = 0; i < threads; i++) {
+    all[i].number = i;
+    all[i].dice = pcg_new(seed, i);
+    start(&all[i].thread, in_crowd, &all[i]);
+  }
+  for (i = 0; i < threads; i++) {
+    join(all[i].thread);
+    sum.commits += all[i].commits;
+    sum.aborts += all[i].aborts;
+    sum.victims += all[i].victims;
+    sum.times += all[i].times;
+    sum.strong += all[i].strong;
+    sum.checks += all[i].checks;
+  }
+  printf("crowd of %u, %u slots, %u in 1000 strong: %llu commits, %llu aborts, %llu victims, ", threads, slots, strong,
+         (unsigned long long)sum.commits, (unsigned long long)sum.aborts, (unsigned long long)sum.victims);
+  printf("%llu late, %llu inner, %llu checks\n", (unsigned long long)sum.times, (unsigned long long)sum.strong,
+         (unsigned long long)sum.checks);
+  end_world();
+}
+
+/* ------------------------------------------------------------------------------------------------
+ * The program.
+ */
+
+#define STORY(name) { #name, name }
+
+static const struct {
+  const char *name;
+  void (*play)(void);
+} stories[] = {
+  STORY(null_groups_are_refused), STORY(wrong_graphs_are_refused), STORY(wrong_requests_are_refused),
+  STORY(who_holds_a_table_is_refused), STORY(names_are_translated), STORY(one_part_needs_no_other),
+  STORY(begins_have_ages), STORY(records_come_and_go), STORY(rows_have_numbers), STORY(strong_locks_are_in_main),
+  STORY(inserts_are_tried), STORY(nodes_are_made_at_any_time), STORY(many_marks_are_reached),
+  STORY(answers_are_those_of_a_table),
+  STORY(refused_memory_makes_no_group), STORY(refused_memory_breaks_no_rule),
+  STORY(strong_waits_for_records_of_any_part), STORY(records_wait_for_strong), STORY(sleepers_are_visited),
+  STORY(rows_that_wait_are_visited), STORY(readers_that_wait_are_visited), STORY(marks_stay_for_requests_above),
+  STORY(times_leave_no_marks), STORY(cycles_over_parts_end), STORY(cycles_over_main_end), STORY(one_of_a_cycle_falls),
+  STORY(cycles_of_one_table_end),
+};
+
+static void play_all(void) {
+  size_t i;
+  story = "groups_are_made_and_ended";
+  groups_are_made_and_ended();
+  printf("%s\n", story);
+  for (i = 0; i < sizeof stories / sizeof stories[0]; i++) {
+    story = stories[i].name;
+    feed(20);
+    make_world(BS_SLOTS);
+    stories[i].play();
+    end_world();
+    printf("%s\n", story);
+  }
+  story = "ends_wake_all";
+  make_world(BS_SLOTS);
+  ends_wake_all();
+  printf("%s\n", story);
+  story = "ends_come_between_looks";
+  make_world(BS_SLOTS);
+  ends_come_between_looks();
+  printf("%s\n", story);
+}
+
+static void play_twins(uint64_t seed) {
+  size_t i;
+  story = "answers_are_those_of_a_table";
+  for (i = 0; i < 10; i++) {
+    feed(20);
+    make_world(BS_SLOTS);
+    step_twins_often(10 * seed + i, 2 * TWIN_STEPS);
+    end_world();
+  }
+  printf("%s\n", story);
+}
+
+static void play_crowds(uint64_t milliseconds, uint64_t seed) {
+  static const uint32_t threads[] = { 4, 8, 16, 2 }, slots[] = { 8, BS_SLOTS, 12, 2 }, strong[] = { 50, 10, 30, 200 };
+  size_t i;
+  story = "crowd";
+  for (i = 0; i < 4; i++) {
+    feed(20 + (unsigned)(milliseconds / 1000));
+    crowd(threads[i], slots[i], strong[i], milliseconds / 4, seed + i);
+  }
+}
+
+int main(int count, char **words) {
+  setvbuf(stdout, NULL, _IOLBF, 0);
+  if (count > 1) {
+    uint64_t seed = count > 2 ? (uint64_t)atol(words[2]) : 1;
+    play_twins(seed);
+    play_crowds((uint64_t)atol(words[1]) * 1000, seed);
+    return 0;
+  }
+  play_all();
+  play_crowds(800, 1);
+  story = "all memory is given back";
+  WANT(blocks_out() == 0);
+  return 0;
+}
