@@ -64,8 +64,9 @@ void bs_call_condemned(bs_running *running);
  * ended by their name. */
 void bs_call_waits_ended(bs_running *running, const bs_slots *ended, const bs_notices *told);
 
-/* The wait of a slot was cancelled since its time is over. */
+/* The wait of a slot was cancelled since its time is over; or since its transaction fell in a group. */
 void bs_call_wait_late(bs_running *running, uint32_t slot);
+void bs_call_wait_fell(bs_running *running, uint32_t slot);
 
 /* The table ends: wakes the thread that tells. Then, without the latch, awaits its end. */
 void bs_call_run_out(bs_running *running);
@@ -101,6 +102,54 @@ bool bs_call_start(pthread_t *thread, void *(*run)(void *), void *place);
 /* Without the latch: calls a function of the engine under the rules of a callback. Ends of asks that its calls set off
  * are told after it. */
 void bs_call_engine(void (*function)(void *place), void *place);
+
+/* ------------------------------------------------------------------------------------------------
+ * Of burlapslate_shared.c: what burlapslate_group.c does with its tables. No latch is needed for the first; enter, take
+ * and release are about the latch; all others are made with it held. What they name is the table's own.
+ */
+
+/* Whether this is a valid time for `until`. */
+bool bs_inside_is_time(const struct timespec *until);
+
+/* Acquires the latch if the table is open, and answers whether it is; the second acquires it in any case. Releases it,
+ * and wakes those whose wait has ended. Whether this thread holds the table by bs_table_hold. */
+bool bs_inside_enter(bs_table *table);
+void bs_inside_take(bs_table *table);
+void bs_inside_release(bs_table *table);
+bool bs_inside_holds(const bs_table *table);
+
+/* Its manager; it is closed if the table was ended. It stays in its place. */
+bs_manager *bs_inside_manager(bs_table *table);
+
+/* From now on each thread that sleeps in the table makes this call now and then, with the time since which it has made
+ * none in this sleep. The call may release the latch, and acquires it again. No thread may sleep there yet. */
+typedef void bs_inside_look(void *context, bs_table *table, uint64_t since);
+void bs_inside_look_by(bs_table *table, bs_inside_look *look, void *context);
+
+/* Whether a thread sleeps for the transaction in this slot, and its request has not ended; and whether any sleeps. */
+bool bs_inside_sleeps(const bs_table *table, uint32_t slot);
+bool bs_inside_any_sleeps(const bs_table *table);
+
+/* Ends such a sleep with BS_VICTIM. The manager does not know the transaction as condemned. False if none sleeps. */
+bool bs_inside_fall(bs_table *table, uint32_t slot);
+
+/* As bs_table_lock_path and bs_table_lock_row_path: they sleep, with the latch free meanwhile. */
+bs_reply bs_inside_path(bs_table *table, bs_txn txn, bs_node node, bs_mode mode, const struct timespec *until);
+bs_reply bs_inside_row_path(bs_table *table, bs_txn txn, bs_node file, uint64_t number, const uint64_t *keys,
+                            size_t count, bs_mode mode, const struct timespec *until);
+
+/* As bs_table_try_path, which keeps the way, and bs_table_insert_path, which keeps nothing. */
+bs_reply bs_inside_try_path(bs_table *table, bs_txn txn, bs_node node, bs_mode mode);
+bs_reply bs_inside_insert(bs_table *table, bs_txn txn, bs_node file, const uint64_t *keys, size_t count);
+
+/* As the call of a table that has the name. */
+bs_reply bs_inside_delete(bs_table *table, bs_txn txn, bs_node record);
+bs_reply bs_inside_rekey(bs_table *table, bs_txn txn, bs_node record, bs_node index, uint64_t key);
+bs_reply bs_inside_unlock_row(bs_table *table, bs_txn txn, bs_node file, uint64_t number);
+bs_reply bs_inside_rekey_row(bs_table *table, bs_txn txn, bs_node file, uint64_t number, bs_node index, uint64_t key);
+bs_reply bs_inside_escalate(bs_table *table, bs_txn txn, bs_node node);
+bs_reply bs_inside_commit(bs_table *table, bs_txn txn);
+bs_reply bs_inside_abort(bs_table *table, bs_txn txn);
 
 /* ------------------------------------------------------------------------------------------------
  * Of burlapslate_trace.c: a trace of a table.
@@ -148,6 +197,8 @@ bs_reply bs_traced_rekey(bs_trace *trace, bs_txn txn, bs_node record, bs_node in
 bs_reply bs_traced_move(bs_trace *trace, bs_txn txn, bs_node node, const bs_node *parents, size_t count,
                         bs_notices *told);
 bs_reply bs_traced_drop(bs_trace *trace, bs_txn txn, bs_node node, bs_notices *told);
+bs_reply bs_traced_split(bs_trace *trace, bs_txn txn, bs_node interval, uint64_t at, bs_notices *told);
+bs_reply bs_traced_merge(bs_trace *trace, bs_txn txn, bs_node interval, bs_notices *told);
 bs_reply bs_traced_index_by(bs_trace *trace, bs_txn txn, const bs_node *parents, size_t count, bs_node file,
                             const uint64_t *bounds, size_t bound_count);
 bs_reply bs_traced_lock_row(bs_trace *trace, bs_txn txn, bs_node file, uint64_t number, const uint64_t *keys,

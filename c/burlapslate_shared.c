@@ -21,6 +21,7 @@
 #include "burlapslate_inside.h"
 #include "burlapslate_rows.h"
 #include "burlapslate_session.h"
+#include "burlapslate_splits.h"
 
 #include <errno.h>
 #include <pthread.h>
@@ -153,6 +154,8 @@ struct bs_table {
   bs_call_namer namer;            /* how the engine names nodes, in dumps */
   bs_running running;             /* the times of its waits */
   bs_trace *trace;                /* null if it has none */
+  bs_inside_look *look;           /* null, or what each sleeper calls now and then */
+  void *look_context;
 };
 
 /* Rare code is not inlined, so that the path of each call is short. What each caller gives another constant is: so a
@@ -204,6 +207,8 @@ TABLE_MAKES(rekey, (bs_table *table, bs_txn txn, bs_node record, bs_node index, 
 TABLE_MAKES(move, (bs_table *table, bs_txn txn, bs_node node, const bs_node *parents, size_t count, bs_notices *told),
             txn, node, parents, count, told)
 TABLE_MAKES(drop, (bs_table *table, bs_txn txn, bs_node node, bs_notices *told), txn, node, told)
+TABLE_MAKES(split, (bs_table *table, bs_txn txn, bs_node interval, uint64_t at, bs_notices *told), txn, interval, at, told)
+TABLE_MAKES(merge, (bs_table *table, bs_txn txn, bs_node interval, bs_notices *told), txn, interval, told)
 TABLE_MAKES(lock_row, (bs_table *table, bs_txn txn, bs_node file, uint64_t number, const uint64_t *keys, size_t count,
             bs_mode mode, bs_notices *told), txn, file, number, keys, count, mode, told)
 TABLE_MAKES(call_try_row, (bs_table *table, bs_txn txn, bs_node file, uint64_t number, const uint64_t *keys,
@@ -610,6 +615,28 @@ static bs_reply table_became(bs_table *table, bs_txn txn, bs_node node, bs_mode 
   return reply;
 }
 
+/* A sleeper of a table of a group looks first after 2 ms, and then after twice as long each time, up to 256 ms. */
+enum { TABLE_FIRST_LOOK = 2000000, TABLE_LAST_LOOK = 256000000 };
+
+/* Sleeps on in a table of a group, until the wait has ended, and looks now and then: that may end this wait or another.
+ * The latch is free during a look, and those whose wait it has ended are woken after it. Answers ETIMEDOUT if this time
+ * is over first. */
+static TABLE_APART int table_doze_and_look(bs_table *table, bs_txn txn, const table_waiter *own, uint64_t time) {
+  uint64_t pause = TABLE_FIRST_LOOK;
+  while (!own->has_ended) {
+    uint64_t now = bs_call_now(), look_at = now + pause;
+    struct timespec until = table_timespec_of(time < look_at ? time : look_at);
+    int late = 0;
+    while (!own->has_ended && late != ETIMEDOUT) late = table_doze(table, &table->ended[txn.slot], &until);
+    if (own->has_ended) return 0;
+    if (time < look_at) return ETIMEDOUT;
+    table->look(table->look_context, table, now);
+    table_tell_between(table);
+    if (pause < TABLE_LAST_LOOK) pause *= 2;
+  }
+  return 0;
+}
+
 /* For a request that was answered BS_WAITING: sleeps, with the latch held before and after, until it has ended, or the
  * time is over, or the table ends. It asks for the end before it looks at the clock. It computes the time once: a
  * deadline that another thread sets meanwhile is for later calls. It wakes or tells those whose wait it has ended before
@@ -621,6 +648,7 @@ static TABLE_APART bs_reply table_sleep(bs_table *table, bs_txn txn, table_waite
   table->sleepers++;
   own->sleeps = true;
   if (!own->has_ended) table_tell_between(table);
+  if (table->look != NULL) late = table_doze_and_look(table, txn, own, time);
   while (!own->has_ended && late != ETIMEDOUT) {
     late = table_doze(table, &table->ended[txn.slot], time == TABLE_NO_TIME ? NULL : &until);
   }
@@ -1295,6 +1323,14 @@ bs_reply bs_table_drop(bs_table *table, bs_txn txn, bs_node node, bs_notices *to
   TABLE_TELL(table, told, false, table_make_drop(table, txn, node, list));
 }
 
+bs_reply bs_table_split(bs_table *table, bs_txn txn, bs_node interval, uint64_t at, bs_notices *told) {
+  TABLE_TELL(table, told, false, table_make_split(table, txn, interval, at, list));
+}
+
+bs_reply bs_table_merge(bs_table *table, bs_txn txn, bs_node interval, bs_notices *told) {
+  TABLE_TELL(table, told, false, table_make_merge(table, txn, interval, list));
+}
+
 bs_reply bs_table_index_by(bs_table *table, bs_txn txn, const bs_node *parents, size_t count, bs_node file,
                            const uint64_t *bounds, size_t bound_count) {
   TABLE_ASK(table, table_make_index_by(table, txn, parents, count, file, bounds, bound_count));
@@ -1951,7 +1987,7 @@ static bs_reply table_tried_row_made(bs_table *table, const bs_command *c, bs_tx
   return table_row_path_tried(table, txn, &row, c->mode, c->keep);
 }
 
-/* Makes a command that begins, or that tries or releases locks, except the most frequent. */
+/* Makes a command that begins, that tries or releases locks, or that cuts intervals, except the most frequent. */
 static TABLE_APART bs_reply table_other_made(bs_table *table, const bs_command *c, bs_txn txn, bs_notices *told) {
   switch (c->kind) {
     case BS_DO_TRY: return table_try_now(table, txn, c->node, c->mode);
@@ -1962,6 +1998,8 @@ static TABLE_APART bs_reply table_other_made(bs_table *table, const bs_command *
     case BS_DO_ABORT: return table_make_abort(table, txn, told);
     case BS_DO_SETTLE: return table_make_settle(table, txn, told);
     case BS_DO_RENEW: return table_make_renew(table, txn, c->number);
+    case BS_DO_SPLIT: return table_make_split(table, txn, c->node, c->key, told);
+    case BS_DO_MERGE: return table_make_merge(table, txn, c->node, told);
     case BS_DO_UNLOCK_ROW: return table_make_unlock_row(table, txn, c->file, c->number, told);
     case BS_DO_TRY_PATH: return table_path_tried(table, txn, c->node, c->mode, c->keep);
     case BS_DO_TRY_ROW: return table_tried_row_made(table, c, txn);
@@ -2384,6 +2422,121 @@ bs_reply bs_table_trace_end(bs_table *table) {
   trace = table_take_trace(table);
   table_release(table);
   return bs_call_trace_end(trace);
+}
+
+/* ------------------------------------------------------------------------------------------------
+ * What burlapslate_group.c needs.
+ */
+
+bool bs_inside_is_time(const struct timespec *until) {
+  return table_is_time(until);
+}
+
+bool bs_inside_enter(bs_table *table) {
+  return table_enter(table);
+}
+
+void bs_inside_take(bs_table *table) {
+  table_take(table);
+}
+
+void bs_inside_release(bs_table *table) {
+  table_release(table);
+}
+
+bool bs_inside_holds(const bs_table *table) {
+  return table_holds(table);
+}
+
+bs_manager *bs_inside_manager(bs_table *table) {
+  return &table->manager;
+}
+
+void bs_inside_look_by(bs_table *table, bs_inside_look *look, void *context) {
+  table->look = look;
+  table->look_context = context;
+}
+
+bool bs_inside_sleeps(const bs_table *table, uint32_t slot) {
+  return table->waiters[slot] != NULL;
+}
+
+bool bs_inside_any_sleeps(const bs_table *table) {
+  return table->sleepers > 0;
+}
+
+/* The wait is cancelled as one whose time is over, which wakes others in the same way. */
+bool bs_inside_fall(bs_table *table, uint32_t slot) {
+  table_waiter *waiter = table->waiters[slot];
+  bs_reply end;
+  if (waiter == NULL) return false;
+  end = table_make_call_time_out(table, bs_call_living(&table->manager, slot).txn, &table->told);
+  if (end.status != BS_TIMED_OUT) return false;
+  end.status = BS_VICTIM;
+  bs_call_wait_fell(&table->running, slot);
+  table_end(table, waiter, slot, end);
+  table_wake_told(table, &table->told);
+  return true;
+}
+
+bs_reply bs_inside_path(bs_table *table, bs_txn txn, bs_node node, bs_mode mode, const struct timespec *until) {
+  table_waiter own;
+  bs_reply reply;
+  table_sleeper(&own, until);
+  reply = table_path_through(table, txn, node, mode, &own, &table->told);
+  return reply.status == BS_WAITING ? table_sleep(table, txn, &own) : reply;
+}
+
+bs_reply bs_inside_row_path(bs_table *table, bs_txn txn, bs_node file, uint64_t number, const uint64_t *keys,
+                            size_t count, bs_mode mode, const struct timespec *until) {
+  table_request request = table_row_request(TABLE_ROW_PATH, txn, table_row_of(file, number, keys, count), mode);
+  table_waiter own;
+  bs_reply reply;
+  table_sleeper(&own, until);
+  reply = table_row_by(table, &request, &own, &table->told);
+  return reply.status == BS_WAITING ? table_sleep(table, txn, &own) : reply;
+}
+
+bs_reply bs_inside_try_path(bs_table *table, bs_txn txn, bs_node node, bs_mode mode) {
+  return table_path_tried(table, txn, node, mode, BS_KEEP_WAY);
+}
+
+bs_reply bs_inside_insert(bs_table *table, bs_txn txn, bs_node file, const uint64_t *keys, size_t count) {
+  return table_inserted_by_path(table, txn, file, keys, count, BS_KEEP_NOTHING);
+}
+
+/* After a command of a table of a group. */
+static bs_reply table_wake_after(bs_table *table, bs_reply reply, bool by_name) {
+  table_wake(table, reply.status, &table->told, by_name);
+  return reply;
+}
+
+bs_reply bs_inside_delete(bs_table *table, bs_txn txn, bs_node record) {
+  return table_wake_after(table, table_make_delete(table, txn, record, &table->told), false);
+}
+
+bs_reply bs_inside_rekey(bs_table *table, bs_txn txn, bs_node record, bs_node index, uint64_t key) {
+  return table_wake_after(table, table_make_rekey(table, txn, record, index, key, &table->told), false);
+}
+
+bs_reply bs_inside_unlock_row(bs_table *table, bs_txn txn, bs_node file, uint64_t number) {
+  return table_wake_after(table, table_make_unlock_row(table, txn, file, number, &table->told), false);
+}
+
+bs_reply bs_inside_rekey_row(bs_table *table, bs_txn txn, bs_node file, uint64_t number, bs_node index, uint64_t key) {
+  return table_wake_after(table, table_make_rekey_row(table, txn, file, number, index, key, &table->told), false);
+}
+
+bs_reply bs_inside_escalate(bs_table *table, bs_txn txn, bs_node node) {
+  return table_wake_after(table, table_make_escalate(table, txn, node, &table->told), false);
+}
+
+bs_reply bs_inside_commit(bs_table *table, bs_txn txn) {
+  return table_wake_after(table, table_make_commit(table, txn, &table->told), false);
+}
+
+bs_reply bs_inside_abort(bs_table *table, bs_txn txn) {
+  return table_wake_after(table, table_make_abort(table, txn, &table->told), true);
 }
 
 /* ------------------------------------------------------------------------------------------------

@@ -9,6 +9,7 @@
  * them as text. So nobody waits for the file while the latch is held: if the ring is full, lines are dropped.
  */
 #include "burlapslate_inside.h"
+#include "burlapslate_splits.h"
 
 #include <errno.h>
 #include <fcntl.h>
@@ -35,7 +36,7 @@ typedef enum trace_form {
   TRACE_ROOT, TRACE_INNER, TRACE_FILE, TRACE_INDEX, TRACE_INDEX_BY, TRACE_BEGIN, TRACE_BEGIN_AGAIN, TRACE_RENEW,
   TRACE_LOCK, TRACE_TRY, TRACE_UNLOCK, TRACE_RELEASE, TRACE_ESCALATE, TRACE_CANCEL, TRACE_COMMIT, TRACE_ABORT,
   TRACE_SETTLE, TRACE_INSERT, TRACE_DELETE, TRACE_ADOPT, TRACE_FORGET, TRACE_REKEY, TRACE_MOVE, TRACE_MOVE_TO_ROOT,
-  TRACE_DROP, TRACE_FORMS, TRACE_DROPPED = TRACE_FORMS, TRACE_UNSAID
+  TRACE_DROP, TRACE_SPLIT, TRACE_MERGE, TRACE_FORMS, TRACE_DROPPED = TRACE_FORMS, TRACE_UNSAID
 } trace_form;
 
 /* The forms as a script has them: T is the transaction, M the mode, N, F and G the first, second and third name, P all
@@ -44,7 +45,7 @@ static const char *const trace_texts[TRACE_FORMS] = {
   "inner N", "inner N : P", "file N : P", "index N : Q on F at K", "index T N : Q on F at K", "begin T",
   "begin T again K", "renew T K", "lock T M N", "try T M N", "unlock T N", "release T K", "escalate T N", "cancel T",
   "commit T", "abort T", "settle T", "insert T N F K", "delete T N", "adopt N F K", "forget N", "rekey T N F K",
-  "move T N : P", "move T N", "drop T N"
+  "move T N : P", "move T N", "drop T N", "split T N at K", "merge T N"
 };
 
 /* A node as scripts name it: by the number of its birth; an interval by that of its index, with its place plus 1, which
@@ -487,6 +488,19 @@ bs_reply bs_traced_delete(bs_trace *trace, bs_txn txn, bs_node record, bs_notice
 bs_reply bs_traced_drop(bs_trace *trace, bs_txn txn, bs_node node, bs_notices *told) {
   bs_reply reply = bs_drop(trace->manager, txn, node, told);
   return trace_end_at(trace, TRACE_DROP, txn, node, BS_NL, reply, told);
+}
+
+bs_reply bs_traced_split(bs_trace *trace, bs_txn txn, bs_node interval, uint64_t at, bs_notices *told) {
+  bs_reply reply = bs_split(trace->manager, txn, interval, at, told);
+  trace_line line = trace_line_of(TRACE_SPLIT, txn, BS_NL);
+  trace_add_name(trace, &line, interval);
+  trace_add_numbers(&line, &at, 1);
+  return trace_end(trace, &line, reply, told);
+}
+
+bs_reply bs_traced_merge(bs_trace *trace, bs_txn txn, bs_node interval, bs_notices *told) {
+  bs_reply reply = bs_merge(trace->manager, txn, interval, told);
+  return trace_end_at(trace, TRACE_MERGE, txn, interval, BS_NL, reply, told);
 }
 
 /* The end of a call of a transaction alone. */

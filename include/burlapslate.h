@@ -66,7 +66,7 @@ extern "C" {
 /* The version of these declarations. The first number rises if programs must be changed, or the second while the first
  * is 0. The second rises if something is added, the third if neither. */
 #define BS_VERSION_MAJOR 0
-#define BS_VERSION_MINOR 30
+#define BS_VERSION_MINOR 31
 #define BS_VERSION_PATCH 0
 
 /* How many transactions can live at once, and so how many notices a call can have. A library can be built for another
@@ -414,9 +414,9 @@ static inline bs_reply bs_unlock(bs_manager *manager, bs_txn txn, bs_node node, 
 
 /* Answers a savepoint of a transaction, in `count`, for bs_release_since: how many nodes it holds or waits for. Nothing
  * is stored for it. It is valid until the transaction releases a lock that it had by then: by bs_unlock, bs_unlock_row,
- * bs_escalate, bs_delete or bs_drop, or because another transaction removes the node. A savepoint made during a wait
- * counts that wait. If the wait ends without a grant, as by bs_cancel, that is such a release: a later lock takes its
- * place, and bs_release_since keeps that one. Refused with BS_NO_SUCH_TXN. */
+ * bs_escalate, bs_delete, bs_drop or bs_merge, or because another transaction removes the node. A savepoint made during
+ * a wait counts that wait. If the wait ends without a grant, as by bs_cancel, that is such a release: a later lock takes
+ * its place, and bs_release_since keeps that one. Refused with BS_NO_SUCH_TXN. */
 static inline bs_reply bs_mark(const bs_manager *manager, bs_txn txn) {
   return bs_call_can_ask(manager) ? bs_call_lock_count(manager, txn) : bs_call_unasked(manager);
 }

@@ -141,7 +141,7 @@ is_c_old() {
 # with headers in which they are not static: so the library exports each public call, for languages that read no header.
 write_exports() {
   local header
-  mkdir -p "$1/include" && printf '#include "burlapslate_%s.h"\n' parts session rows >"$1/burlapslate_exports.c" || return
+  mkdir -p "$1/include" && printf '#include "burlapslate_%s.h"\n' parts session rows splits group >"$1/burlapslate_exports.c" || return
   for header in "$built"/include/*.h; do
     sed 's/^static inline //' "$header" >"$1/include/${header##*/}" || return
   done

@@ -186,17 +186,27 @@ static inline const char *same_keys(const bs_manager *m, const naive_node *recor
   return same_number("the answer to one key more", bs_key(m, record->name, i).status, BS_NO_PLACE);
 }
 
-/* The indexes of a file, or the intervals of an index, by rising births. */
-static inline const char *same_list(const bs_manager *m, const naive *n, const naive_node *node, uint32_t kind,
-                                    bs_reply (*at)(const bs_manager *m, bs_node node, size_t place)) {
+/* The indexes of a file, by rising births. */
+static inline const char *same_indexes(const bs_manager *m, const naive *n, const naive_node *file) {
   size_t i, place = 0;
   for (i = 0; i < n->node_count; i++) {
     const naive_node *other = &n->nodes[i];
-    uint64_t of = kind == BS_INDEX ? other->file : other->index;
-    if (other->kind != kind || of != node->name.birth) continue;
-    SAME(same_name("index or interval", at(m, node->name, place++).node, other->name));
+    if (other->kind != BS_INDEX || other->file != file->name.birth) continue;
+    SAME(same_name("index", bs_index(m, file->name, place++).node, other->name));
   }
-  return same_number("the answer to one place more", at(m, node->name, place).status, BS_NO_PLACE);
+  return same_number("the answer to one index more", bs_index(m, file->name, place).status, BS_NO_PLACE);
+}
+
+/* The intervals of an index, by rising keys. */
+static inline const char *same_intervals(const bs_manager *m, const naive *n, const naive_node *index) {
+  const naive_node *next = naive_interval(n, index->name.birth, 0);
+  size_t place = 0;
+  for (; next != NULL; next = next->is_last ? NULL : naive_interval(n, index->name.birth, next->to)) {
+    SAME(same_name("interval", bs_interval(m, index->name, place).node, next->name));
+    SAME(same_name("interval of a key", bs_interval_of(m, index->name, next->from).node, next->name));
+    SAME(same_number("place of an interval", bs_place(m, next->name).count, place++));
+  }
+  return same_number("the answer to one interval more", bs_interval(m, index->name, place).status, BS_NO_PLACE);
 }
 
 static inline bool naive_has_records(const naive *n, const naive_node *file) {
@@ -212,10 +222,10 @@ static inline const char *same_node_in(const bs_manager *m, const naive *n, cons
   SAME(same_parents(m, n, node));
   switch (node->kind) {
     case BS_RECORD: return same_keys(m, node);
-    case BS_INDEX: return same_list(m, n, node, BS_INTERVAL, bs_interval);
+    case BS_INDEX: return same_intervals(m, n, node);
     case BS_FILE:
       SAME(same_number("has records", bs_has_records(m, node->name).count, naive_has_records(n, node)));
-      return same_list(m, n, node, BS_INDEX, bs_index);
+      return same_indexes(m, n, node);
     default: return NULL;
   }
 }

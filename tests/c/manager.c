@@ -1,10 +1,11 @@
 /*
  * Stories of a few transactions over a manager, with every answer that is wanted: work that begins again or joins, the
- * last deadlock, what is counted, paths, adopted rows, a schema that changes, rows by number, limits and watchers. Each
- * is a function that ends the program with status 1 at the first answer that is not as wanted, and else prints its name.
- * What scripts can ask is in tests/scripts.
+ * last deadlock, what is counted, paths, adopted rows, a schema that changes, rows by number, intervals that are split
+ * and merged, limits and watchers. Each is a function that ends the program with status 1 at the first answer that is
+ * not as wanted, and else prints its name. What scripts can ask is in tests/scripts.
  */
 #include "burlapslate_parts.h"
+#include "burlapslate_splits.h"
 #include "memory.h"
 #include "same.h"
 
@@ -1062,6 +1063,356 @@ static void a_row_that_is_read_keeps_its_node(void) {
 }
 
 /* ------------------------------------------------------------------------------------------------
+ * Intervals that are split and merged. Records 5 and 7 are below the first of two intervals, parted at 10.
+ */
+
+static bs_node five, seven, part;
+
+static void open_intervals(void) {
+  open_index();
+  high = interval(first, 1);
+  five = adopt(5);
+  seven = adopt(7);
+  begin_two();
+}
+
+/* The first transaction holds the interval of both records in X, and splits it between them. */
+static void split_low(void) {
+  open_intervals();
+  LOCKS_PATH(a, low, BS_X);
+  part = QUIET(BS_DONE, bs_split(m, a, low, 6, &told)).node;
+}
+
+static bs_mode effect(bs_txn txn, bs_node node) {
+  return DONE(bs_effective(m, txn, node)).mode;
+}
+
+static uint64_t children(bs_txn txn, bs_node node) {
+  return DONE(bs_children(m, txn, node)).count;
+}
+
+static uint64_t lock_count(bs_txn txn) {
+  return DONE(bs_lock_count(m, txn)).count;
+}
+
+/* The interval of a record. */
+static bool is_in(bs_node of, bs_node above) {
+  return same_node(DONE(bs_parent(m, of, 1)).node, above);
+}
+
+/* The intervals of the index, by their places. */
+static bool are_intervals(const bs_node *all, size_t count) {
+  size_t i = 0;
+  while (i < count && same_node(interval(first, i), all[i]) && DONE(bs_place(m, all[i])).count == i) i++;
+  return i == count && bs_interval(m, first, count).status == BS_NO_PLACE;
+}
+
+static void an_interval_is_split(void) {
+  bs_node all[3];
+  uint64_t locks;
+  open_intervals();
+  LOCKS_PATH(a, low, BS_X);
+  locks = lock_count(a);
+  part = QUIET(BS_DONE, bs_split(m, a, low, 6, &told)).node;
+  WANT(is_named(part, 7, 8));
+  all[0] = low, all[1] = part, all[2] = high;
+  WANT(are_intervals(all, 3));
+  WANT(DONE(bs_kind(m, part)).count == BS_INTERVAL && same_node(DONE(bs_parent(m, part, 0)).node, first));
+  WANT(same_node(DONE(bs_interval_of(m, first, 5)).node, low));
+  WANT(same_node(DONE(bs_interval_of(m, first, 6)).node, part));
+  WANT(same_node(DONE(bs_interval_of(m, first, 9)).node, part));
+  WANT(same_node(DONE(bs_interval_of(m, first, 10)).node, high));
+  WANT(is_in(five, low) && is_in(seven, part));
+  HOLDS(a, low, BS_X);
+  HOLDS(a, part, BS_X);
+  WANT(lock_count(a) == locks + 1 && same_node(DONE(bs_lock_at(m, a, locks)).node, part));
+  end_manager();
+}
+
+/* What a transaction may do to a record is what it may have done before, also if it holds the file. */
+static void no_effective_mode_is_another_after_a_split(void) {
+  bs_mode of_first;
+  open_intervals();
+  LOCKS_PATH(a, low, BS_X);
+  LOCKS_PATH(b, db, BS_IS);
+  of_first = effect(a, seven);
+  WANT(of_first != BS_NL && effect(b, seven) == BS_NL);
+  part = QUIET(BS_DONE, bs_split(m, a, low, 6, &told)).node;
+  WANT(effect(a, five) == of_first && effect(a, seven) == of_first && effect(b, seven) == BS_NL);
+  LOCKS_PATH(a, file, BS_X);
+  WANT(effect(a, five) == BS_X && effect(a, seven) == BS_X);
+  QUIET(BS_DONE, bs_split(m, a, part, 8, &told));
+  WANT(effect(a, five) == BS_X && effect(a, seven) == BS_X);
+  QUIET(BS_DONE, bs_merge(m, a, low, &told));
+  WANT(effect(a, five) == BS_X && effect(a, seven) == BS_X);
+  end_manager();
+}
+
+/* Who writes a record that moved needs the new interval, and not the one from which it moved. */
+static void a_record_that_moved_needs_the_new_interval(void) {
+  split_low();
+  QUIET(BS_DONE, bs_commit(m, a, &told));
+  LOCKS_PATH(b, file, BS_IX);
+  LOCKS_PATH(b, low, BS_IX);
+  LOCKS(b, five, BS_X);
+  WANT(same_node(QUIET(BS_NEED_PARENTS, bs_lock(m, b, seven, BS_X, &told)).node, part));
+  WANT(same_node(QUIET(BS_NEED_PARENTS, bs_rekey(m, b, five, first, 6, &told)).node, part));
+  LOCKS_PATH(b, part, BS_IX);
+  LOCKS(b, seven, BS_X);
+  QUIET(BS_DONE, bs_rekey(m, b, five, first, 6, &told));
+  WANT(is_in(five, part));
+  end_manager();
+}
+
+/* A reader of both records by their file keeps its locks while their interval is split and merged. */
+static void a_reader_below_keeps_its_locks(void) {
+  open_intervals();
+  LOCKS_PATH(b, five, BS_S);
+  LOCKS_PATH(b, seven, BS_S);
+  LOCKS_PATH(a, low, BS_X);
+  part = QUIET(BS_DONE, bs_split(m, a, low, 6, &told)).node;
+  HOLDS(b, five, BS_S);
+  HOLDS(b, seven, BS_S);
+  HOLDS(b, part, BS_NL);
+  WANT(children(b, file) == 2 && bs_children(m, b, part).status == BS_NOT_HELD);
+  QUIET(BS_DONE, bs_commit(m, a, &told));
+  LOCKS_PATH(b, low, BS_IS);
+  LOCKS_PATH(b, part, BS_IS);
+  WANT(children(b, low) == 1 && children(b, part) == 1 && children(b, first) == 2);
+  WANT(same_node(QUIET(BS_HELD_CHILD, bs_unlock(m, b, low, &told)).node, five));
+  WANT(same_node(QUIET(BS_HELD_CHILD, bs_unlock(m, b, part, &told)).node, seven));
+  QUIET(BS_DONE, bs_unlock(m, b, five, &told));
+  QUIET(BS_DONE, bs_unlock(m, b, low, &told));
+  WANT(children(b, part) == 1);
+  end_manager();
+}
+
+/* The transaction that splits holds records of both parts. Each part counts its own from then on, and after the merge
+ * the first has all. */
+static void the_children_of_both_parts_are_counted(void) {
+  bs_reply escalated;
+  open_intervals();
+  LOCKS_PATH(a, five, BS_X);
+  LOCKS_PATH(a, seven, BS_X);
+  RAISES(a, low, BS_X, BS_X);
+  WANT(children(a, low) == 2);
+  part = QUIET(BS_DONE, bs_split(m, a, low, 6, &told)).node;
+  WANT(children(a, low) == 1 && children(a, part) == 1 && children(a, first) == 2 && children(a, file) == 2);
+  WANT(same_node(QUIET(BS_HELD_CHILD, bs_unlock(m, a, part, &told)).node, seven));
+  WANT(same_node(QUIET(BS_HELD_CHILD, bs_unlock(m, a, low, &told)).node, five));
+  QUIET(BS_DONE, bs_merge(m, a, low, &told));
+  WANT(children(a, low) == 2 && children(a, first) == 1);
+  part = QUIET(BS_DONE, bs_split(m, a, low, 6, &told)).node;
+  RAISES(a, file, BS_X, BS_X);
+  escalated = QUIET(BS_DONE, bs_escalate(m, a, part, &told));
+  WANT(escalated.released == 1 && escalated.kept == 0);
+  HOLDS(a, seven, BS_NL);
+  HOLDS(a, five, BS_X);
+  QUIET(BS_DONE, bs_unlock(m, a, part, &told));
+  QUIET(BS_HELD_CHILD, bs_unlock(m, a, low, &told));
+  end_manager();
+}
+
+static void who_waits_for_an_interval_hears_of_its_split(void) {
+  bs_counts counted;
+  open_intervals();
+  c = begin();
+  LOCKS_PATH(a, low, BS_X);
+  LOCKS_PATH(a, high, BS_X);
+  WAITS_AT(b, low, BS_S, low);
+  WAITS_AT(c, high, BS_S, high);
+  part = DONE(bs_split(m, a, low, 6, &told)).node;
+  WANT(is_told(b, BS_TOLD_MOVED));
+  ANSWERS(BS_MOVED, bs_verdict(m, b, low, BS_S));
+  WANT(wait_of(m, b).status == BS_NOT_WAITING && wait_of(m, c).status == BS_WAITING);
+  DONE(bs_counters(m, &counted));
+  WANT(counted.moved == 1 && counted.waited == 2);
+  WAITS_AT(b, low, BS_S, low);
+  DONE(bs_commit(m, a, &told));
+  WANT(told.count == 2);
+  HOLDS(b, low, BS_S);
+  HOLDS(c, high, BS_S);
+  LOCKS_PATH(b, part, BS_S);
+  end_manager();
+}
+
+static void who_waits_for_a_merged_interval_hears_that_it_is_gone(void) {
+  bs_counts counted;
+  uint64_t locks;
+  open_intervals();
+  c = begin();
+  LOCKS_PATH(a, low, BS_X);
+  LOCKS_PATH(a, high, BS_X);
+  locks = lock_count(a);
+  WAITS_AT(b, high, BS_S, high);
+  WAITS_AT(c, low, BS_S, low);
+  DONE(bs_merge(m, a, low, &told));
+  WANT(is_told(b, BS_TOLD_GONE));
+  ANSWERS(BS_GONE, bs_verdict(m, b, high, BS_S));
+  ANSWERS(BS_NO_SUCH_NODE, bs_kind(m, high));
+  WANT(lock_count(a) == locks - 1 && are_intervals(&low, 1));
+  WANT(same_node(DONE(bs_interval_of(m, first, 10)).node, low));
+  DONE(bs_counters(m, &counted));
+  WANT(counted.gone == 1 && wait_of(m, b).status == BS_NOT_WAITING);
+  DONE(bs_commit(m, a, &told));
+  WANT(is_granted(c, low, BS_S));
+  end_manager();
+}
+
+static void a_merge_undoes_a_split(void) {
+  bs_node all[2], again;
+  uint64_t locks;
+  open_intervals();
+  LOCKS_PATH(a, low, BS_X);
+  locks = lock_count(a);
+  part = QUIET(BS_DONE, bs_split(m, a, low, 6, &told)).node;
+  QUIET(BS_DONE, bs_merge(m, a, low, &told));
+  all[0] = low, all[1] = high;
+  WANT(are_intervals(all, 2) && is_in(five, low) && is_in(seven, low));
+  WANT(lock_count(a) == locks && bs_held(m, a, part).status == BS_NO_SUCH_NODE);
+  HOLDS(a, low, BS_X);
+  again = QUIET(BS_DONE, bs_split(m, a, low, 7, &told)).node;
+  WANT(is_named(again, part.key, 9) && is_in(seven, again));
+  end_manager();
+}
+
+/* One transaction waits, and another is condemned: nobody but the first can make a command. */
+static void open_refused(void) {
+  bs_node one, other;
+  open_intervals();
+  c = begin();
+  one = DONE(bs_add_inner(m, NULL, 0)).node;
+  other = DONE(bs_add_inner(m, NULL, 0)).node;
+  LOCKS(b, one, BS_X);
+  LOCKS(c, other, BS_X);
+  WAITS(b, other, BS_S);
+  QUIET(BS_VICTIM, bs_lock(m, c, one, BS_S, &told));
+}
+
+static void a_split_is_refused(void) {
+  uint64_t accepted, nodes;
+  open_refused();
+  ANSWERS(BS_NULL_POINTER, bs_split(NULL, a, low, 6, &told));
+  ANSWERS(BS_NULL_POINTER, bs_split(m, a, low, 6, NULL));
+  QUIET(BS_NO_SUCH_TXN, bs_split(m, no_txn, no_node, 0, &told));
+  QUIET(BS_TXN_WAITING, bs_split(m, b, no_node, 0, &told));
+  QUIET(BS_TXN_CONDEMNED, bs_split(m, c, no_node, 0, &told));
+  QUIET(BS_NO_SUCH_NODE, bs_split(m, a, no_node, 0, &told));
+  QUIET(BS_BAD_PARENTS, bs_split(m, a, first, 0, &told));
+  LOCKS_PATH(a, low, BS_SIX);
+  QUIET(BS_NEED_EXCLUSIVE, bs_split(m, a, low, 0, &told));
+  LOCKS_PATH(a, low, BS_X);
+  LOCKS_PATH(a, high, BS_X);
+  accepted = accepted_by(m);
+  nodes = bs_len(m).count;
+  QUIET(BS_BAD_KEYS, bs_split(m, a, low, 0, &told));
+  QUIET(BS_BAD_KEYS, bs_split(m, a, low, 10, &told));
+  QUIET(BS_BAD_KEYS, bs_split(m, a, low, 11, &told));
+  QUIET(BS_BAD_KEYS, bs_split(m, a, high, 10, &told));
+  WANT(accepted_by(m) == accepted && bs_len(m).count == nodes);
+  QUIET(BS_DONE, bs_split(m, a, low, 9, &told));
+  QUIET(BS_DONE, bs_split(m, a, low, 1, &told));
+  QUIET(BS_DONE, bs_split(m, a, high, UINT64_MAX, &told));
+  WANT(accepted_by(m) == accepted + 3 && bs_len(m).count == nodes + 3);
+  end_manager();
+}
+
+static void a_merge_is_refused(void) {
+  uint64_t nodes;
+  open_refused();
+  ANSWERS(BS_NULL_POINTER, bs_merge(NULL, a, low, &told));
+  ANSWERS(BS_NULL_POINTER, bs_merge(m, a, low, NULL));
+  QUIET(BS_NO_SUCH_TXN, bs_merge(m, no_txn, no_node, &told));
+  QUIET(BS_TXN_WAITING, bs_merge(m, b, no_node, &told));
+  QUIET(BS_TXN_CONDEMNED, bs_merge(m, c, no_node, &told));
+  QUIET(BS_NO_SUCH_NODE, bs_merge(m, a, no_node, &told));
+  QUIET(BS_BAD_PARENTS, bs_merge(m, a, first, &told));
+  QUIET(BS_BAD_PARENTS, bs_merge(m, a, high, &told));
+  nodes = bs_len(m).count;
+  LOCKS_PATH(a, low, BS_X);
+  QUIET(BS_NEED_EXCLUSIVE, bs_merge(m, a, low, &told));
+  LOCKS_PATH(a, high, BS_SIX);
+  QUIET(BS_NEED_EXCLUSIVE, bs_merge(m, a, low, &told));
+  LOCKS_PATH(a, high, BS_X);
+  QUIET(BS_DONE, bs_merge(m, a, low, &told));
+  WANT(bs_len(m).count == nodes - 1);
+  QUIET(BS_BAD_PARENTS, bs_merge(m, a, low, &told));
+  end_manager();
+}
+
+/* A manager of six nodes, whose indexes have two bounds at most. */
+static void the_limits_of_a_manager_hold_for_splits(void) {
+  static const bs_options options = { BS_AT_BLOCK, BS_YOUNGEST, 4, 6, 2 };
+  static const uint64_t bound = 10;
+  DONE(bs_make(m, &options));
+  db = DONE(bs_add_inner(m, NULL, 0)).node;
+  file = make_file();
+  first = make_index(file, &bound, 1);
+  low = interval(first, 0);
+  a = begin();
+  LOCKS_PATH(a, low, BS_X);
+  QUIET(BS_DONE, bs_split(m, a, low, 6, &told));
+  QUIET(BS_BAD_KEYS, bs_split(m, a, low, 3, &told));
+  QUIET(BS_DONE, bs_merge(m, a, low, &told));
+  five = adopt(5);
+  QUIET(BS_TOO_MANY_NODES, bs_split(m, a, low, 6, &told));
+  DONE(bs_forget(m, five));
+  QUIET(BS_DONE, bs_split(m, a, low, 6, &told));
+  end_manager();
+}
+
+/* The lock of the new interval is younger than the savepoint, and goes. The interval stays split. */
+static void a_savepoint_before_a_split(void) {
+  uint64_t mark;
+  open_intervals();
+  LOCKS_PATH(a, low, BS_X);
+  mark = DONE(bs_mark(m, a)).count;
+  part = QUIET(BS_DONE, bs_split(m, a, low, 6, &told)).node;
+  LOCKS_PATH(a, seven, BS_X);
+  WAITS_AT(b, part, BS_S, part);
+  WANT(DONE(bs_release_since(m, a, mark, &told)).count == 3); /* The record, its file and the new interval. */
+  WANT(is_granted(b, part, BS_S));
+  HOLDS(a, part, BS_NL);
+  HOLDS(a, low, BS_X);
+  WANT(is_in(seven, part) && lock_count(a) == mark);
+  end_manager();
+}
+
+/* A merge releases a lock from before the savepoint, whose place a later one takes: that one stays. */
+static void a_savepoint_that_a_merge_spoils(void) {
+  uint64_t mark;
+  open_intervals();
+  LOCKS_PATH(a, low, BS_X);
+  LOCKS_PATH(a, high, BS_X);
+  mark = DONE(bs_mark(m, a)).count;
+  LOCKS_PATH(a, file, BS_IX);
+  QUIET(BS_DONE, bs_merge(m, a, low, &told));
+  WANT(QUIET(BS_DONE, bs_release_since(m, a, mark, &told)).count == 0);
+  HOLDS(a, file, BS_IX);
+  HOLDS(a, low, BS_X);
+  end_manager();
+}
+
+/* A row has a node while it is locked, which follows the intervals as a record does. */
+static void a_row_follows_its_interval(void) {
+  static const uint64_t key = 7;
+  bs_node row;
+  open_rows();
+  begin_two();
+  LOCKS_PATH(b, file, BS_IS);
+  row = QUIET(BS_DONE, bs_lock_row(m, b, file, 1, &key, 1, BS_S, &told)).node;
+  LOCKS_PATH(a, low, BS_X);
+  part = QUIET(BS_DONE, bs_split(m, a, low, 6, &told)).node;
+  WANT(is_in(row, part) && same_node(DONE(bs_row_node(m, file, 1)).node, row));
+  QUIET(BS_DONE, bs_commit(m, a, &told));
+  LOCKS_PATH(b, part, BS_IS);
+  WANT(children(b, part) == 1);
+  QUIET(BS_DONE, bs_unlock_row(m, b, file, 1, &told));
+  WANT(children(b, part) == 0 && bs_row_node(m, file, 1).status == BS_NO_SUCH_NODE);
+  end_manager();
+}
+
+/* ------------------------------------------------------------------------------------------------
  * Limits, slots and boards.
  */
 
@@ -1316,6 +1667,23 @@ static void tell_of_rows(void) {
   TELL(a_row_that_is_read_keeps_its_node);
 }
 
+static void tell_of_intervals(void) {
+  TELL(an_interval_is_split);
+  TELL(no_effective_mode_is_another_after_a_split);
+  TELL(a_record_that_moved_needs_the_new_interval);
+  TELL(a_reader_below_keeps_its_locks);
+  TELL(the_children_of_both_parts_are_counted);
+  TELL(who_waits_for_an_interval_hears_of_its_split);
+  TELL(who_waits_for_a_merged_interval_hears_that_it_is_gone);
+  TELL(a_merge_undoes_a_split);
+  TELL(a_split_is_refused);
+  TELL(a_merge_is_refused);
+  TELL(the_limits_of_a_manager_hold_for_splits);
+  TELL(a_savepoint_before_a_split);
+  TELL(a_savepoint_that_a_merge_spoils);
+  TELL(a_row_follows_its_interval);
+}
+
 static void tell_of_limits_and_watchers(void) {
   TELL(one_transaction_holds_many_nodes);
   TELL(a_transaction_takes_the_lowest_free_slot);
@@ -1331,6 +1699,7 @@ int main(void) {
   tell_of_waits();
   tell_of_nodes();
   tell_of_rows();
+  tell_of_intervals();
   tell_of_limits_and_watchers();
   return 0;
 }

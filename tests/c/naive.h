@@ -14,7 +14,7 @@
 #ifndef NAIVE_H
 #define NAIVE_H
 
-#include "burlapslate_shared.h"
+#include "burlapslate_splits.h"
 
 /* How many transactions and nodes can live at once; how many savepoints of a transaction and names of removed nodes are
  * kept; and how many rows all transactions together can have asked for. */
@@ -117,6 +117,9 @@ const naive_wait *naive_wait_of(const naive *m, bs_txn txn);
 /* The node of this name, and the node of this birth; null if there is none. */
 const naive_node *naive_find(const naive *m, bs_node name);
 const naive_node *naive_born(const naive *m, uint64_t birth);
+
+/* The interval of an index to which a key belongs; null if the index is none. */
+const naive_node *naive_interval(const naive *m, uint64_t index, uint64_t key);
 
 /* The node of a row; null if it has none. */
 const naive_node *naive_row(const naive *m, bs_node file, uint64_t number);

@@ -1,10 +1,12 @@
 // The headers as C++: calls of each, and sessions that sleep.
 #include "burlapslate.h"
 #include "burlapslate_dump.h"
+#include "burlapslate_group.h"
 #include "burlapslate_parts.h"
 #include "burlapslate_rows.h"
 #include "burlapslate_running.h"
 #include "burlapslate_session.h"
+#include "burlapslate_splits.h"
 
 #include <pthread.h>
 
@@ -130,7 +132,37 @@ static bool keeps() {
   return bs_table_end(table).status == BS_DONE && bs_table_free(&table).status == BS_DONE;
 }
 
+static bool groups() {
+  bs_table_group *group = NULL;
+  if (bs_group_make(&group, NULL, 2).status != BS_DONE) return false;
+  bs_node base = bs_group_add_inner(group, NULL, 0).node;
+  bs_node file = bs_group_add_file(group, 2, &base, 1).node;
+  bs_txn txn = bs_group_begin(group).txn;
+  bs_node record = bs_group_insert(group, txn, file, NULL, 0).node;
+  if (bs_group_table(base) != 0 || bs_group_table(record) != 2) return false;
+  if (bs_group_lock_path(group, txn, base, BS_S, NULL).mode != BS_SIX) return false;
+  if (bs_group_held(group, txn, record).mode != BS_X) return false;
+  if (bs_group_commit(group, txn).status != BS_DONE || bs_group_end(group).status != BS_DONE) return false;
+  return bs_group_free(&group).status == BS_DONE && group == NULL;
+}
+
+static bool splits() {
+  if (bs_table_make(&table, NULL).status != BS_DONE) return false;
+  root = bs_table_add_inner(table, NULL, 0).node;
+  bs_node file = bs_table_add_file(table, &root, 1).node;
+  bs_node index = bs_table_add_index(table, &root, 1, file, NULL, 0).node;
+  bs_txn txn = bs_table_begin(table).txn;
+  bs_node interval = bs_interval(bs_table_hold(table), index, 0).node;
+  if (bs_table_let_go(table).status != BS_DONE) return false;
+  if (bs_table_lock_path(table, txn, interval, BS_X, NULL).status != BS_DONE) return false;
+  if (bs_split(NULL, txn, interval, 7, NULL).status != BS_NULL_POINTER) return false;
+  if (bs_merge(NULL, txn, interval, NULL).status != BS_NULL_POINTER) return false;
+  if (bs_table_split(table, txn, interval, 7, NULL).status != BS_DONE) return false;
+  if (bs_table_merge(table, txn, interval, NULL).status != BS_DONE) return false;
+  return bs_table_end(table).status == BS_DONE && bs_table_free(&table).status == BS_DONE;
+}
+
 int main() {
   bs_manager m = BS_NO_MANAGER_HERE;
-  return bs_end(&m).status == BS_NO_MANAGER && shares() && asks() && runs() && keeps() ? 0 : 1;
+  return bs_end(&m).status == BS_NO_MANAGER && shares() && asks() && runs() && keeps() && splits() && groups() ? 0 : 1;
 }

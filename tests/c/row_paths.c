@@ -10,6 +10,7 @@
 #include "memory.h"
 
 #include "burlapslate_rows.h"
+#include "burlapslate_splits.h"
 
 #include "burlapslate_shared.c"
 
@@ -192,6 +193,49 @@ static void it_takes_the_new_interval_meanwhile(void) {
   DONE(bs_table_commit(table, holder, NULL));
   comes_to(SLEEPS, BS_OTHER_KEYS);
   close_table();
+}
+
+/* The interval of the row's key is split while it is waited for: it goes on with the part that has the key. */
+static void it_follows_a_split(void) {
+  int form;
+  for (form = 0; form < FORMS; form++) {
+    bs_txn holder, waiter;
+    bs_node part;
+    set_up(BS_AT_BLOCK);
+    holder = begin();
+    waiter = begin();
+    DONE(bs_table_lock_path(table, holder, rows_below, BS_X, NULL));
+    sets_out((enum form)form, waiter, BS_X);
+    part = DONE(bs_table_split(table, holder, rows_below, LOW_KEY, &told)).node;
+    WANT(told.count == 1 && same_txn(told.at[0].txn, waiter) && told.at[0].kind == BS_TOLD_MOVED);
+    WANT(waits_for(waiter, part));
+    DONE(bs_table_commit(table, holder, NULL));
+    comes_to((enum form)form, BS_DONE);
+    holds_all(waiter, BS_IX, BS_IX, BS_NL, BS_NL, BS_X);
+    holds(waiter, part, BS_IX);
+    close_table();
+  }
+}
+
+/* The interval for which it waits is merged into the one before it, and is gone. */
+static void it_ends_at_a_merge(void) {
+  int form;
+  for (form = 0; form < FORMS; form++) {
+    bs_txn holder, waiter;
+    set_up(BS_AT_BLOCK);
+    holder = begin();
+    waiter = begin();
+    DONE(bs_table_lock_path(table, holder, rows_below, BS_X, NULL));
+    DONE(bs_table_split(table, holder, rows_below, LOW_KEY, NULL));
+    sets_out((enum form)form, waiter, BS_X);
+    DONE(bs_table_merge(table, holder, rows_below, &told));
+    WANT(told.count == 1 && same_txn(told.at[0].txn, waiter) && told.at[0].kind == BS_TOLD_GONE);
+    comes_to((enum form)form, BS_GONE);
+    DONE(bs_table_commit(table, holder, NULL));
+    DONE(lock_row_path(waiter, LOW_KEY, BS_X, NULL));
+    writes_below(waiter);
+    close_table();
+  }
 }
 
 /* The file is dropped while it is waited for. */
@@ -546,6 +590,8 @@ int main(int count, char **words) {
   TELL(it_waits_twice);
   TELL(it_goes_on_with_other_keys);
   TELL(it_takes_the_new_interval_meanwhile);
+  TELL(it_follows_a_split);
+  TELL(it_ends_at_a_merge);
   TELL(its_file_is_dropped);
   TELL(it_ends_before_it_has_the_row);
   TELL(it_is_a_victim_above_its_row);

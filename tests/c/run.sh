@@ -33,6 +33,7 @@ compile() {
     shared | crowd | asks | begins | waits | sessions | own_ends | row_paths) with=(-I"$top/c" "$top"/c/burlapslate_{running,trace}.c "${libraries[@]:1}") ;;
     running) with=(-I"$top/c" "$top/c/burlapslate_trace.c" "${libraries[@]:1}") ;;
     traces) with=(-I"$top/c" "$top/c/burlapslate_running.c" "${libraries[@]:1}") ;;
+    groups) with=(-I"$top/c" "${libraries[@]}") ;;
     schemas | twins | scenarios) with=("$top/tests/c/naive.c" "${libraries[@]}") ;;
   esac
   # shellcheck disable=SC2086 # CC may have words after the name.
@@ -46,9 +47,12 @@ fails() {
   exit 1
 }
 
-# Each command with a manager has its twin with a table, and no question has one.
-for name in $(sed -n 's/^static inline [a-z_]* bs_\([a-z_]*\)(bs_manager \*manager.*/\1/p' "$headers/burlapslate.h"); do
-  grep -Eq "bs_table_$name\(bs_table \*{1,2}table" "$headers/burlapslate_shared.h" || fails "there is no bs_table_$name"
+# Each command with a manager has its twin with a table, and no question has one. The library exports both.
+exported=$(nm -g --defined-only "${libraries[0]}" | awk '$2 == "T" { print $3 }')
+managers=("$headers"/burlapslate{,_splits}.h) tables=("$headers"/burlapslate_{shared,splits}.h)
+for name in $(sed -n 's/^static inline [a-z_]* bs_\([a-z_]*\)(bs_manager \*manager.*/\1/p' "${managers[@]}"); do
+  grep -Eq "bs_table_$name\(bs_table \*{1,2}table" "${tables[@]}" || fails "there is no bs_table_$name"
+  for each in "bs_$name" "bs_table_$name"; do grep -qx "$each" <<<"$exported" || fails "$each is not exported"; done
 done
 for name in $(sed -n 's/^static inline [a-z_]* bs_\([a-z_]*\)(const bs_manager \*manager.*/\1/p' "$headers/burlapslate.h"); do
   # A savepoint is set so often that the one question has a call of its own.
@@ -106,6 +110,8 @@ compile running -Wl,--wrap=malloc,--wrap=realloc,--wrap=free || exit 1
 timeout 60 "$work/running" || exit 1
 compile traces -Wl,--wrap=malloc,--wrap=realloc,--wrap=free || exit 1
 timeout 60 "$work/traces" || exit 1
+compile groups -Wl,--wrap=malloc,--wrap=realloc,--wrap=free || exit 1
+timeout 60 "$work/groups" || exit 1
 compile crowd || exit 1
 # A thousand threads begin one transaction each, and may take a minute.
 few=()

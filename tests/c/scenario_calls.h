@@ -14,7 +14,7 @@ enum {
   MOST_BOUNDS = 2,                  /* how many bounds an index can have */
   MOST_KEYS = BS_MOST_PARENTS + 2,  /* how many keys a caller names for a row at most: more than any row has */
   LIST = 6,                         /* how many commands a list has at most */
-  COMMANDS = BS_DO_RELEASE_SINCE + 1,
+  COMMANDS = BS_DO_MERGE + 1,
   STATUSES = 75
 };
 
@@ -96,7 +96,8 @@ static size_t line_count;
 static const char *const command_names[COMMANDS] = {
   "?", "begin", "lock", "lock_path", "try", "unlock", "escalate", "cancel", "commit", "abort", "settle", "insert",
   "delete", "adopt", "forget", "rekey", "move", "drop", "add_inner", "add_file", "add_row_file", "add_index",
-  "index_by", "lock_row", "unlock_row", "rekey_row", "try_path", "try_row", "begin_again", "release_since"
+  "index_by", "lock_row", "unlock_row", "rekey_row", "try_path", "try_row", "begin_again", "release_since",
+  "renew", "lock_row_path", "try_row_path", "mark", "insert_path", "split", "merge"
 };
 static const char *const call_names[] = { "", "ask ", "ask_await ", "expire ", "run ", "try_first ", "mark ",
                                           "deadline ", "sleep " };
@@ -140,6 +141,7 @@ static void trace_command(const bs_command *c) {
   for (i = 0; i < c->parent_count; i++) trace_node(i == 0 ? " under " : ",", c->parents[i]);
   for (i = 0; i < c->key_count; i++) trace("%s%lu", i == 0 ? " keys " : ",", (unsigned long)c->keys[i]);
   if (c->number != 0) trace(" number %lu", (unsigned long)c->number);
+  if (c->kind == BS_DO_SPLIT) trace(" at %lu", (unsigned long)c->key);
   if (c->mode != BS_NL) trace_mode(c->mode);
 }
 

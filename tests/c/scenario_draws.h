@@ -209,13 +209,21 @@ static bs_node some_index_of(bs_node file) {
 
 /* The interval of an index that has a key, or no_node. */
 static bs_node interval_of(bs_node index, uint64_t key) {
-  size_t i;
-  for (i = 0; i < n.node_count; i++) {
-    const naive_node *node = &n.nodes[i];
-    bool is_its = node->kind == BS_INTERVAL && node->index == index.birth;
-    if (is_its && node->from <= key && (node->is_last || key < node->to)) return node->name;
-  }
-  return no_node;
+  const naive_node *interval = naive_interval(&n, index.birth, key);
+  return interval == NULL ? no_node : interval->name;
+}
+
+/* The interval after a node, if that is an interval and not the last of its index; else the node. */
+static bs_node next_interval(bs_node node) {
+  const naive_node *found = naive_find(&n, node);
+  if (found == NULL || found->kind != BS_INTERVAL || found->is_last) return node;
+  return naive_interval(&n, found->index, found->to)->name;
+}
+
+/* The interval before one, or itself if that is the first. */
+static bs_node interval_before(bs_node interval) {
+  const naive_node *found = naive_find(&n, interval);
+  return found->from == 0 ? interval : naive_interval(&n, found->index, found->from - 1)->name;
 }
 
 /* A node that a transaction holds; now and then another one. */
@@ -367,6 +375,8 @@ static void fill_of_nodes(drawn *d) {
     case BS_DO_ADD_ROW_FILE: some_parents(d); break;
     case BS_DO_MOVE: d->c.node = some_exclusive(d->c.txn, some_movable_kind()); some_parents(d); break;
     case BS_DO_DROP: d->c.node = some_exclusive(d->c.txn, some_movable_kind()); break;
+    case BS_DO_SPLIT:
+    case BS_DO_MERGE: d->c.node = some_exclusive(d->c.txn, BS_INTERVAL); d->c.key = draw(KEYS); break;
     case BS_DO_INSERT:
     case BS_DO_ADOPT: d->c.file = some_file(one_in(12)); d->c.number = draw(KEYS); some_keys(d); break;
     case BS_DO_DELETE:
@@ -476,6 +486,16 @@ static void list_of_a_change(call *c, bs_txn txn, uint32_t kind, bs_node node) {
   add(c, d);
 }
 
+/* Splits an interval, or merges it with the next one, with the locks that this needs. */
+static void list_of_intervals(call *c, bs_txn txn, uint32_t kind, bs_node interval) {
+  drawn d = filled(kind, txn);
+  bs_node next = next_interval(interval);
+  d.c.node = interval;
+  add_lock(c, BS_DO_LOCK_PATH, txn, interval, BS_X);
+  if (kind == BS_DO_MERGE && !same_node(next, interval)) add_lock(c, BS_DO_LOCK_PATH, txn, next, BS_X);
+  add(c, d);
+}
+
 /* Locks a row and gives it another key, with the locks that both need. */
 static void list_of_a_rekey(call *c, bs_txn txn) {
   drawn d = filled(BS_DO_LOCK_ROW, txn);
@@ -506,7 +526,8 @@ static void list_of_any(call *c) {
     { BS_DO_RELEASE_SINCE, 4 }, { BS_DO_CANCEL, 2 }, { BS_DO_COMMIT, 8 }, { BS_DO_ABORT, 3 }, { BS_DO_SETTLE, 2 },
     { BS_DO_INSERT, 2 }, { BS_DO_DELETE, 2 }, { BS_DO_ADOPT, 1 }, { BS_DO_FORGET, 1 }, { BS_DO_REKEY, 2 },
     { BS_DO_MOVE, 2 }, { BS_DO_DROP, 2 }, { BS_DO_INDEX_BY, 1 }, { BS_DO_REKEY_ROW, 2 }, { BS_DO_ADD_INNER, 1 },
-    { BS_DO_ADD_FILE, 1 }, { BS_DO_ADD_ROW_FILE, 1 }, { BS_DO_ADD_INDEX, 1 }, { BS_DO_BEGIN, 2 }
+    { BS_DO_ADD_FILE, 1 }, { BS_DO_ADD_ROW_FILE, 1 }, { BS_DO_ADD_INDEX, 1 }, { BS_DO_BEGIN, 2 }, { BS_DO_SPLIT, 1 },
+    { BS_DO_MERGE, 1 }
   };
   size_t count = 1 + draw(4);
   while (c->count < count) {
@@ -520,12 +541,14 @@ static void draw_list(call *c, bs_txn txn) {
   static const weight changes[] = { { BS_DO_DELETE, 3 }, { BS_DO_REKEY, 4 }, { BS_DO_MOVE, 4 }, { BS_DO_DROP, 4 },
                                     { BS_DO_INDEX_BY, 4 } };
   c->kind = RUN;
-  switch (draw(12)) {
+  switch (draw(14)) {
     case 0: list_of_one_more(c, txn, BS_DO_INSERT); break;
     case 1: case 2: list_of_one_more(c, txn, BS_DO_LOCK_ROW); break;
     case 3: case 4: list_of_a_change(c, txn, WEIGHED(changes), no_node); break;
     case 5: list_of_a_rekey(c, txn); break;
     case 6: case 7: list_of_a_transaction(c); break;
+    case 8: list_of_intervals(c, txn, BS_DO_SPLIT, some(BS_INTERVAL)); break;
+    case 9: list_of_intervals(c, txn, BS_DO_MERGE, some(BS_INTERVAL)); break;
     default: list_of_any(c);
   }
 }
@@ -606,9 +629,12 @@ static void draw_deadline(call *c, bs_txn txn) {
 static void draw_change_of(call *c, bs_txn txn, bs_node node) {
   static const weight kinds[] = { { BS_DO_DROP, 1 }, { BS_DO_MOVE, 2 } };
   static const weight of_records[] = { { BS_DO_DELETE, 1 }, { BS_DO_REKEY, 2 } };
-  bool is_record = naive_find(&n, node)->kind == BS_RECORD;
-  draw_command(c, txn, is_record ? WEIGHED(of_records) : WEIGHED(kinds));
+  static const weight of_intervals[] = { { BS_DO_SPLIT, 2 }, { BS_DO_MERGE, 1 } };
+  uint32_t kind = naive_find(&n, node)->kind;
+  bool is_record = kind == BS_RECORD, is_interval = kind == BS_INTERVAL;
+  draw_command(c, txn, is_record ? WEIGHED(of_records) : is_interval ? WEIGHED(of_intervals) : WEIGHED(kinds));
   c->list[0].c.node = node;
+  if (c->list[0].c.kind == BS_DO_MERGE && one_in(2)) c->list[0].c.node = interval_before(node);
 }
 
 /* Mostly ends a wait: its blocker releases something or changes the node. A blocker that waits itself is settled. */
@@ -629,7 +655,7 @@ static const weight single_kinds[] = {
   { BS_DO_TRY, 4 }, { BS_DO_TRY_PATH, 4 }, { BS_DO_TRY_ROW, 4 }, { BS_DO_UNLOCK, 8 }, { BS_DO_UNLOCK_ROW, 4 },
   { BS_DO_ESCALATE, 4 }, { BS_DO_RELEASE_SINCE, 5 }, { BS_DO_CANCEL, 1 }, { BS_DO_COMMIT, 14 }, { BS_DO_ABORT, 3 },
   { BS_DO_SETTLE, 1 }, { BS_DO_INSERT, 2 }, { BS_DO_DELETE, 3 }, { BS_DO_REKEY, 2 }, { BS_DO_MOVE, 2 },
-  { BS_DO_DROP, 3 }, { BS_DO_INDEX_BY, 1 }, { BS_DO_REKEY_ROW, 2 }
+  { BS_DO_DROP, 3 }, { BS_DO_INDEX_BY, 1 }, { BS_DO_REKEY_ROW, 2 }, { BS_DO_SPLIT, 2 }, { BS_DO_MERGE, 2 }
 };
 
 /* A call of a free transaction. */

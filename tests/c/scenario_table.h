@@ -35,7 +35,9 @@ static bool takes_told(uint32_t kind) {
     case BS_DO_DELETE:
     case BS_DO_REKEY:
     case BS_DO_MOVE:
-    case BS_DO_DROP: return true;
+    case BS_DO_DROP:
+    case BS_DO_SPLIT:
+    case BS_DO_MERGE: return true;
     default: return false;
   }
 }
@@ -56,6 +58,8 @@ static bs_reply table_command_of_nodes(const bs_command *c, bs_notices *told) {
     case BS_DO_FORGET: return bs_table_forget(table, c->node);
     case BS_DO_REKEY: return bs_table_rekey(table, c->txn, c->node, c->index, c->key, told);
     case BS_DO_MOVE: return bs_table_move(table, c->txn, c->node, c->parents, c->parent_count, told);
+    case BS_DO_SPLIT: return bs_table_split(table, c->txn, c->node, c->key, told);
+    case BS_DO_MERGE: return bs_table_merge(table, c->txn, c->node, told);
     default: return bs_table_drop(table, c->txn, c->node, told);
   }
 }

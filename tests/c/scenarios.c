@@ -306,11 +306,30 @@ static void make_change_of_node(const bs_txn *members, size_t count) {
   remember(&c);
 }
 
+/* An interval is split, or merged with another one; others wait for the first or the second. */
+static void make_change_of_interval(const bs_txn *members, size_t count) {
+  bs_node interval = some(BS_INTERVAL), next = next_interval(interval);
+  uint32_t kind = same_node(next, interval) || one_in(2) ? BS_DO_SPLIT : BS_DO_MERGE;
+  call c;
+  size_t i;
+  make_lock(members[0], interval, BS_X);
+  if (kind == BS_DO_MERGE) make_lock(members[0], next, BS_X);
+  for (i = 1; i < count; i++) make_lock(members[i], one_in(2) ? interval : next, one_in(2) ? BS_S : BS_X);
+  if (!is_free(members[0])) return;
+  memset(&c, 0, sizeof c);
+  c.kind = RUN;
+  list_of_intervals(&c, members[0], kind, interval);
+  make(&c);
+  remember(&c);
+}
+
 static void make_change_under_waits(void) {
   bs_txn members[4];
   size_t count = some_free(members, 4);
+  uint32_t change = (uint32_t)draw(5);
   if (count < 2) return;
-  if (one_in(2)) make_change_of_row(members, count);
+  if (change == 0) make_change_of_interval(members, count);
+  else if (change < 3) make_change_of_row(members, count);
   else make_change_of_node(members, count);
 }
 
@@ -464,12 +483,13 @@ static void run_scenario(unsigned long most) {
   close_table();
 }
 
-/* Each command was done and refused at least this often. */
+/* Each command that is drawn was done and refused at least this often. */
 static void commands_came(unsigned long least) {
   uint32_t kind;
   for (kind = BS_DO_BEGIN; kind < COMMANDS; kind++) {
     unsigned long refused = 0;
     bs_status status;
+    if (kind > BS_DO_RELEASE_SINCE && kind < BS_DO_SPLIT) continue;
     for (status = 1; status < STATUSES; status++) refused += tally[kind][status];
     if (tally[kind][BS_DONE] < least) must(say("%s: %lu were done", command_names[kind], tally[kind][BS_DONE]), no_txn);
     if (refused < least) must(say("%s: %lu were refused", command_names[kind], refused), no_txn);

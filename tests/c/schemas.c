@@ -1,9 +1,10 @@
 /*
  * Random schemas over a manager of the library, compared with the manager of plain lists of naive.h: tables, indexes,
- * records and rows are made, changed and removed. Both get every command, and must answer and tell the same. After each
- * command the transactions, their locks and the queues must be the same; after each change of the schema also every
- * node, with its parents, keys, indexes and intervals. Neither knows a removed node. By the end each kind of command
- * was accepted and refused, and every answer to a drop and to an index by a transaction has occurred.
+ * records and rows are made, changed and removed, and intervals split and merged. Both get every command, and must
+ * answer and tell the same. After each command the transactions, their locks and the queues must be the same; after
+ * each change of the schema also every node, with its parents, keys, indexes and intervals. Neither knows a removed
+ * node. By the end each kind of command was accepted and refused, and every answer to a drop, to an index by a
+ * transaction, to a split and to a merge has occurred.
  *
  *   schemas [DRAWS]   how many times each scenario draws its work, 6000 if none is given
  *
@@ -22,7 +23,7 @@
 enum { TXNS = 3, MOST_NODES = 36, MOST_BOUNDS = 3, KEYS = 30, ROWS = 4 };
 
 /* How many kinds of commands and how many statuses there are. */
-enum { KINDS = BS_DO_RENEW + 1, STATUSES = 75 };
+enum { KINDS = BS_DO_MERGE + 1, STATUSES = 75 };
 
 /* A scenario: how the manager is made, the seed for its work, and whether it has all kinds of work. */
 typedef struct setting {
@@ -50,9 +51,10 @@ static bs_txn txns[TXNS], ended;
 static pcg rng;
 static unsigned long asked;
 
-/* How often each kind of command had each answer, and how many were told that a dropped node is gone. */
+/* How often each kind of command had each answer; and how many were told that a dropped node is gone, that an interval
+ * was split, and that one was merged. */
 static unsigned long tally[KINDS][STATUSES];
-static unsigned long told_gone;
+static unsigned long told_gone, told_split, told_merged;
 
 /* How often each kind of command was refused memory. */
 static unsigned long refusals[KINDS];
@@ -85,6 +87,8 @@ static bs_reply made_of_nodes(const bs_command *c) {
     case BS_DO_REKEY: return bs_rekey(&m, c->txn, c->node, c->index, c->key, &told);
     case BS_DO_MOVE: return bs_move(&m, c->txn, c->node, c->parents, c->parent_count, &told);
     case BS_DO_DROP: return bs_drop(&m, c->txn, c->node, &told);
+    case BS_DO_SPLIT: return bs_split(&m, c->txn, c->node, c->key, &told);
+    case BS_DO_MERGE: return bs_merge(&m, c->txn, c->node, &told);
     default: return bs_call_only(BS_BAD_NUMBER);
   }
 }
@@ -126,6 +130,8 @@ static bool changes_schema(const bs_command *c) {
     case BS_DO_ADOPT:
     case BS_DO_FORGET:
     case BS_DO_DROP:
+    case BS_DO_SPLIT:
+    case BS_DO_MERGE:
     case BS_DO_REKEY:
     case BS_DO_REKEY_ROW:
     case BS_DO_MOVE: return true;
@@ -169,6 +175,8 @@ static void count(const bs_command *c, bs_reply reply) {
   tally[c->kind][reply.status]++;
   for (i = 0; i < told.count; i++) {
     if (c->kind == BS_DO_DROP && told.at[i].kind == BS_TOLD_GONE) told_gone++;
+    if (c->kind == BS_DO_SPLIT && told.at[i].kind == BS_TOLD_MOVED) told_split++;
+    if (c->kind == BS_DO_MERGE && told.at[i].kind == BS_TOLD_GONE) told_merged++;
   }
 }
 
@@ -494,6 +502,36 @@ static void moves(bs_txn txn) {
   asks(c);
 }
 
+/* An interval; now and then any node. */
+static bs_node some_interval(void) {
+  return seldom(12) ? some_node() : some(BS_INTERVAL);
+}
+
+/* Splits an interval, for which others may wait. */
+static void splits(bs_txn txn) {
+  bs_command c = bs_do_at(BS_DO_SPLIT, txn, some_interval(), BS_NL);
+  if (!seldom(6)) reaches(txn, c.node, BS_X);
+  if (seldom(2)) comes(txns[draw(TXNS)], c.node);
+  c.txn = name(txn);
+  c.key = draw(KEYS);
+  asks(c);
+}
+
+/* Merges an interval with the next one. Others may wait for either. */
+static void merges(bs_txn txn) {
+  bs_command c = bs_do_at(BS_DO_MERGE, txn, some_interval(), BS_NL);
+  const naive_node *found = naive_find(&n, c.node);
+  bs_node next = c.node;
+  if (found != NULL && found->kind == BS_INTERVAL && !found->is_last) {
+    next = naive_interval(&n, found->index, found->to)->name;
+  }
+  if (!seldom(6)) reaches(txn, c.node, BS_X);
+  if (!seldom(6)) reaches(txn, next, BS_X);
+  if (seldom(2)) comes(txns[draw(TXNS)], seldom(2) ? c.node : next);
+  c.txn = name(txn);
+  asks(c);
+}
+
 /* A node that a transaction holds, if it holds any. */
 static bs_node some_held(bs_txn txn) {
   static const bs_node none = { 0, 0 };
@@ -533,10 +571,11 @@ static void clash(bs_txn txn) {
 
 /* A transaction that waits or is condemned makes calls in vain, or ends. */
 static void gives_up(size_t who) {
-  switch (draw(6)) {
+  switch (draw(8)) {
     case 0: drops(txns[who]); break;
     case 1: indexes_by(txns[who]); break;
     case 2: ends(who, BS_DO_COMMIT); break;
+    case 3: if (seldom(2)) splits(txns[who]); else merges(txns[who]); break;
     default: ends(who, BS_DO_ABORT);
   }
 }
@@ -544,8 +583,11 @@ static void gives_up(size_t who) {
 /* Work of an active transaction. */
 static void works(size_t who) {
   bs_txn txn = txns[who];
-  size_t drawn = draw(50);
-  if (drawn >= 48) renews(who);
+  size_t drawn = draw(63);
+  if (drawn >= 57) splits(txn);
+  else if (drawn >= 51) merges(txn);
+  else if (drawn >= 49) renews(who);
+  else if (drawn >= 48) adopts(txn);
   else if (drawn < 4) makes(txn);
   else if (drawn < 6) indexes(txn);
   else if (drawn < 12) indexes_by(txn);
@@ -705,12 +747,16 @@ static void run_scenarios(unsigned long draws) {
   run_scenario(rest, 54);
 }
 
-/* What must be answered to a drop, and to an index by a transaction, at least once. */
+/* What must be answered to a drop, to an index by a transaction, to a split and to a merge, at least once. */
 static const bs_status of_drops[] = { BS_DONE, BS_NO_SUCH_TXN, BS_TXN_WAITING, BS_TXN_CONDEMNED, BS_NO_SUCH_NODE,
                                       BS_BAD_PARENTS, BS_NEED_EXCLUSIVE, BS_HAS_CHILDREN, BS_FILE_IN_USE };
 static const bs_status of_indexes[] = { BS_DONE, BS_NO_SUCH_TXN, BS_TXN_WAITING, BS_TXN_CONDEMNED, BS_NO_SUCH_NODE,
                                         BS_BAD_PARENTS, BS_NEED_EXCLUSIVE, BS_NEED_PARENTS, BS_FILE_IN_USE, BS_BAD_KEYS,
                                         BS_TOO_MANY_NODES };
+static const bs_status of_splits[] = { BS_DONE, BS_NO_SUCH_TXN, BS_TXN_WAITING, BS_TXN_CONDEMNED, BS_NO_SUCH_NODE,
+                                       BS_BAD_PARENTS, BS_NEED_EXCLUSIVE, BS_BAD_KEYS, BS_TOO_MANY_NODES };
+static const bs_status of_merges[] = { BS_DONE, BS_NO_SUCH_TXN, BS_TXN_WAITING, BS_TXN_CONDEMNED, BS_NO_SUCH_NODE,
+                                       BS_BAD_PARENTS, BS_NEED_EXCLUSIVE };
 
 static void all_came(uint32_t kind, const bs_status *statuses, size_t all) {
   size_t i;
@@ -720,14 +766,18 @@ static void all_came(uint32_t kind, const bs_status *statuses, size_t all) {
   }
 }
 
-/* Each kind of command was accepted and refused. A begin can be refused in only one way, and the tries of a table are
- * no commands of a manager. */
+/* Whether only a table has commands of this kind. */
+static bool is_of_tables(uint32_t kind) {
+  return kind == BS_DO_TRY_PATH || kind == BS_DO_TRY_ROW || (kind > BS_DO_RENEW && kind < BS_DO_SPLIT);
+}
+
+/* Each kind of command was accepted and refused. A begin can be refused in only one way. */
 static void all_kinds_came(void) {
   uint32_t kind;
   for (kind = BS_DO_BEGIN; kind < KINDS; kind++) {
     unsigned long refused = 0;
     bs_status status;
-    if (kind == BS_DO_TRY_PATH || kind == BS_DO_TRY_ROW) continue;
+    if (is_of_tables(kind)) continue;
     for (status = 1; status < STATUSES; status++) refused += tally[kind][status];
     if (tally[kind][BS_DONE] < 5) wanted(say("command %u was accepted %lu times", kind, tally[kind][BS_DONE]), NULL);
     if (kind != BS_DO_BEGIN_AGAIN && refused < 5) wanted(say("command %u was refused %lu times", kind, refused), NULL);
@@ -738,7 +788,7 @@ static void all_kinds_came(void) {
 static void all_refusals_came(void) {
   static const uint32_t growing[] = { BS_DO_LOCK, BS_DO_LOCK_PATH, BS_DO_TRY, BS_DO_LOCK_ROW, BS_DO_INSERT, BS_DO_ADOPT,
                                       BS_DO_ADD_INNER, BS_DO_ADD_FILE, BS_DO_ADD_ROW_FILE, BS_DO_ADD_INDEX,
-                                      BS_DO_INDEX_BY, BS_DO_MOVE };
+                                      BS_DO_INDEX_BY, BS_DO_MOVE, BS_DO_SPLIT };
   size_t i;
   for (i = 0; i < sizeof growing / sizeof growing[0]; i++) {
     if (refusals[growing[i]] == 0) wanted(say("command %u was never refused memory", growing[i]), NULL);
@@ -748,7 +798,10 @@ static void all_refusals_came(void) {
 static void tally_is_full(void) {
   all_came(BS_DO_DROP, of_drops, sizeof of_drops / sizeof of_drops[0]);
   all_came(BS_DO_INDEX_BY, of_indexes, sizeof of_indexes / sizeof of_indexes[0]);
+  all_came(BS_DO_SPLIT, of_splits, sizeof of_splits / sizeof of_splits[0]);
+  all_came(BS_DO_MERGE, of_merges, sizeof of_merges / sizeof of_merges[0]);
   if (told_gone == 0) wanted("nobody was told that a dropped node is gone", NULL);
+  if (told_split == 0 || told_merged == 0) wanted("nobody was told of a split, or of a merge", NULL);
   all_kinds_came();
   all_refusals_came();
 }

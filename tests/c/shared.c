@@ -414,6 +414,91 @@ static void grants_by(bs_reply (*escalate)(bs_table *, bs_txn, bs_node, bs_notic
   close_table();
 }
 
+/* A sleeper for an interval that is split is woken. A path goes on: its thread sleeps for the interval again. */
+static void a_split_ends_sleeps(void) {
+  struct requester one, two;
+  bs_txn a, b, c;
+  bs_node part;
+  set_up(BS_AT_BLOCK);
+  a = begin(), b = begin(), c = begin();
+  DONE(bs_table_lock_path(table, a, below, BS_X, NULL));
+  DONE(bs_table_lock_path(table, c, by_key, BS_IS, NULL));
+  send_by_path(&one, b, below, BS_S);
+  send(&two, c, below, BS_S);
+  ANSWERS(BS_BAD_KEYS, bs_table_split(table, a, below, 100, &told));
+  part = DONE(bs_table_split(table, a, below, 60, &told)).node;
+  WANT(told.count == 2 && is_told(0, b, BS_TOLD_MOVED) && is_told(1, c, BS_TOLD_MOVED));
+  back(&two, BS_MOVED);
+  WANT(wait_in(table, b).status == BS_WAITING && same_node(wait_in(table, b).node, below));
+  ANSWERS(BS_IN_USE, (bs_table_hold(table), bs_table_split(table, a, part, 70, NULL)));
+  DONE(bs_table_let_go(table));
+  DONE(bs_table_commit(table, a, &told));
+  WANT(told.count == 1 && is_told(0, b, BS_TOLD_GRANTED) && back(&one, BS_DONE).mode == BS_S);
+  holds(b, below, BS_S), holds(b, part, BS_NL), holds(c, below, BS_NL);
+  close_table();
+}
+
+/* Reads the keys below 100: S on the intervals that have them, each as it is when those before it are held. */
+static void *read_lower(void *arg) {
+  struct requester *r = (struct requester *)arg;
+  size_t place = 0;
+  bs_node last;
+  do {
+    r->node = DONE(ASK(table, bs_interval, by_key, place++)).node;
+    r->reply = bs_table_lock_path(table, r->txn, r->node, BS_S, NULL);
+    last = DONE(ASK(table, bs_interval_of, by_key, 99)).node;
+  } while (r->reply.status == BS_DONE && !same_node(r->node, last));
+  return NULL;
+}
+
+/* A reader of a range sleeps while that is split, twice, and then has the intervals as they are. */
+static void a_reader_of_a_range_follows_its_splits(void) {
+  struct requester one;
+  bs_txn a, b;
+  bs_node second, third;
+  set_up(BS_AT_BLOCK);
+  a = begin(), b = begin();
+  DONE(bs_table_lock_path(table, a, below, BS_X, NULL));
+  memset(&one, 0, sizeof one);
+  one.txn = b;
+  start(&one.thread, read_lower, &one);
+  await_wait(b);
+  third = DONE(bs_table_split(table, a, below, 60, NULL)).node;
+  await_wait(b);
+  second = DONE(bs_table_split(table, a, below, 30, NULL)).node;
+  DONE(bs_table_commit(table, a, NULL));
+  back(&one, BS_DONE);
+  holds(b, below, BS_S), holds(b, second, BS_S), holds(b, third, BS_S), holds(b, above, BS_NL);
+  WANT(same_node(ASK(table, bs_parent, low, 1).node, second));
+  close_table();
+}
+
+/* A merge wakes each sleeper for the interval that goes, also on a path, and none for the one that stays. */
+static void a_merge_ends_sleeps(void) {
+  struct requester one, two, three;
+  bs_txn a, b, c, d;
+  set_up(BS_AT_BLOCK);
+  a = begin(), b = begin(), c = begin(), d = begin();
+  DONE(bs_table_lock_path(table, a, below, BS_X, NULL));
+  DONE(bs_table_lock_path(table, c, by_key, BS_IX, NULL));
+  DONE(bs_table_lock_path(table, d, by_key, BS_IS, NULL));
+  ANSWERS(BS_NEED_EXCLUSIVE, bs_table_merge(table, a, below, &told));
+  DONE(bs_table_lock_path(table, a, above, BS_X, NULL));
+  send_by_path(&one, b, above, BS_S);
+  send(&two, c, above, BS_IX);
+  send(&three, d, below, BS_S);
+  DONE(bs_table_merge(table, a, below, &told));
+  WANT(told.count == 2 && is_told(0, b, BS_TOLD_GONE) && is_told(1, c, BS_TOLD_GONE));
+  back(&one, BS_GONE);
+  back(&two, BS_GONE);
+  ANSWERS(BS_NO_SUCH_NODE, bs_table_lock_path(table, b, above, BS_S, NULL));
+  WANT(same_node(wait_in(table, d).node, below));
+  DONE(bs_table_commit(table, a, NULL));
+  WANT(back(&three, BS_DONE).mode == BS_S);
+  WANT(same_node(ASK(table, bs_parent, high, 1).node, below));
+  close_table();
+}
+
 static void an_escalation_grants(void) {
   grants_by(bs_table_escalate);
   grants_by(bs_table_escalate);
@@ -2036,6 +2121,36 @@ static void a_path_goes_on_in_a_list(void) {
   close_table();
 }
 
+/* A split and a merge in a list, which tell their waiters; and a list that ends where a split is refused. */
+static void a_list_of_splits_and_merges(void) {
+  struct requester one;
+  bs_notices heard;
+  bs_command list[7];
+  bs_txn a, b;
+  set_up(BS_AT_BLOCK);
+  a = begin(), b = begin();
+  DONE(bs_table_lock_path(table, a, below, BS_X, NULL));
+  DONE(bs_table_lock_path(table, b, by_key, BS_IS, NULL));
+  send(&one, b, below, BS_S);
+  list[0] = bs_do_at(BS_DO_SPLIT, a, below, BS_NL), list[0].key = 60, list[0].told = &heard;
+  list[1] = bs_do_at(BS_DO_SPLIT, a, bs_made(0), BS_NL), list[1].key = 80;
+  list[2] = bs_do_at(BS_DO_LOCK_PATH, a, above, BS_X);
+  list[3] = bs_do_at(BS_DO_MERGE, a, bs_made(1), BS_NL);
+  list[4] = bs_do_at(BS_DO_SPLIT, a, below, BS_NL), list[4].key = 60;
+  list[5] = bs_do_at(BS_DO_MERGE, a, below, BS_NL);
+  WANT(bs_table_run(table, list, 6) == 4 && list[4].reply.status == BS_BAD_KEYS);
+  WANT(list[5].reply.status == BS_NOT_MADE && ASK(table, bs_kind, above).status == BS_NO_SUCH_NODE);
+  WANT(heard.count == 1 && same_txn(heard.at[0].txn, b) && heard.at[0].kind == BS_TOLD_MOVED);
+  back(&one, BS_MOVED);
+  holds(a, below, BS_X), holds(a, list[0].reply.node, BS_X), holds(a, list[1].reply.node, BS_X);
+  WANT(same_node(ASK(table, bs_interval, by_key, 2).node, list[1].reply.node));
+  WANT(same_node(ASK(table, bs_parent, high, 1).node, list[1].reply.node));
+  list[4] = bs_do_at(BS_DO_MERGE, a, below, BS_NL), list[6] = bs_do(BS_DO_COMMIT, a);
+  WANT(bs_table_run(table, list + 4, 3) == 3);
+  WANT(same_node(ASK(table, bs_interval_of, by_key, UINT64_MAX).node, below));
+  close_table();
+}
+
 /* An unknown kind is refused, and so is a command for a name that names nobody. */
 static void commands_that_are_none(void) {
   static const bs_command nothing = { 0 };
@@ -2049,7 +2164,7 @@ static void commands_that_are_none(void) {
   WANT(list[1].reply.status == BS_NOT_MADE && list[2].reply.status == BS_NOT_MADE);
   WANT(bs_do(BS_DO_COMMIT, a).reply.status == BS_NOT_MADE);
   WANT(bs_do_at(BS_DO_TRY, a, root, BS_X).reply.status == BS_NOT_MADE);
-  for (kind = BS_DO_INSERT_PATH + 1; kind != 0; kind <<= 1) {
+  for (kind = BS_DO_MERGE + 1; kind != 0; kind <<= 1) {
     list[0] = bs_do_at(kind, a, root, BS_X);
     WANT(bs_table_run(table, list, 1) == 0 && list[0].reply.status == BS_BAD_NUMBER);
   }
@@ -3969,6 +4084,9 @@ int main(int count, char **words) {
   TELL(a_file_moves);
   TELL(a_record_goes);
   TELL(a_drop_ends_sleeps);
+  TELL(a_split_ends_sleeps);
+  TELL(a_reader_of_a_range_follows_its_splits);
+  TELL(a_merge_ends_sleeps);
   TELL(an_escalation_grants);
   TELL(a_cancel_ends_a_sleep);
   TELL(a_cancel_grants);
@@ -4024,6 +4142,7 @@ int main(int count, char **words) {
   TELL(a_path_waits_in_a_list);
   TELL(a_row_waits_in_a_list);
   TELL(a_path_goes_on_in_a_list);
+  TELL(a_list_of_splits_and_merges);
   TELL(commands_that_are_none);
   TELL(a_path_is_tried);
   TELL(a_reader_skips_a_parent);

@@ -6,6 +6,7 @@
  * manager frees what it took.
  */
 #include "burlapslate_parts.h"
+#include "burlapslate_splits.h"
 #include "memory.h"
 #include "same.h"
 
@@ -1682,6 +1683,63 @@ static void refused_allocations_of_indexes(void) {
   WANT(allocations_of(refuses_an_index) > 2);
 }
 
+/* A call whose allocation is refused changes nothing. */
+static bs_node split_in_spite(bs_manager *m, bs_txn t, bs_node interval, uint64_t at) {
+  struct seen before = see(m);
+  uint64_t locks = bs_lock_count(m, t).count, children = bs_children(m, t, interval).count;
+  bs_reply made;
+  told.count = 0;
+  made = bs_split(m, t, interval, at, &told);
+  if (made.status == BS_NO_MEMORY) {
+    WANT(is_as(m, &before) && bs_lock_count(m, t).count == locks);
+    WANT(bs_children(m, t, interval).count == children);
+    made = bs_split(m, t, interval, at, &told);
+  }
+  return DONE(made).node;
+}
+
+static void merge_in_spite(bs_manager *m, bs_txn t, bs_node interval, bs_node next) {
+  struct seen before = see(m);
+  uint64_t locks = bs_lock_count(m, t).count;
+  bs_reply made;
+  told.count = 0;
+  made = bs_merge(m, t, interval, &told);
+  if (made.status == BS_NO_MEMORY) {
+    WANT(is_as(m, &before) && bs_lock_count(m, t).count == locks && bs_held(m, t, next).mode == BS_X);
+    made = bs_merge(m, t, interval, &told);
+  }
+  DONE(made);
+}
+
+/* Whether there is an nth allocation of splits and merges, which is refused. Two transactions read the records, which
+ * move one by one. */
+static bool refuses_a_split(long n) {
+  enum { RECORDS = 20 };
+  bs_manager m = BS_NO_MANAGER_HERE;
+  struct file f = make_file(&m, begin_manager(&m, BS_AT_BLOCK));
+  bs_txn a = begin(&m), b = begin(&m);
+  bs_node records[RECORDS], parts[RECORDS];
+  bool refused;
+  uint64_t i, key;
+  DONE(bs_lock_path(&m, a, f.below, BS_X, &told));
+  for (i = 0, key = 99; i < RECORDS; i++, key--) records[i] = DONE(bs_adopt(&m, f.file, &key, 1)).node;
+  for (i = 0; i < RECORDS; i++) DONE(bs_lock_path(&m, b, records[i], BS_S, &told));
+  for (i = 0; i < RECORDS; i++) DONE(bs_lock_path(&m, a, records[i], BS_S, &told));
+  refused_allocation = n;
+  for (i = 0; i < RECORDS; i++) parts[i] = split_in_spite(&m, a, f.below, 99 - i);
+  for (i = 0; i < RECORDS; i++) WANT(bs_children(&m, a, parts[i]).count == 1);
+  for (i = RECORDS; i-- > 0;) merge_in_spite(&m, a, f.below, parts[i]);
+  refused = refused_allocation == 0;
+  refused_allocation = 0;
+  WANT(bs_children(&m, a, f.below).count == RECORDS && bs_children(&m, b, f.file).count == RECORDS);
+  DONE(bs_end(&m));
+  return refused;
+}
+
+static void refused_allocations_of_splits(void) {
+  WANT(allocations_of(refuses_a_split) > 4);
+}
+
 /* A transaction that may write rows in the lower interval. */
 static bs_txn begin_writer(bs_manager *m, struct file f) {
   bs_txn t = begin(m);
@@ -1969,6 +2027,7 @@ int main(void) {
   TELL(everybody_is_told);
   TELL(refused_allocations);
   TELL(refused_allocations_of_indexes);
+  TELL(refused_allocations_of_splits);
   TELL(refused_allocations_of_rows);
   TELL(refused_allocations_of_row_files);
   TELL(rows_that_nobody_locks);

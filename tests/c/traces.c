@@ -15,6 +15,7 @@
 #include <time.h>
 
 #include "burlapslate_session.h"
+#include "burlapslate_splits.h"
 
 static int noted_create(pthread_t *thread, const pthread_attr_t *attributes, void *(*run)(void *), void *arg);
 
@@ -373,6 +374,36 @@ static void nodes_change(void) {
   DONE(bs_table_add_index(table, &archive, 1, DONE(bs_table_add_file(table, &archive, 1)).node, NULL, 0));
   DONE(bs_table_commit(table, one, NULL));
   end_trace();
+}
+
+/* Intervals are split and merged under waiters. They are named by their places, which shift. */
+static void intervals_change(void) {
+  struct heard reader, other;
+  bs_command list[3];
+  bs_txn one, two, three;
+  bs_node part;
+  begin_trace(BS_AT_BLOCK);
+  one = begin(), two = begin(), three = begin();
+  DONE(bs_table_lock_path(table, one, below, BS_X, NULL));
+  DONE(bs_table_lock_path(table, one, above, BS_X, NULL));
+  DONE(bs_table_lock_path(table, two, by_key, BS_IS, NULL));
+  WAITS(ask_path(&reader, three, below, BS_S));
+  WAITS(ask(&other, two, above, BS_S));
+  ANSWERS(BS_BAD_KEYS, bs_table_split(table, one, below, 100, &told)); /* refused: no line */
+  part = DONE(bs_table_split(table, one, below, 60, &told)).node;
+  DONE(bs_table_split(table, one, above, UINT64_MAX, &told));
+  HEARD(&other, BS_MOVED);
+  WAITS(ask(&other, two, above, BS_S));
+  list[0] = bs_do_at(BS_DO_MERGE, one, part, BS_NL);
+  list[1] = bs_do_at(BS_DO_SPLIT, one, part, BS_NL), list[1].key = 80;
+  list[2] = bs_do(BS_DO_COMMIT, one);
+  WANT(bs_table_run(table, list, 3) == 3);
+  HEARD(&other, BS_GONE);
+  HEARD(&reader, BS_DONE);
+  DONE(bs_table_lock_path(table, two, part, BS_S, NULL));
+  DONE(bs_table_commit(table, two, NULL));
+  DONE(bs_table_commit(table, three, NULL));
+  end_trace_with("split t0 n3.0 at 60\n= ok\n= told t2 moved\n");
 }
 
 /* A whole transaction is one list, with a wait that is awaited. */
@@ -831,6 +862,7 @@ int main(int count, char **words) {
   TELL(rows_come_and_go);
   TELL(rows_with_what_is_above_them);
   TELL(nodes_change);
+  TELL(intervals_change);
   TELL(lists);
   TELL(begins_in_turn);
   TELL(a_crowd);
