@@ -8,7 +8,7 @@ usage: gltool [WORD..] [SCRIPT]     runs a script of lock commands; without SCRI
   --detect at-block|by-watcher   when deadlocks are detected: at-block by default
   --victims youngest|fewest      how a victim is chosen: youngest by default
   --listings                     the script may have listings
-  --schema                       the script may drop nodes, and make indexes by transactions
+  --schema                       the script may drop nodes, make indexes by transactions, split and merge intervals
   --savepoints                   the script may set and return to savepoints
   --trace                        the script may be a trace: rows, work begun again, renewals
   --echo                         writes each line, with its answer to its right
@@ -20,7 +20,7 @@ Status: 0 at the end, 1 after a fault, 2 for unknown words, 3 by --strict.
 ";
 
 /// The program and the version of the library.
-pub const VERSION: &str = "gltool 0.30.0\n";
+pub const VERSION: &str = "gltool 0.31.0\n";
 
 /// What the program may be asked to do beside the report of a script.
 #[derive(Clone, Copy, Debug, PartialEq, Eq)]
