@@ -1900,7 +1900,7 @@ bs_reply bs_session_end(bs_session *session) {
  * Several commands in one critical section.
  */
 
-/* Takes the notice of a transaction off a list: its answer says the same. */
+/* Takes the notice of a transaction off a list: its answer says the same, or where it waits by then. */
 static void table_tell_all_but(bs_notices *told, bs_txn txn) {
   size_t i, kept = 0;
   for (i = 0; i < told->count; i++) {
@@ -1927,10 +1927,8 @@ static TABLE_APART bs_reply table_made_waiting(bs_table *table, const bs_command
   bs_reply reply;
   table_wait wait;
   bool is_last;
-  if (own->has_ended) {
-    table_tell_all_but(told, txn);
-    return own->end;
-  }
+  table_tell_all_but(told, txn);
+  if (own->has_ended) return own->end;
   wait = table_wait_of(table, c, txn);
   is_last = table_is_same_node(wait.node, c->node);
   table_leave_waiting(table, txn, wait, is_last && table_is_instant(table, txn, c->node, c->mode));

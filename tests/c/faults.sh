@@ -50,7 +50,7 @@ savepoint-is-of-nobody	s/    case BS_DO_RELEASE_SINCE: return table_make_release
 instant-at-once-forgets-the-victims	/ table_give_back_at_once(bs_table/,/^}/{s/table_make_unlock(table, txn, node, &more)/table_make_unlock(table, txn, node, told)/;/table_tell_too/d}
 instant-gives-back-what-was-held	/ table_is_instant(const/,/^}/s/ \&\& bs_held(&table->manager, txn, node).mode == BS_NL;/;/
 instant-came-and-is-not-known	/table_became(/,/^}/s/^  if (reply.status != BS_NOT_WAITING) return reply;/  return reply;/
-list-tells-its-own	s/^    table_tell_all_but(told, txn);//
+list-tells-its-own	/ table_made_waiting(/,/^}/s/^  table_tell_all_but(told, txn);//
 instant-tells-nobody	s/^      table_tell_too(told, &more);//
 run-says-not-for-what	/ table_made_waiting(/,/^}/s/^  reply.node = wait.node;//
 run-takes-a-slot-for-begun	s/  bs_txn txn = next->txn.slot == none.slot .*/  bs_txn txn = next->txn.age == none.age ? begun : next->txn;/
@@ -293,7 +293,7 @@ an-ask-is-answered-waiting	s/  if (waits \&\& own->waiter.has_ended) reply = own
 asked-path-answers-where-it-was	s/^  else if (waits \&\& reply.node.birth != 0) .*//
 ask-tells-after-it-has-left	s/^  if (waits \&\& !own->waiter.has_ended \&\& table->is_due) table_ask_and_tell(table);//
 ask-stays-in-its-call	/^static bs_reply table_leave_asked(/,/^}/s/^  own->is_inside = false;//
-list-does-not-settle	/ table_made_waiting(/,/^}/s/^  if (own->has_ended) {/  if (false) {/
+list-does-not-settle	/ table_made_waiting(/,/^}/s/^  if (own->has_ended) return/  if (false) return/
 list-s-wait-keeps-its-waiter	/ table_leave_waiting(/,/^}/s/^    bs_call_withdraw_waiter(.*//
 row-path-does-not-climb	s/  if (reply.status != BS_NEED_PARENTS || request->kind != TABLE_ROW_PATH) return reply;/  return reply;/
 row-climbs-too	s/  if (reply.status != BS_NEED_PARENTS || request->kind != TABLE_ROW_PATH) return reply;/  if (reply.status != BS_NEED_PARENTS) return reply;/

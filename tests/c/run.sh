@@ -90,6 +90,8 @@ compile twins || exit 1
 timeout 60 "$work/twins" || exit 1
 compile scenarios || exit 1
 timeout 60 "$work/scenarios" || exit 1
+# In this one a path of a list is granted on its way by what it has set off, and waits further up.
+timeout 60 "$work/scenarios" 1000 1090 || exit 1
 compile many -Wl,--wrap=malloc,--wrap=realloc,--wrap=free || exit 1
 timeout 100 "$work/many" || exit 1
 compile shared -Wl,--wrap=malloc,--wrap=realloc,--wrap=free || exit 1
