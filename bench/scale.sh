@@ -8,7 +8,7 @@
 # (1000000 by default): the instructions for a record, if valgrind's callgrind is installed, and its nanoseconds.
 # Berkeley DB stores nothing of an unlocked record, so it has no insert and no delete. Without it a line says so, and
 # only ours is printed. CC names another compiler than cc. A record that is adopted, by its node or by its row's number,
-# exists only while it is locked.
+# exists only while it is locked. The interval of all is split and merged once.
 #
 # - A record has one index, and is with all others in one interval. Each step visits all records, by increasing key or
 #   at random, a hundred in a transaction, with intentions on four nodes above; or all in one transaction.

@@ -2,6 +2,8 @@
 #include "scale.h"
 #include "files.h"
 
+#include <burlapslate_splits.h>
+
 #include <stdlib.h>
 
 static bs_node *records;
@@ -9,7 +11,7 @@ static bs_node *records;
 static void set_up(const struct work *work) {
   records = malloc(work->records * sizeof *records);
   if (records == NULL) fail("no memory", __FILE__, __LINE__);
-  make_files(work->records + ABOVE);
+  make_files(work->records + ABOVE + 1); /* One for the new part of a split. */
 }
 
 static void tear_down(void) {
@@ -65,6 +67,15 @@ static __attribute__((noinline)) void step_escalate(const struct work *work) {
   commit(t);
 }
 
+/* Once, in the middle of all records. */
+static __attribute__((noinline)) void step_split(const struct work *work) {
+  bs_txn t = begin();
+  DONE(bs_lock(&m, t, below, BS_X, &told));
+  DONE(bs_split(&m, t, below, work->records / 2, &told));
+  DONE(bs_merge(&m, t, below, &told));
+  commit(t);
+}
+
 static __attribute__((noinline)) void step_delete(const struct work *work) {
   IN_TRANSACTIONS(work, at, t, {
     DONE(bs_lock(&m, t, records[work->order[at]], BS_X, &told));
@@ -114,6 +125,7 @@ static const struct step steps[] = {
   { "lock, a hundred in a transaction\tstep_lock", step_lock },
   { "lock, all in one transaction\tstep_lock_all", step_lock_all },
   { "lock all, and escalate\tstep_escalate", step_escalate },
+  { "split and merge all\tstep_split", step_split },
   { "lock and delete\tstep_delete", step_delete },
   { "adopt, lock, commit and forget\tstep_adopt", step_adopt },
   { "lock a row by its number, and commit\tstep_row", step_row },
