@@ -1,9 +1,9 @@
 #!/usr/bin/env bash
 # faults.sh [--tenth] [NAME..] [LIBRARY LIBRARY]: plants faults in a copy of the C sources, one at a time: the shared
-# table, its dump, its trace, what times its waits, and the group. The stories or the crowd must find each: a check fails, or they
-# hang or crash. `all` means every fault there is, --tenth each tenth, by turns: the sum of the folder c chooses which.
-# The libraries are the proved one and the calls for memory; without them they are the last two that tools/c_library.sh
-# prints. Ends with status 1 if a fault is not found. CC names another compiler than cc.
+# table, its dump, its trace, what times its waits, and the group. The stories or the crowd must find each: a check
+# fails, or they hang or crash. `all` means every fault there is, --tenth each tenth, by turns: the sum of the folder c
+# chooses which. The libraries are the proved one and the calls for memory; without them they are the last two that
+# tools/c_library.sh prints. Ends with status 1 if a fault is not found. CC names another compiler than cc.
 set -uo pipefail
 top=$(cd "$(dirname "$0")/../.." && pwd) || exit 2
 names=() libraries=() turn=
