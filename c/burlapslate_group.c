@@ -859,7 +859,7 @@ static inline bool group_reach(group_way *way, bs_reply *why) {
  * Copies and visits. The main table's latch is held.
  */
 
-/* A copy was answered so. By the laws nothing else refuses one than want of memory, or of numbers. */
+/* Counts a copy that is refused other than for want of memory or of numbers. By the laws none is. */
 static void group_note_fault(bs_table_group *group, bs_status status) {
   if (status != BS_DONE && status != BS_NO_MEMORY && status != BS_WORN_OUT) group->faults++;
 }

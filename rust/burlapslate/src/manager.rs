@@ -790,8 +790,8 @@ impl Manager {
     /// Splits an interval of an index in two: it keeps its keys below `at`, and a new interval, which is
     /// answered, has those from `at` on. The transaction holds [`X`](Mode::X) on the interval, and from
     /// then on on the new one too. The records of the file get the intervals of their keys, and no
-    /// effective mode is another. The places of the later intervals of the index are one higher. Who waited
-    /// for the interval is told [`Notice::Moved`](crate::Notice::Moved).
+    /// effective mode is another. The places of the later intervals of the index are one higher. Each
+    /// waiter for the interval is told [`Notice::Moved`](crate::Notice::Moved).
     ///
     /// Refused with [`WornOut`](Refusal::WornOut), [`NoSuchTxn`](Refusal::NoSuchTxn),
     /// [`TxnWaiting`](Refusal::TxnWaiting), [`TxnCondemned`](Refusal::TxnCondemned),
@@ -831,8 +831,8 @@ impl Manager {
 
     /// Merges an interval of an index with the next one: it has the keys of both, and the next one is gone,
     /// with its locks. The transaction holds [`X`](Mode::X) on both. The records get the intervals of their
-    /// keys, and no effective mode is another. The places of the later intervals are one lower. Who waited
-    /// for the next one is told [`Notice::Gone`](crate::Notice::Gone).
+    /// keys, and no effective mode is another. The places of the later intervals are one lower. Each
+    /// waiter for the next one is told [`Notice::Gone`](crate::Notice::Gone).
     ///
     /// Refused with [`WornOut`](Refusal::WornOut), [`NoSuchTxn`](Refusal::NoSuchTxn),
     /// [`TxnWaiting`](Refusal::TxnWaiting), [`TxnCondemned`](Refusal::TxnCondemned),
