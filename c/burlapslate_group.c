@@ -1159,6 +1159,13 @@ bs_reply bs_group_lock_path(bs_table_group *group, bs_txn txn, bs_node node, bs_
   return group_requested(own, t, bs_inside_path(t->table, own->in[part], target.node, mode, until));
 }
 
+/* Finds the transaction of a call, and the part of a node, which an inner node has not: that is refused so. */
+static bs_status group_finds_both(bs_table_group *group, bs_txn txn, bs_node node, bs_status inner, group_slot **own,
+                                  group_table **t) {
+  bs_status status = group_finds(group, txn, own);
+  return status == BS_DONE ? group_part_of(group, node, inner, t) : status;
+}
+
 /* The target of a request of something in a file. */
 static group_target group_in_file(const group_table *t, bs_node file, bs_mode mode) {
   group_target target;
@@ -1177,8 +1184,7 @@ bs_reply bs_group_lock_row_path(bs_table_group *group, bs_txn txn, bs_node file,
   group_way way;
   bs_reply reply;
   if (keys == NULL && count != 0) status = BS_NULL_POINTER;
-  if (status == BS_DONE) status = group_finds(group, txn, &own);
-  if (status == BS_DONE) status = group_part_of(group, file, BS_NOT_ROWS, &t);
+  if (status == BS_DONE) status = group_finds_both(group, txn, file, BS_NOT_ROWS, &own, &t);
   if (status != BS_DONE) return group_only(status);
   target = group_in_file(t, file, mode);
   way = group_way_to(group, own, t, &target, until);
@@ -1195,8 +1201,7 @@ bs_reply bs_group_insert(bs_table_group *group, bs_txn txn, bs_node file, const 
   group_way way;
   bs_reply reply;
   if (keys == NULL && count != 0) status = BS_NULL_POINTER;
-  if (status == BS_DONE) status = group_finds(group, txn, &own);
-  if (status == BS_DONE) status = group_part_of(group, file, BS_BAD_PARENTS, &t);
+  if (status == BS_DONE) status = group_finds_both(group, txn, file, BS_BAD_PARENTS, &own, &t);
   if (status != BS_DONE) return group_only(status);
   target = group_in_file(t, file, BS_X);
   way = group_way_to(group, own, t, &target, NULL);
@@ -1215,8 +1220,7 @@ typedef struct group_call {
 /* Enters the part of a node for such a call; an inner node is refused so. The part's latch is held if that is done. */
 static bs_status group_enter(bs_table_group *group, bs_txn txn, bs_node node, bs_status inner, group_call *call) {
   group_slot *own;
-  bs_status status = group_finds(group, txn, &own);
-  if (status == BS_DONE) status = group_part_of(group, node, inner, &call->at);
+  bs_status status = group_finds_both(group, txn, node, inner, &own, &call->at);
   if (status != BS_DONE) return status;
   call->table = call->at->table;
   if (!bs_inside_enter(call->table)) return BS_NO_MANAGER;
