@@ -3,7 +3,11 @@
  *
  * WHAT IS PROVED, AND WHAT IS NOT. The library is proved, and so are the laws of managers that work as one (gl_parts):
  * if the main manager leads the parts, no two transactions conflict on any node of the whole; and each step that is
- * allowed leaves it so. That this source takes only such steps is written in C, and tested.
+ * allowed leaves it so. What is decided of a group is the library's too, and proved: what a path lacks in the main table
+ * (bs_path_lacks), where each request of a path that lacks nothing is such a step; what a visit copies (bs_next_copy),
+ * and what a transaction copies of its own (bs_own_copy); when marks may be cleared (bs_may_clear); who waits for whom
+ * in all tables (bs_join_board), and who falls (bs_suspects, bs_youngest). This source keeps the latches, the sleeps,
+ * the marks and the counts of requests in progress, and asks all that at its time: that is written in C, and tested.
  *
  * LATCHES are acquired by rising number: nobody acquires the main table's while holding a part's.
  *
@@ -32,17 +36,16 @@
 /* Rare code is not inlined. */
 #define GROUP_APART __attribute__((noinline))
 
-enum { GROUP_LINE = 64, GROUP_AGES = 64, GROUP_FIRST_ROOM = 16, GROUP_MOST_INDEXES = 8 };
+enum { GROUP_LINE = 64, GROUP_AGES = 64, GROUP_FIRST_ROOM = 16 };
 
 /* An inner node. Its number is its place in each table, and rises from parents to children. It never changes, but for
  * `in_progress`, which is read and written with the main table's latch. */
 typedef struct group_inner {
-  uint64_t birth;                   /* of its name in the group: that of its name in the main table */
-  const struct group_inner *parent; /* its first one; null if it is a root */
+  uint64_t birth;       /* of its name in the group: that of its name in the main table */
   uint32_t number;
-  uint32_t in_progress;             /* how many requests for more than an intention on it have not ended */
+  uint32_t in_progress; /* how many requests for more than an intention on it have not ended */
   uint32_t above_count;
-  uint32_t above[];                 /* all nodes above it, by rising number */
+  uint32_t above[];     /* all nodes above it, by rising number */
 } group_inner;
 
 /* An inner node in a table. */
@@ -59,17 +62,11 @@ typedef struct group_table {
   uint32_t *numbers;    /* a hash by the keys of the names in the table: numbers, each plus 1, in twice as many places
                          * as there is room */
   uint64_t *marked;     /* the bits of the marks, by number */
-  uint32_t marks;       /* how many are marked */
+  bs_marked *marks_at;  /* the names of those that are marked, in any order */
+  uint32_t marks;       /* how many they are */
   uint32_t count, room; /* of inner nodes; the room is a power of two */
   uint32_t number;
 } __attribute__((aligned(GROUP_LINE))) group_table;
-
-/* What a transaction requests in a part, by the part's names. */
-typedef struct group_target {
-  bs_node node;
-  bool is_whole; /* it is a file, and a record or a row of it is requested, which is below its indexes too */
-  bs_mode mode;
-} group_target;
 
 /* A transaction, by slot. Its thread alone uses it. Others read `since` and `target` with the latch of a part where it
  * holds something or sleeps: its thread wrote them before it acquired that latch, or with it. */
@@ -82,7 +79,7 @@ typedef struct group_slot {
   uint64_t since;
   uint64_t next_age, end_age;  /* the ages that the slot may give */
   uint64_t used;               /* bit p: it has joined part p */
-  group_target target;
+  bs_target target;            /* what it requests in a part, by the part's names */
   bs_txn in[];                 /* its name in each part, by number; with age 0 it has not joined */
 } group_slot;
 
@@ -98,8 +95,7 @@ struct bs_table_group {
   uint64_t *seen;           /* with the main table's latch, as up to `faults`: bits by number, none between two uses */
   uint32_t *strong;         /* numbers */
   uint64_t faults;          /* how many copies were not granted at once: by the laws there is none */
-  bs_board joined, one;     /* with all latches, as the next: of a look */
-  uint32_t sleeps_in[BS_SLOTS];
+  bs_board joined, one;     /* with all latches: of a look */
   uint64_t ages __attribute__((aligned(GROUP_LINE)));   /* atomic: the next ages for a slot */
   uint64_t next_part;                                   /* atomic: for the next file by turns */
   uint64_t spread __attribute__((aligned(GROUP_LINE))); /* atomic: how many transactions are in several tables */
@@ -182,11 +178,19 @@ static inline bool group_is_marked(const group_table *t, uint32_t number) {
   return (t->marked[number / 64] >> number % 64 & 1) != 0;
 }
 
-static void group_mark(group_table *t, uint32_t number, bool is_marked) {
+/* Marks a part for an inner node, or clears that mark. */
+static void group_mark(bs_table_group *group, group_table *t, uint32_t number, bool is_marked) {
+  bs_node node = t->at[number].node;
+  uint32_t place = 0;
   if (group_is_marked(t, number) == is_marked) return;
   t->marked[number / 64] ^= (uint64_t)1 << number % 64;
-  if (is_marked) t->marks++;
-  else t->marks--;
+  if (is_marked) {
+    t->marks_at[t->marks].node = group->tables[0].at[number].node;
+    t->marks_at[t->marks++].in_part = node;
+    return;
+  }
+  while (!group_is_node(t->marks_at[place].in_part, node)) place++;
+  t->marks_at[place] = t->marks_at[--t->marks];
 }
 
 /* Writes an inner node into the hash. */
@@ -203,32 +207,43 @@ static void *group_zero(size_t size) {
   return block;
 }
 
+/* Frees what a table has by number. */
+static void group_free_places(group_table *t) {
+  free(t->at);
+  free(t->numbers);
+  free(t->marked);
+  free(t->marks_at);
+}
+
 /* Makes room in a table for one more inner node; false if memory is refused. */
 static bool group_make_room(group_table *t) {
   uint32_t room = t->room == 0 ? GROUP_FIRST_ROOM : 2 * t->room, number;
   group_place *at;
   uint32_t *numbers;
   uint64_t *marked;
+  bs_marked *marks_at;
   if (t->count < t->room) return true;
   at = (group_place *)group_zero(room * sizeof *at);
   numbers = (uint32_t *)group_zero(2 * (size_t)room * sizeof *numbers);
   marked = (uint64_t *)group_zero((room + 63) / 64 * sizeof *marked);
-  if (at == NULL || numbers == NULL || marked == NULL) {
+  marks_at = (bs_marked *)group_zero(room * sizeof *marks_at);
+  if (at == NULL || numbers == NULL || marked == NULL || marks_at == NULL) {
     free(at);
     free(numbers);
     free(marked);
+    free(marks_at);
     return false;
   }
   if (t->count > 0) {
     memcpy(at, t->at, t->count * sizeof *at);
     memcpy(marked, t->marked, (t->room + 63) / 64 * sizeof *marked);
+    memcpy(marks_at, t->marks_at, t->marks * sizeof *marks_at);
   }
-  free(t->at);
-  free(t->numbers);
-  free(t->marked);
+  group_free_places(t);
   t->at = at;
   t->numbers = numbers;
   t->marked = marked;
+  t->marks_at = marks_at;
   t->room = room;
   for (number = 0; number < t->count; number++) group_enlist(t, number);
   return true;
@@ -275,9 +290,7 @@ static void group_free_group(bs_table_group *group) {
   for (number = 0; number <= group->parts; number++) {
     group_table *t = &group->tables[number];
     if (t->table != NULL) bs_table_free(&t->table);
-    free(t->at);
-    free(t->numbers);
-    free(t->marked);
+    group_free_places(t);
   }
   free(group->seen);
   free(group->strong);
@@ -414,7 +427,6 @@ static group_inner *group_new_inner(bs_table_group *group, const bs_node *parent
   }
   if (inner == NULL) return NULL;
   inner->number = main->count;
-  if (count > 0 && bs_group_table(parents[0]) == 0) inner->parent = group_inner_named(main, parents[0]);
   return inner;
 }
 
@@ -661,87 +673,6 @@ static bs_status group_join_main(bs_table_group *group, group_slot *own, bool is
 }
 
 /* ------------------------------------------------------------------------------------------------
- * What is above a target.
- */
-
-static inline bool group_writes(bs_mode mode) {
-  return mode == BS_IX || mode >= BS_SIX;
-}
-
-/* What a mode needs above. */
-static inline bs_mode group_intention(bs_mode mode) {
-  return group_writes(mode) ? BS_IX : BS_IS;
-}
-
-/* The inner nodes that are parents of what a request passes: of a file, and of its indexes or of one of them. */
-typedef struct group_tops {
-  bool writes; /* it needs all that is above them; else the first parents up from the only one here */
-  uint32_t count;
-  const group_inner *at[BS_MOST_PARENTS * (GROUP_MOST_INDEXES + 1)];
-} group_tops;
-
-/* Adds the parents of a file or an index; to read the first alone. */
-static void group_add_tops(const group_table *t, bs_node node, group_tops *tops) {
-  size_t place, most = tops->writes ? BS_MOST_PARENTS : 1;
-  for (place = 0; place < most; place++) {
-    bs_reply parent = bs_parent(t->manager, node, place);
-    const group_inner *inner = parent.status == BS_DONE ? group_inner_of(t, parent.node) : NULL;
-    if (inner == NULL) return;
-    tops->at[tops->count++] = inner;
-  }
-}
-
-/* The tops of a target, in its part, whose latch is held. A path to a record that moves meanwhile passes no others: the
- * interval is another, but of the same index. What the part refuses has none: a name that names nothing or is
- * no file's, and a mode that the node cannot have. */
-static void group_find_tops(const group_table *t, const group_target *target, group_tops *tops) {
-  bs_node node = target->node;
-  uint64_t kind = bs_kind(t->manager, node).count;
-  bool is_whole = target->is_whole || kind == BS_RECORD;
-  size_t place;
-  tops->writes = group_writes(target->mode);
-  tops->count = 0;
-  if (target->mode == BS_NL || (is_whole && target->mode != BS_S && target->mode != BS_X)) return;
-  if (target->is_whole && kind != BS_FILE) return;
-  if (kind == BS_RECORD || kind == BS_INTERVAL) node = bs_parent(t->manager, node, 0).node;
-  group_add_tops(t, node, tops);
-  for (place = 0; is_whole && tops->writes && place < GROUP_MOST_INDEXES; place++) {
-    bs_reply index = bs_index(t->manager, node, place);
-    if (index.status != BS_DONE) return;
-    group_add_tops(t, index.node, tops);
-  }
-}
-
-/* Whether a number is in a list that rises. */
-static bool group_is_above(const group_inner *inner, uint32_t number) {
-  uint32_t low = 0, high = inner->above_count;
-  while (low < high) {
-    uint32_t middle = low + (high - low) / 2;
-    if (inner->above[middle] < number) low = middle + 1;
-    else high = middle;
-  }
-  return low < inner->above_count && inner->above[low] == number;
-}
-
-/* Whether a path below these tops may request an inner node. */
-static bool group_may_pass(const group_tops *tops, uint32_t number) {
-  uint32_t top;
-  const group_inner *inner;
-  for (top = 0; top < tops->count && tops->writes; top++) {
-    if (tops->at[top]->number == number || group_is_above(tops->at[top], number)) return true;
-  }
-  if (tops->writes || tops->count == 0) return false;
-  for (inner = tops->at[0]; inner != NULL && inner->number > number; inner = inner->parent) continue;
-  return inner != NULL && inner->number == number;
-}
-
-/* Whether a mode covers an intention or another mode up to BS_IX. */
-static inline bool group_covers(bs_mode held, bs_mode mode) {
-  if (mode == BS_NL) return true;
-  return mode == BS_IS ? held != BS_NL : held == BS_IX || held >= BS_SIX;
-}
-
-/* ------------------------------------------------------------------------------------------------
  * Requests in a part that is marked.
  */
 
@@ -750,56 +681,29 @@ typedef struct group_way {
   bs_table_group *group;
   group_slot *own;
   group_table *part;
-  const group_target *target;
+  const bs_target *target;
   const struct timespec *until;
   bool may_sleep;
   bool in_main;   /* the main table's latch is held, and the transaction has joined it, by this name */
   bs_txn main_txn;
 } group_way;
 
-#define GROUP_NONE UINT32_MAX
-
-/* Whether the request lacks the intention on an inner node: that is marked, and the transaction has the intention neither
- * in the part, which implies that it has it in the main table, nor, as far as that is known, in the main table. */
-static bool group_lacks_at(const group_way *way, const group_inner *inner) {
-  const group_table *t = way->part, *main = &way->group->tables[0];
-  bs_mode intention = group_intention(way->target->mode);
-  bs_txn own = way->own->in[t->number];
-  uint32_t number = inner->number;
-  if (!group_is_marked(t, number)) return false;
-  if (own.age != 0 && group_covers(bs_held(t->manager, own, t->at[number].node).mode, intention)) return false;
-  return !way->in_main || !group_covers(bs_held(main->manager, way->main_txn, main->at[number].node).mode, intention);
-}
-
-/* An inner node on which the request lacks the intention, by its number; GROUP_NONE if there is none. The latch of the
- * part is held. */
-static GROUP_APART uint32_t group_lacks(const group_way *way) {
+/* What the request lacks in the main table, as bs_path_lacks answers: the intention on an inner node for which the part
+ * is marked, if the transaction holds it neither in the part nor, as far as that is known, in the main table. The latch
+ * of the part is held. */
+static GROUP_APART bs_reply group_lacks(const group_way *way) {
   const group_table *t = way->part;
-  const group_inner *inner;
-  group_tops tops;
-  uint32_t top, above;
-  group_find_tops(t, way->target, &tops);
-  for (top = 0; top < tops.count; top++) {
-    const group_inner *at = tops.at[top];
-    for (above = 0; tops.writes && above < at->above_count; above++) {
-      if (group_lacks_at(way, t->at[at->above[above]].inner)) return at->above[above];
-    }
-    for (inner = at; inner != NULL; inner = tops.writes ? NULL : inner->parent) {
-      if (group_lacks_at(way, inner)) return inner->number;
-    }
-  }
-  return GROUP_NONE;
+  const bs_manager *main = way->in_main ? way->group->tables[0].manager : NULL;
+  return bs_path_lacks(main, t->manager, way->own->number, *way->target, t->marks_at, t->marks);
 }
 
 static bs_status group_copy_own(bs_table_group *group, group_slot *own, bs_txn main_txn);
 
-/* Acquires in the main table, whose latch is held before and after, what the request lacks on an inner node. */
-static bs_reply group_acquire(const group_way *way, uint32_t number) {
+/* Acquires in the main table, whose latch is held before and after, what the request lacks there. */
+static bs_reply group_acquire(const group_way *way, bs_reply lacks) {
   const group_table *main = &way->group->tables[0];
-  bs_node node = main->at[number].node;
-  bs_mode intention = group_intention(way->target->mode);
-  if (!way->may_sleep) return bs_inside_try_path(main->table, way->main_txn, node, intention);
-  return bs_inside_path(main->table, way->main_txn, node, intention, way->until);
+  if (!way->may_sleep) return bs_inside_try_path(main->table, way->main_txn, lacks.node, lacks.mode);
+  return bs_inside_path(main->table, way->main_txn, lacks.node, lacks.mode, way->until);
 }
 
 /* Joins the main table for a request that lacks something there, with the main table's latch held. */
@@ -818,18 +722,18 @@ static GROUP_APART bs_reply group_reach_by_main(group_way *way) {
   if (!bs_inside_enter(main->table)) return group_only(BS_NO_MANAGER);
   reply = group_only(group_way_by_main(way));
   while (reply.status == BS_DONE) {
-    uint32_t lacks;
+    bs_reply lacks;
     if (!bs_inside_enter(way->part->table)) {
       reply = group_only(BS_NO_MANAGER);
       break;
     }
     lacks = group_lacks(way);
-    if (lacks == GROUP_NONE) {
+    if (lacks.status == BS_NO_PLACE) {
       bs_inside_release(main->table);
       return reply;
     }
     bs_inside_release(way->part->table);
-    reply = group_acquire(way, lacks);
+    reply = lacks.status == BS_DONE ? group_acquire(way, lacks) : lacks;
   }
   if (reply.status == BS_VICTIM) way->own->has_fallen = true;
   return group_leave(main, reply);
@@ -844,7 +748,7 @@ static inline bool group_reach(group_way *way, bs_reply *why) {
     *why = group_only(BS_NO_MANAGER);
     return false;
   }
-  if (__builtin_expect(t->marks != 0, 0) && group_lacks(way) != GROUP_NONE) {
+  if (__builtin_expect(t->marks != 0, 0) && group_lacks(way).status != BS_NO_PLACE) {
     bs_inside_release(t->table);
     *why = group_reach_by_main(way);
     if (why->status != BS_DONE) return false;
@@ -893,9 +797,9 @@ static bs_status group_copy_own_in(bs_table_group *group, const group_table *t, 
   uint32_t word = 0, number;
   group_see_own(group, t, txn);
   while (group_take_seen(group, &word, &number)) {
-    bs_mode mode = bs_held(t->manager, txn, t->at[number].node).mode;
-    bs_mode held = bs_held(main->manager, main_txn, main->at[number].node).mode;
-    if (status == BS_DONE && !group_covers(held, mode)) status = group_copy(group, main_txn, number, mode);
+    bs_reply own = bs_own_copy(main->manager, main->at[number].node, t->manager, t->at[number].node, txn.slot);
+    if (status != BS_DONE || own.status == BS_NO_PLACE) continue;
+    status = own.status == BS_DONE ? group_copy(group, main_txn, number, own.mode) : own.status;
   }
   return status;
 }
@@ -928,20 +832,21 @@ static bs_status group_copy_holders(bs_table_group *group, const group_table *t,
   }
 }
 
-/* Acquires for a transaction that sleeps in a part, whose latch is held too, the intention on an inner node, if its
- * path may pass that. It is granted at once, with those above. */
+/* Acquires for a transaction that sleeps in a part, whose latch is held too, what it lacks on an inner node. It is
+ * granted at once, with what that needs above. */
 static bs_status group_copy_sleeper(bs_table_group *group, const group_table *t, group_slot *other, uint32_t number) {
   const group_table *main = &group->tables[0];
-  bs_mode intention = group_intention(other->target.mode);
-  group_tops tops;
+  bs_marked mark;
+  bs_reply lacks;
   bs_status status;
   bs_txn main_txn;
-  group_find_tops(t, &other->target, &tops);
-  if (!group_may_pass(&tops, number)) return BS_DONE;
+  mark.node = main->at[number].node;
+  mark.in_part = t->at[number].node;
+  lacks = bs_path_lacks(main->manager, t->manager, other->number, other->target, &mark, 1);
+  if (lacks.status != BS_DONE) return lacks.status == BS_NO_PLACE ? BS_DONE : lacks.status;
   status = group_join_main(group, other, true, &main_txn);
   if (status != BS_DONE) return status;
-  if (group_covers(bs_held(main->manager, main_txn, main->at[number].node).mode, intention)) return BS_DONE;
-  status = bs_inside_try_path(main->table, main_txn, main->at[number].node, intention).status;
+  status = bs_inside_try_path(main->table, main_txn, lacks.node, lacks.mode).status;
   group_note_fault(group, status);
   return status;
 }
@@ -958,7 +863,7 @@ static bs_status group_visit(bs_table_group *group, group_table *t, const group_
     if (!bs_inside_sleeps(t->table, slot)) continue;
     status = group_copy_sleeper(group, t, group_slot_at(group, slot), inner->number);
   }
-  if (status == BS_DONE) group_mark(t, inner->number, true);
+  if (status == BS_DONE) group_mark(group, t, inner->number, true);
   return status;
 }
 
@@ -977,18 +882,18 @@ static bs_status group_visit_all(bs_table_group *group, const group_inner *inner
   return BS_DONE;
 }
 
-/* Clears the marks of those of these inner nodes that no one has, wants or requests in more than an intention. */
+/* Clears the marks of those of these inner nodes for which they may be cleared. */
 static void group_clear(bs_table_group *group, uint32_t *numbers, uint32_t count) {
   const group_table *main = &group->tables[0];
   uint32_t i, clear = 0, part;
   for (i = 0; i < count; i++) {
     const group_place *at = &main->at[numbers[i]];
-    if (at->inner->in_progress == 0 && bs_is_clear(main->manager, at->node).count != 0) numbers[clear++] = numbers[i];
+    if (bs_may_clear(main->manager, at->node, at->inner->in_progress).count != 0) numbers[clear++] = numbers[i];
   }
   for (part = 1; clear > 0 && part <= group->parts; part++) {
     group_table *t = &group->tables[part];
     bs_inside_take(t->table);
-    for (i = 0; i < clear; i++) group_mark(t, numbers[i], false);
+    for (i = 0; i < clear; i++) group_mark(group, t, numbers[i], false);
     bs_inside_release(t->table);
   }
 }
@@ -1112,7 +1017,7 @@ bs_reply bs_group_abort(bs_table_group *group, bs_txn txn) {
  */
 
 /* A request in a part. */
-static inline group_way group_way_to(bs_table_group *group, group_slot *own, group_table *t, const group_target *target,
+static inline group_way group_way_to(bs_table_group *group, group_slot *own, group_table *t, const bs_target *target,
                                      const struct timespec *until) {
   group_way way;
   way.group = group;
@@ -1141,7 +1046,7 @@ bs_reply bs_group_lock_path(bs_table_group *group, bs_txn txn, bs_node node, bs_
                             const struct timespec *until) {
   bs_status status = group_bad_call(group, mode, until);
   uint32_t part = bs_group_table(node);
-  group_target target;
+  bs_target target;
   group_table *t;
   group_slot *own;
   group_way way;
@@ -1152,8 +1057,8 @@ bs_reply bs_group_lock_path(bs_table_group *group, bs_txn txn, bs_node node, bs_
   if (part == 0) return group_lock_inner(group, own, node, mode, until);
   t = &group->tables[part];
   target.node = group_name_there(t, node);
-  target.is_whole = false;
   target.mode = mode;
+  target.rows = 0;
   way = group_way_to(group, own, t, &target, until);
   if (!group_reach(&way, &reply)) return reply;
   return group_requested(own, t, bs_inside_path(t->table, own->in[part], target.node, mode, until));
@@ -1166,19 +1071,19 @@ static bs_status group_finds_both(bs_table_group *group, bs_txn txn, bs_node nod
   return status == BS_DONE ? group_part_of(group, node, inner, t) : status;
 }
 
-/* The target of a request of something in a file. */
-static group_target group_in_file(const group_table *t, bs_node file, bs_mode mode) {
-  group_target target;
+/* The target of a request of a record or a row of a file, whose node may not be there. */
+static bs_target group_in_file(const group_table *t, bs_node file, bs_mode mode) {
+  bs_target target;
   target.node = group_name_there(t, file);
-  target.is_whole = true;
   target.mode = mode;
+  target.rows = 1;
   return target;
 }
 
 bs_reply bs_group_lock_row_path(bs_table_group *group, bs_txn txn, bs_node file, uint64_t number, const uint64_t *keys,
                                 size_t count, bs_mode mode, const struct timespec *until) {
   bs_status status = group_bad_call(group, mode, until);
-  group_target target;
+  bs_target target;
   group_table *t;
   group_slot *own;
   group_way way;
@@ -1195,7 +1100,7 @@ bs_reply bs_group_lock_row_path(bs_table_group *group, bs_txn txn, bs_node file,
 
 bs_reply bs_group_insert(bs_table_group *group, bs_txn txn, bs_node file, const uint64_t *keys, size_t count) {
   bs_status status = group_bad_call(group, BS_X, NULL);
-  group_target target;
+  bs_target target;
   group_table *t;
   group_slot *own;
   group_way way;
@@ -1386,18 +1291,13 @@ bs_reply bs_group_name_of(bs_table_group *group, bs_node node, uint32_t table) {
  * Deadlocks over several tables. All latches are held.
  */
 
-/* Adds what a board says of who waits for whom to that of all tables, by the `since` of each. */
-static void group_add_board(bs_table_group *group, uint32_t table) {
+/* Adds a board of a table to that of all tables. Each transaction counts there by its `since`. */
+static void group_add_board(bs_table_group *group) {
   uint32_t slot;
-  size_t word;
   for (slot = 0; slot < group->most; slot++) {
-    if (group->one.ages[slot] == 0) continue;
-    group->joined.ages[slot] = group_slot_at(group, slot)->since + 1;
-    for (word = 0; word < BS_SLOTS / 64; word++) {
-      if (group->one.rows[slot].words[word] != 0) group->sleeps_in[slot] = table;
-      group->joined.rows[slot].words[word] |= group->one.rows[slot].words[word];
-    }
+    if (group->one.ages[slot] != 0) group->joined.ages[slot] = group_slot_at(group, slot)->since;
   }
+  bs_join_board(&group->joined, &group->one);
 }
 
 /* Lets the youngest fall of those that are on a cycle of waits over all tables; false if there is none. */
@@ -1408,11 +1308,13 @@ static bool group_settle_one(bs_table_group *group) {
   for (table = 0; table <= group->parts; table++) {
     const group_table *t = &group->tables[table];
     if (!bs_inside_any_sleeps(t->table) || bs_read_board(t->manager, &group->one).status != BS_DONE) continue;
-    group_add_board(group, table);
+    group_add_board(group);
   }
   youngest = bs_youngest(&group->joined, bs_suspects(&group->joined).slots);
-  if (youngest.status != BS_DONE) return false;
-  return bs_inside_fall(group->tables[group->sleeps_in[youngest.count]].table, (uint32_t)youngest.count);
+  for (table = 0; youngest.status == BS_DONE && table <= group->parts; table++) {
+    if (bs_inside_fall(group->tables[table].table, (uint32_t)youngest.count)) return true;
+  }
+  return false;
 }
 
 /* A thread that sleeps in a table of the group looks for cycles over several tables: its own latch is held before and

@@ -116,6 +116,16 @@ bs_reply bs_call_queue_at(const bs_manager *manager, bs_node node, size_t place)
 bs_found bs_call_waits_for(const bs_manager *manager, bs_txn txn);
 bs_reply bs_call_next_copy(const bs_manager *manager, bs_node node, const bs_manager *part, bs_node in_part);
 bs_reply bs_call_is_clear(const bs_manager *manager, bs_node node);
+bs_reply bs_call_may_clear(const bs_manager *manager, bs_node node, uint64_t in_progress);
+bs_reply bs_call_own_copy(const bs_manager *manager, bs_node node, const bs_manager *part, bs_node in_part,
+                          uint32_t slot);
+struct bs_target;
+struct bs_marked;
+bs_reply bs_call_path_lacks(const bs_manager *manager, const bs_manager *part, uint32_t slot,
+                            const struct bs_target *target, const struct bs_marked *marks, size_t count);
+bs_reply bs_call_path_lacks_there(const bs_manager *part, uint32_t slot, const struct bs_target *target,
+                                  const struct bs_marked *marks, size_t count);
+void bs_call_join_board(bs_board *joined, const bs_board *added);
 bs_reply bs_call_last_deadlock(const bs_manager *manager, bs_deadlock *deadlock);
 bs_reply bs_call_counters(const bs_manager *manager, bs_counts *counts);
 bs_reply bs_call_board(const bs_manager *manager, bs_board *board);

@@ -18,11 +18,25 @@ static inline bs_reply bs_join(bs_manager *manager, uint32_t slot, uint64_t sinc
   return manager == NULL ? bs_call_null() : bs_call_join(manager, slot, since);
 }
 
+/* A node for which a part is marked, by its names in the main manager and in the part. */
+typedef struct bs_marked {
+  bs_node node;
+  bs_node in_part;
+} bs_marked;
+
+/* What a path in a part leads to: a node; or, if `rows` is 1, a row or a record of the file `node`, whose own node may
+ * not be there. */
+typedef struct bs_target {
+  bs_node node;
+  bs_mode mode;
+  uint32_t rows;
+} bs_target;
+
 /* ------------------------------------------------------------------------------------------------
  * Visits. One manager is the main one, and has each node that is in several. More than an intention on such a node is
  * requested there alone, and before that each part that has the node is visited: what is held on the node in the part is
  * copied to the main manager, that on its parents first. From then on an intention on it is requested in the main
- * manager before it is requested in the part, until the node is clear. These two are questions.
+ * manager before it is requested in the part, until the node is clear: the part is marked for it. These are questions.
  */
 
 /* What is to be copied next of a node, which is `node` in the main manager and `in_part` in the part: of the
@@ -40,6 +54,49 @@ static inline bs_reply bs_next_copy(const bs_manager *manager, bs_node node, con
  * Refused with BS_NO_SUCH_NODE. Costs a look-up for each holder of the node, and a step for each that waits for it. */
 static inline bs_reply bs_is_clear(const bs_manager *manager, bs_node node) {
   return bs_call_can_ask(manager) ? bs_call_is_clear(manager, node) : bs_call_unasked(manager);
+}
+
+/* Whether the marks of all parts for a node may be cleared, in `count`: 1 if it is clear and no request for more than an
+ * intention on it is in progress, of so many, else 0. Such a request may wait for a node above it. Refused as
+ * bs_is_clear, with its costs. */
+static inline bs_reply bs_may_clear(const bs_manager *manager, bs_node node, uint64_t in_progress) {
+  return bs_call_can_ask(manager) ? bs_call_may_clear(manager, node, in_progress) : bs_call_unasked(manager);
+}
+
+/* What the transaction of a slot has to copy of its own of a node: its mode in the part, in `mode`, if its mode in the
+ * main manager does not cover that; else BS_NO_PLACE. Before it waits in the main manager all is copied. Refused with
+ * BS_IN_USE if both are one manager, with BS_NO_SUCH_NODE if the node is not in both, and with BS_BAD_NUMBER if there is
+ * no such slot. */
+static inline bs_reply bs_own_copy(const bs_manager *manager, bs_node node, const bs_manager *part, bs_node in_part,
+                                   uint32_t slot) {
+  if (manager == NULL || part == NULL) return bs_call_null();
+  if (!manager->is_open || !part->is_open) return bs_call_only(BS_NO_MANAGER);
+  return manager == part ? bs_call_only(BS_IN_USE) : bs_call_own_copy(manager, node, part, in_part, slot);
+}
+
+/* What the transaction of a slot lacks in the main manager for a path in a part that is marked for these nodes: of the
+ * marks the first whose node a path to the target passes, where the transaction holds the intention neither in the part
+ * nor in the main manager. Its name in the main manager, in `node`, and the intention, in `mode`. BS_NO_PLACE: it lacks
+ * nothing, and each request of a path to the target may be made in the part. A path to write passes all nodes above its
+ * own, and one to read the first parents. If `manager` is null, what the transaction holds there is not looked at.
+ *
+ * Refused with BS_IN_USE if both are one manager, and with BS_BAD_NUMBER if there is no such slot or mode. Costs two
+ * look-ups for each mark; and unless all are held, one for each node above the target, which takes memory if there are
+ * more than 32. */
+static inline bs_reply bs_path_lacks(const bs_manager *manager, const bs_manager *part, uint32_t slot, bs_target target,
+                                     const bs_marked *marks, size_t count) {
+  static const bs_marked none = { { 0, 0 }, { 0, 0 } };
+  if (part == NULL || (marks == NULL && count != 0)) return bs_call_null();
+  if (!part->is_open || (manager != NULL && !manager->is_open)) return bs_call_only(BS_NO_MANAGER);
+  if (marks == NULL) marks = &none;
+  if (manager == NULL) return bs_call_path_lacks_there(part, slot, &target, marks, count);
+  return manager == part ? bs_call_only(BS_IN_USE) : bs_call_path_lacks(manager, part, slot, &target, marks, count);
+}
+
+/* Adds to a board who waits for whom on another: then a slot waits for another if it did before, or does on the added
+ * board. The ages stay, and the epoch. */
+static inline void bs_join_board(bs_board *joined, const bs_board *added) {
+  if (joined != NULL && added != NULL && joined != added) bs_call_join_board(joined, added);
 }
 
 #endif

@@ -363,14 +363,14 @@ a-session-s-list-has-what-others-renewed	/ table_run_in_session(/,/^}/s/^    if 
 a-session-s-list-takes-nothing-up	/ table_session_goes_on(/,/^}/s/^  if (table_session_wakes(table, session)) .*//
 a-session-s-list-begins-another	/ table_session_goes_on(/,/^}/s/  if (!table_lives(table, session->txn)) return/  return/
 a-session-s-list-wakes-nobody	/ table_session_commit(/,/^}/s/^  table_wake(.*//
-group-unmarks-under-a-request	s/^    if (at->inner->in_progress == 0 \&\& /    if (/
+group-unmarks-under-a-request	s/, at->inner->in_progress).count/, 0).count/
 group-visits-no-sleepers	s/^    if (!bs_inside_sleeps(t->table, slot)) continue;/    continue;/
 group-visits-no-parents	s/^    if (!group_is_marked(t, inner->above\[above\])) status = .*/    ;/
 group-copies-nothing-before-a-sleep	s/^  if (status == BS_DONE \&\& way->may_sleep) status = group_copy_own(.*//
 group-looks-never	s/^  while (group_settle_one(group)) continue;//
 group-forgets-who-fell	s/^  if (__builtin_expect(reply.status == BS_VICTIM, 0)) own->has_fallen = true;//
 group-sees-no-marks	s/^  if (__builtin_expect(t->marks != 0, 0) \&\& /  if (false \&\& /
-group-needs-nothing-above-an-index	s/ is_whole \&\& tops->writes \&\& place/ false \&\& place/
+group-needs-nothing-above-an-index	s/^  target.rows = 1;/  target.rows = 0;/
 group-marks-stay	/ group_end_in_main(/,/^}/s/^  group_clear(.*//
 group-frees-a-slot-early	/ group_end_txn(/,/^}/s/^  bs_status status = group_end_in_parts/  bs_status status = (__atomic_store_n(\&own->is_taken, false, __ATOMIC_RELEASE), BS_DONE) + group_end_in_parts/
 a-refused-list-of-a-session-tells	/^size_t bs_session_run(/,/^}/s/^    table_list_of(table, commands\[0\].told)->count = 0;//

@@ -21,6 +21,7 @@ enum { PARTS = 4, AREAS = 3 };
 static void want_rules_of(const bs_table_group *group, const group_table *t, uint32_t number) {
   const group_table *main_table = &group->tables[0];
   bs_node node = t->at[number].node, in_main = main_table->at[number].node;
+  const bs_marked mark = { in_main, node };
   bs_slots holders = bs_holders(t->manager, node).slots;
   uint32_t slot;
   for (slot = 0; slot < BS_SLOTS; slot++) {
@@ -35,16 +36,9 @@ static void want_rules_of(const bs_table_group *group, const group_table *t, uin
   }
   WANT(bs_next_copy(main_table->manager, in_main, t->manager, node).status == BS_NO_PLACE);
   for (slot = 0; slot < group->most; slot++) {
-    const group_slot *other = group_slot_at(group, slot);
-    bs_reply there;
-    group_tops tops;
+    bs_target target = group_slot_at(group, slot)->target;
     if (!bs_inside_sleeps(t->table, slot)) continue;
-    group_find_tops(t, &other->target, &tops);
-    if (!group_may_pass(&tops, number)) continue;
-    there = bs_living(main_table->manager, slot);
-    WANT(there.status == BS_DONE);
-    there = bs_held(main_table->manager, there.txn, in_main);
-    WANT(group_covers(there.mode, group_intention(other->target.mode)));
+    WANT(bs_path_lacks(main_table->manager, t->manager, slot, target, &mark, 1).status == BS_NO_PLACE);
   }
 }
 
@@ -776,6 +770,13 @@ static void sleep_in(sleeper *own, uint32_t table, bs_txn txn, bs_node node, bs_
   want_rules(group);
 }
 
+/* Requests a row in BS_X for 5 milliseconds, with so many keys, which are all the same. */
+static bs_reply lock_row_for(bs_txn txn, bs_node file, size_t count) {
+  static const uint64_t keys[] = { 200, 200 };
+  struct timespec until = bs_after(5);
+  return bs_group_lock_row_path(group, txn, file, 1, keys, count, BS_X, &until);
+}
+
 static void wakes_with(sleeper *own, bs_status status) {
   join(own->thread);
   ANSWERS(status, own->reply);
@@ -866,6 +867,34 @@ static void rows_that_wait_are_visited(void) {
   commit(waiter);
   wakes_with(&too, BS_DONE);
   commit(strong);
+  want_rest(group);
+}
+
+/* A row waits for its file, and meanwhile an index below a marked node is made there: the row has no key for it, so that
+ * its path ends before it asks for anything above the index. */
+static void new_indexes_end_paths(void) {
+  bs_txn holder = begun(), waiter = begun(), strong = begun();
+  uint64_t bound = BOUND;
+  sleeper own;
+  DONE(lock_path(holder, row_files[1], BS_S));
+  memset(&own, 0, sizeof own);
+  own.is_row = true;
+  own.key = 200;
+  own.txn = waiter;
+  own.node = row_files[1];
+  own.mode = BS_X;
+  start(&own.thread, sleep_for_it, &own);
+  while (!sleeps_in(1, waiter)) nap();
+  DONE(lock_path(strong, areas[2], BS_S));
+  WANT(marks_in(group, 1) == 1);
+  DONE(bs_group_add_index(group, &areas[2], 1, row_files[1], &bound, 1));
+  commit(holder);
+  wakes_with(&own, BS_BAD_KEYS);
+  WANT(held_in(group, 0, waiter, areas[2]) == BS_NL && held_in(group, 1, waiter, areas[2]) == BS_NL);
+  ANSWERS(BS_TIMED_OUT, lock_row_for(waiter, row_files[1], 2));
+  WANT(held_in(group, 1, waiter, areas[2]) == BS_NL);
+  commit(strong);
+  commit(waiter);
   want_rest(group);
 }
 
@@ -1186,6 +1215,10 @@ static bool request(crowd_thread *own, bs_node node, bs_mode mode, bool *fell) {
   return was_granted(own, bs_group_lock_path(group, own->txn, node, mode, some_time(own, &time)), fell);
 }
 
+static bool is_write(bs_mode mode) {
+  return mode == BS_IX || mode >= BS_SIX;
+}
+
 static bs_mode some_mode(crowd_thread *own) {
   static const bs_mode modes[] = { BS_IS, BS_IX, BS_S, BS_SIX, BS_X };
   return modes[draw(own, 5)];
@@ -1196,8 +1229,8 @@ static void touch_inner(crowd_thread *own, bool *fell) {
   bs_mode mode = some_mode(own);
   if (!request(own, depth == 0 ? base : depth == 1 ? areas[area] : quarters[area], mode, fell)) return;
   own->strong++;
-  if (depth > 0) below(own, &of_base, group_writes(mode));
-  if (depth > 1) below(own, &of_areas[area], group_writes(mode));
+  if (depth > 0) below(own, &of_base, is_write(mode));
+  if (depth > 1) below(own, &of_areas[area], is_write(mode));
   has(own, depth == 0 ? &of_base : depth == 1 ? &of_areas[area] : &of_quarters[area], mode);
 }
 
@@ -1205,7 +1238,7 @@ static void touch_file(crowd_thread *own, bool *fell) {
   uint32_t part = 1 + draw(own, PARTS);
   bs_mode mode = some_mode(own);
   if (!request(own, files[part], mode, fell)) return;
-  above_part(own, part, group_writes(mode));
+  above_part(own, part, is_write(mode));
   has(own, &of_files[part], mode);
 }
 
@@ -1379,8 +1412,8 @@ static const struct {
   STORY(answers_are_those_of_a_table),
   STORY(refused_memory_makes_no_group), STORY(refused_memory_breaks_no_rule),
   STORY(strong_waits_for_records_of_any_part), STORY(records_wait_for_strong), STORY(sleepers_are_visited),
-  STORY(rows_that_wait_are_visited), STORY(readers_that_wait_are_visited), STORY(marks_stay_for_requests_above),
-  STORY(times_leave_no_marks), STORY(cycles_over_parts_end), STORY(cycles_over_main_end), STORY(one_of_a_cycle_falls),
+  STORY(rows_that_wait_are_visited), STORY(new_indexes_end_paths), STORY(readers_that_wait_are_visited),
+  STORY(marks_stay_for_requests_above), STORY(times_leave_no_marks), STORY(cycles_over_parts_end), STORY(cycles_over_main_end), STORY(one_of_a_cycle_falls),
   STORY(cycles_of_one_table_end),
 };
 

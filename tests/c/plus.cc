@@ -121,6 +121,9 @@ static bool keeps() {
   if (bs_join(NULL, 0, 1).status != BS_NULL_POINTER) return false;
   if (bs_next_copy(NULL, root, NULL, root).status != BS_NULL_POINTER) return false;
   if (bs_is_clear(NULL, root).status != BS_NULL_POINTER) return false;
+  if (bs_may_clear(NULL, root, 0).status != BS_NULL_POINTER) return false;
+  if (bs_own_copy(NULL, root, NULL, root, 0).status != BS_NULL_POINTER) return false;
+  if (bs_path_lacks(NULL, NULL, 0, { root, BS_X, 0 }, NULL, 0).status != BS_NULL_POINTER) return false;
   if (bs_table_cancel_begin(table, NULL).status != BS_NOT_WAITING) return false;
   bs_session session = bs_session_of(table, 1);
   bs_txn first = bs_session_begin(&session, NULL).txn;

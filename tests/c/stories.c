@@ -1461,22 +1461,98 @@ static void a_part_is_visited(void) {
   DONE(bs_end(&part));
 }
 
+static bool lacks_at(bs_reply lacks, bs_node node, bs_mode mode) {
+  return lacks.status == BS_DONE && lacks.mode == mode && lacks.node.key == node.key && lacks.node.birth == node.birth;
+}
+
+/* A part has a file with an index below another area than its own, and is marked for the root and both areas. */
+static void paths_lack_intentions(void) {
+  bs_manager m = BS_NO_MANAGER_HERE, part = BS_NO_MANAGER_HERE;
+  bs_node root = begin_manager(&m, BS_AT_BLOCK), in_part = begin_manager(&part, BS_AT_BLOCK);
+  bs_node area = DONE(bs_add_inner(&m, &root, 1)).node, there = DONE(bs_add_inner(&part, &in_part, 1)).node;
+  bs_node other = DONE(bs_add_inner(&m, &root, 1)).node, other_there = DONE(bs_add_inner(&part, &in_part, 1)).node;
+  bs_node file = DONE(bs_add_file(&part, &there, 1)).node;
+  const bs_marked marks[] = { { root, in_part }, { area, there }, { other, other_there } };
+  bs_target target = { file, BS_X, 0 }, row = { file, BS_X, 1 }, read = { file, BS_S, 1 };
+  bs_txn txn = begin(&part), reader = begin(&part), in_main;
+  DONE(bs_add_index(&part, &other_there, 1, file, NULL, 0));
+  WANT(lacks_at(bs_path_lacks(&m, &part, txn.slot, target, marks, 3), root, BS_IX));
+  WANT(lacks_at(bs_path_lacks(&m, &part, txn.slot, read, marks, 3), root, BS_IS));
+  in_main = DONE(bs_join(&m, txn.slot, txn.age)).txn;
+  DONE(bs_lock_path(&m, in_main, area, BS_IS, &told));
+  WANT(lacks_at(bs_path_lacks(&m, &part, txn.slot, target, marks, 3), root, BS_IX));
+  WANT(bs_path_lacks(&m, &part, txn.slot, read, marks, 3).status == BS_NO_PLACE);
+  WANT(lacks_at(bs_path_lacks(NULL, &part, txn.slot, read, marks, 3), root, BS_IS));
+  DONE(bs_lock(&m, in_main, root, BS_IX, &told));
+  WANT(lacks_at(bs_path_lacks(&m, &part, txn.slot, target, marks, 3), area, BS_IX));
+  DONE(bs_lock(&m, in_main, area, BS_IX, &told));
+  WANT(bs_path_lacks(&m, &part, txn.slot, target, marks, 3).status == BS_NO_PLACE);
+  WANT(lacks_at(bs_path_lacks(&m, &part, txn.slot, row, marks, 3), other, BS_IX));
+  WANT(lacks_at(bs_path_lacks(&m, &part, reader.slot, read, marks + 1, 2), area, BS_IS));
+  WANT(bs_path_lacks(&m, &part, reader.slot, read, marks + 2, 1).status == BS_NO_PLACE);
+  DONE(bs_lock_path(&part, reader, there, BS_IS, &told));
+  WANT(bs_path_lacks(NULL, &part, reader.slot, read, marks, 3).status == BS_NO_PLACE);
+  row.mode = BS_IX;
+  WANT(bs_path_lacks(&m, &part, reader.slot, row, marks, 3).status == BS_NO_PLACE);
+  WANT(bs_own_copy(&m, area, &part, there, txn.slot).status == BS_NO_PLACE);
+  WANT(DONE(bs_own_copy(&m, area, &part, there, reader.slot)).mode == BS_IS);
+  WANT(DONE(bs_may_clear(&m, area, 0)).count == 1 && DONE(bs_may_clear(&m, area, 1)).count == 0);
+  DONE(bs_lock(&m, in_main, area, BS_X, &told));
+  WANT(DONE(bs_may_clear(&m, area, 0)).count == 0);
+  DONE(bs_end(&m));
+  DONE(bs_end(&part));
+}
+
+/* One waits for another in one manager, and that for it in another manager. */
+static void boards_are_joined(void) {
+  static bs_board joined, one;
+  joined.ages[1] = 9;
+  joined.ages[BS_SLOTS - 1] = 7;
+  one.rows[1].words[(BS_SLOTS - 1) / 64] = (uint64_t)1 << (BS_SLOTS - 1) % 64;
+  bs_join_board(&joined, &one);
+  WANT(bs_youngest(&joined, bs_suspects(&joined).slots).status == BS_NO_PLACE);
+  memset(&one, 0, sizeof one);
+  one.rows[BS_SLOTS - 1].words[0] = 2;
+  bs_join_board(&joined, &one);
+  WANT(DONE(bs_youngest(&joined, bs_suspects(&joined).slots)).count == 1);
+  WANT(joined.ages[1] == 9 && joined.ages[BS_SLOTS - 1] == 7 && joined.rows[BS_SLOTS - 1].words[0] == 2);
+}
+
 /* Refused questions about visits. */
 static void visits_are_refused(void) {
   bs_node nothing = { 0, 0 };
   bs_manager m = BS_NO_MANAGER_HERE, part = BS_NO_MANAGER_HERE;
   bs_node root = begin_manager(&m, BS_AT_BLOCK), in_part;
+  bs_target target = { root, BS_X, 0 };
   WANT(bs_next_copy(NULL, root, &part, root).status == BS_NULL_POINTER);
   WANT(bs_next_copy(&part, root, NULL, root).status == BS_NULL_POINTER);
   WANT(bs_next_copy(&m, root, &part, root).status == BS_NO_MANAGER);
   WANT(bs_next_copy(&part, root, &m, root).status == BS_NO_MANAGER);
   WANT(bs_is_clear(NULL, root).status == BS_NULL_POINTER && bs_is_clear(&part, root).status == BS_NO_MANAGER);
+  WANT(bs_may_clear(NULL, root, 0).status == BS_NULL_POINTER && bs_may_clear(&part, root, 0).status == BS_NO_MANAGER);
+  WANT(bs_own_copy(NULL, root, &part, root, 0).status == BS_NULL_POINTER);
+  WANT(bs_own_copy(&m, root, &part, root, 0).status == BS_NO_MANAGER);
+  WANT(bs_path_lacks(&part, &m, 0, target, NULL, 0).status == BS_NO_MANAGER);
+  WANT(bs_path_lacks(NULL, &part, 0, target, NULL, 0).status == BS_NO_MANAGER);
   in_part = begin_manager(&part, BS_AT_BLOCK);
   WANT(bs_next_copy(&m, nothing, &m, nothing).status == BS_IN_USE);
   WANT(bs_next_copy(&m, nothing, &part, in_part).status == BS_NO_SUCH_NODE);
   WANT(bs_next_copy(&m, root, &part, nothing).status == BS_NO_SUCH_NODE);
   WANT(bs_next_copy(&m, root, &part, in_part).status == BS_NO_PLACE);
   WANT(bs_is_clear(&m, nothing).status == BS_NO_SUCH_NODE && DONE(bs_is_clear(&m, root)).count == 1);
+  WANT(bs_may_clear(&m, nothing, 1).status == BS_NO_SUCH_NODE);
+  WANT(bs_own_copy(&m, nothing, &m, nothing, 0).status == BS_IN_USE);
+  WANT(bs_own_copy(&m, nothing, &part, in_part, 0).status == BS_NO_SUCH_NODE);
+  WANT(bs_own_copy(&m, root, &part, nothing, 0).status == BS_NO_SUCH_NODE);
+  WANT(bs_own_copy(&m, root, &part, in_part, BS_SLOTS).status == BS_BAD_NUMBER);
+  WANT(bs_own_copy(&m, root, &part, in_part, 0).status == BS_NO_PLACE);
+  WANT(bs_path_lacks(&m, NULL, 0, target, NULL, 0).status == BS_NULL_POINTER);
+  WANT(bs_path_lacks(&m, &part, 0, target, NULL, 1).status == BS_NULL_POINTER);
+  WANT(bs_path_lacks(&m, &m, 0, target, NULL, 0).status == BS_IN_USE);
+  WANT(bs_path_lacks(&m, &part, BS_SLOTS, target, NULL, 0).status == BS_BAD_NUMBER);
+  WANT(bs_path_lacks(&m, &part, 0, target, NULL, 0).status == BS_NO_PLACE);
+  target.mode = 6;
+  WANT(bs_path_lacks(NULL, &part, 0, target, NULL, 0).status == BS_BAD_NUMBER);
   DONE(bs_end(&m));
   DONE(bs_end(&part));
 }
@@ -2021,6 +2097,8 @@ int main(void) {
   TELL(a_constant_place);
   TELL(names_that_name_nothing);
   TELL(a_part_is_visited);
+  TELL(paths_lack_intentions);
+  TELL(boards_are_joined);
   TELL(visits_are_refused);
   TELL(a_refused_call_tells_nobody);
   TELL(null_pointers);

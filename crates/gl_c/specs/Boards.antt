@@ -1,6 +1,6 @@
 -- Waits-for snapshots in C's memory, and what is found on them.
 use Rattle.gl_slots.specs.Limit.{most_slots}
-use Rattle.std.specs.Prelude.{◌≡◌, ℕ, ◌<◌, ◌≤◌, ◌↔◌, IsTrue, Option, Some, None, map}
+use Rattle.std.specs.Prelude.{◌≡◌, ℕ, ◌<◌, ◌≤◌, ◌↔◌, ◌||◌, IsTrue, Option, Some, None, map}
 use Rattle.gl_waits.specs.declared.board.Board.{Board as TheBoard}
 use Rattle.gl_waits.specs.Boards.{age_in, board_edge}
 use Rattle.gl_slots.specs.Slots.{Bits, HasNoBit, bits_of, has_bit, no_bits, words_of}
@@ -33,6 +33,12 @@ board_in b = record { epoch = b.epoch; ages = b.ages; rows = map set_of b.rows }
 abbrev pub Shows : Option GuardedView → Reply → Board → Board → Option GuardedView → Type 0
 Shows None r board board' s' = Declines None no_manager r s' × (board' ≡ board)
 Shows (Some g) r board board' s' = (r ≡ status_reply done) × (board_in board' ≡ board_of (state_of g.manager)) × (s' ≡ Some g)
+
+-- who waits for whom on another board is added: a slot waits for another exactly if it did before, or does on that board
+pub record Joins (joined added joined' : Board) : Type 0 where
+  pub waits : (t u : ℕ) → board_edge (board_in joined') t u ≡ (board_edge (board_in joined) t u || board_edge (board_in added) t u)
+  pub ages : joined'.ages ≡ joined.ages
+  pub epoch : joined'.epoch ≡ joined.epoch
 
 -- the slots on a cycle with a slot; a number that is no slot is refused
 pub record FindsCycle (b : Board) (slot : ℕ) (f : Found) : Type 0 where

@@ -3,4 +3,5 @@ pub mod Counts
 pub mod Deadlocks
 pub mod Listings
 pub mod Looks
+pub mod Passing
 pub mod Visits

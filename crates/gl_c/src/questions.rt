@@ -5,5 +5,6 @@ pub(crate) mod deadlock;
 mod listing;
 mod listings;
 pub(crate) mod look;
+pub(crate) mod passing;
 mod queries;
 pub(crate) mod visits;

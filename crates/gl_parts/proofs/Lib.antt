@@ -13,3 +13,7 @@ mod Plain
 mod Runs
 mod Copies
 mod Visiting
+mod Ways
+mod Paths
+mod Adopting
+mod Boards

@@ -8,7 +8,7 @@ use Rattle.gl_modes.specs.declared.node.NodeId.{NodeId}
 use Rattle.gl_modes.specs.Modes.{is_at_least}
 use Rattle.gl_modes.specs.Nodes.{same_node}
 use Rattle.gl_modes.proofs.NodeLemmas.{same_node-equal, same_node-refl}
-use Rattle.gl_modes.proofs.Words.{and_both, both, clash, no, number_same, same_number, split}
+use Rattle.gl_modes.proofs.Words.{and_both, both, clash, no, none_some, number_same, same_number, some_is, split}
 use Rattle.gl_graph.proofs.Unrefused.{not_false}
 use Rattle.gl_header.specs.Header.{Waiter, is_waiter}
 use Rattle.gl_model.specs.State.{State}
@@ -20,8 +20,9 @@ use Rattle.gl_parts.specs.Whole.{Part, held_at, held_by_name, is_in, is_intentio
 use Rattle.gl_parts.specs.Leading.{Follower, covers}
 use Rattle.gl_parts.specs.Actions.{MayRequest, MayRequestOn, requests, requests_at, with_mark}
 use Rattle.gl_parts.specs.Actions as acts
-use Rattle.gl_parts.specs.Promises.{AfterMainIsAllowed, ClearMayUnmark, CopiedMayMark, HereIsAllowed, InMainIsRefused, NextIsUncovered, RequestsOn}
-use Rattle.gl_parts.specs.Visiting.{IsClear, way_of}
+use Rattle.gl_parts.specs.Promises.{AfterMainIsAllowed, ClearMayUnmark, CopiedMayMark, HereIsAllowed, InMainIsRefused, NextIsUncovered, OwnIsUncovered}
+use Rattle.gl_parts.specs.Promises.{RequestsOn}
+use Rattle.gl_parts.specs.Visiting.{IsClear, lacks, way_of}
 use Rattle.gl_parts.proofs.Grants.{neither}
 use Rattle.gl_parts.proofs.Leading.{more_by}
 
@@ -71,6 +72,22 @@ next_is_uncovered main p n k j c at there next = (
   next.mode ∙ sym (ap (held_by_name (p.state.held c.slot)) there),
 )
 
+pub own_is_uncovered : OwnIsUncovered
+own_is_uncovered main p n k j t at there = (
+  λ none. split (lacks main.state k p.state j t)
+      (λ e. absurd (some_none (sym (ap (λ b. if b then Some (p.state.held t j) else None) e) ∙ none)))
+      (λ e. covers_named main p n k j t at there ∙ not_false _ e),
+  λ m some. split (lacks main.state k p.state j t)
+      (λ e. (
+        covers_named main p n k j t at there ∙ not_not _ e,
+        some_is (sym some ∙ ap (λ b. if b then Some (p.state.held t j) else None) e) ∙ sym (ap (held_by_name (p.state.held t)) there),
+      ))
+      (λ e. absurd (none_some (sym (ap (λ b. if b then Some (p.state.held t j) else None) e) ∙ some))),
+)
+  where
+    some_none : {m : Mode} → Some m ≡ None → ⊥
+    some_none e = cc
+
 pub copied_may_mark : CopiedMayMark
 copied_may_mark w before after f n k j was at there copied =
     acts.Marks (record {
@@ -99,25 +116,24 @@ clear_may_unmark w before after f n k was at clear =
 abbrev asked : TxnId → NodeId → Mode → ℕ → NodeId → Mode
 asked t k m u q = if (u == t.slot) && same_node q k then m else NL
 
-asks : (p : Part) (n k : NodeId) (t : TxnId) (m : Mode) (c : Command) → RequestsOn p n k t m c → (u : ℕ) (q : NodeId)
+asks : (p : Part) (k : NodeId) (t : TxnId) (m : Mode) (c : Command) → (c ≡ command.Lock t k m) ⊎ (c ≡ command.Try t k m) → (u : ℕ) (q : NodeId)
     → requests_at p c u q ≡ held_by_name (asked t k m u) (p.name q)
-asks p n k t m c on u q = by on.by
-  where
-    by : (c ≡ command.Lock t k m) ⊎ (c ≡ command.Try t k m) → requests_at p c u q ≡ held_by_name (asked t k m u) (p.name q)
-    by (inl e) = ap (λ (x : Command). requests_at p x u q) e
-    by (inr e) = ap (λ (x : Command). requests_at p x u q) e
+asks p k t m c (inl e) u q = ap (λ (x : Command). requests_at p x u q) e
+asks p k t m c (inr e) u q = ap (λ (x : Command). requests_at p x u q) e
 
--- where it may be requested on its node, it may be requested: it requests nothing on others
-requests_alone : (main : Part) (f : Follower) (n k : NodeId) (t : TxnId) (m : Mode) (c : Command) → RequestsOn f.part n k t m c
-    → (is_in n main ≡ true → (is_intention m ≡ true) × (f.marked n ≡ true → is_at_least (held_at main t.slot n) m ≡ true))
+-- where it may be requested on each node of the main manager with its name, it may be requested: it requests nothing on others
+pub named_may_request : (main : Part) (f : Follower) (k : NodeId) (t : TxnId) (m : Mode) (c : Command)
+    → (c ≡ command.Lock t k m) ⊎ (c ≡ command.Try t k m)
+    → ((q : NodeId) → is_in q main ≡ true → f.part.name q ≡ Some k
+    → (is_intention m ≡ true) × (f.marked q ≡ true → is_at_least (held_at main t.slot q) m ≡ true))
     → MayRequest main f c
-requests_alone main f n k t m c on may q here = record {
-  intentions = λ u. ap is_intention (asks f.part n k t m c on u q) ∙ small u (f.part.name q) refl;
-  first = λ marked u. ap (is_at_least (held_at main u q)) (asks f.part n k t m c on u q) ∙ led marked u (f.part.name q) refl;
+named_may_request main f k t m c asks_it may q here = record {
+  intentions = λ u. ap is_intention (asks f.part k t m c asks_it u q) ∙ small u (f.part.name q) refl;
+  first = λ marked u. ap (is_at_least (held_at main u q)) (asks f.part k t m c asks_it u q) ∙ led marked u (f.part.name q) refl;
 }
   where
-    it : (j : NodeId) → f.part.name q ≡ Some j → same_node j k ≡ true → q ≡ n
-    it j e same = on.alone q (e ∙ ap (λ x. Some x) (same_node-equal j k same))
+    it : (j : NodeId) → f.part.name q ≡ Some j → same_node j k ≡ true → f.part.name q ≡ Some k
+    it j e same = e ∙ ap (λ x. Some x) (same_node-equal j k same)
 
     above_none : (a : Mode) → is_at_least a NL ≡ true
     above_none NL = refl
@@ -133,7 +149,7 @@ requests_alone main f n k t m c on may q here = record {
       where
         by : (b : Bool) → ((u == t.slot) && same_node j k) ≡ b → is_intention (if b then m else NL) ≡ true
         by false h = refl
-        by true h = (may (subst (λ x. is_in x main ≡ true) (it j e (and_both _ _ h).1) here)).0
+        by true h = (may q here (it j e (and_both _ _ h).1)).0
 
     led : f.marked q ≡ true → (u : ℕ) (o : Option NodeId) → f.part.name q ≡ o
         → is_at_least (held_at main u q) (held_by_name (asked t k m u) o) ≡ true
@@ -144,11 +160,17 @@ requests_alone main f n k t m c on may q here = record {
         by false h = above_none (held_at main u q)
         by true h =
             let mine = and_both _ _ h in
-            let same = it j e mine.1 in
-            let slot = same_number u t.slot mine.0 in
-            subst (λ v. is_at_least (held_at main v q) m ≡ true) (sym slot)
-            (subst (λ x. is_at_least (held_at main t.slot x) m ≡ true) (sym same)
-            ((may (subst (λ x. is_in x main ≡ true) same here)).1 (subst (λ x. f.marked x ≡ true) same marked)))
+            subst (λ v. is_at_least (held_at main v q) m ≡ true) (sym (same_number u t.slot mine.0)) ((may q here (it j e mine.1)).1 marked)
+
+-- the same of a name that is of one node alone
+requests_alone : (main : Part) (f : Follower) (n k : NodeId) (t : TxnId) (m : Mode) (c : Command) → RequestsOn f.part n k t m c
+    → (is_in n main ≡ true → (is_intention m ≡ true) × (f.marked n ≡ true → is_at_least (held_at main t.slot n) m ≡ true))
+    → MayRequest main f c
+requests_alone main f n k t m c on may =
+    named_may_request main f k t m c on.by (λ q here e.
+    let same = sym (on.alone q e) in
+    subst (λ x. (is_intention m ≡ true) × (f.marked x ≡ true → is_at_least (held_at main t.slot x) m ≡ true)) same
+    (may (subst (λ x. is_in x main ≡ true) (sym same) here)))
 
 -- by the answers
 here_means : (m : Mode) (shared marked : Bool) → way_of m shared marked ≡ way.Here → shared ≡ true → (is_intention m ≡ true) × (marked ≡ false)
@@ -193,5 +215,5 @@ in_main_is_refused main f n k t m c on e may =
   where
     requested : requests_at f.part c t.slot n ≡ m
     requested =
-        asks f.part n k t m c on t.slot n ∙ ap (held_by_name (asked t k m t.slot)) on.here
+        asks f.part k t m c on.by t.slot n ∙ ap (held_by_name (asked t k m t.slot)) on.here
         ∙ ap (λ b. if b then m else NL) (both _ _ (number_same t.slot t.slot refl) (same_node-refl k))

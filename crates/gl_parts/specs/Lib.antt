@@ -4,3 +4,4 @@ pub mod Leading
 pub mod Actions
 pub mod Visiting
 pub mod Promises
+pub mod Passing

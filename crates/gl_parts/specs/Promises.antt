@@ -1,16 +1,21 @@
 -- What is promised of managers that work as one, whatever they do.
-use Rattle.std.specs.Prelude.{◌≡◌, ◌≢◌, ◌⊎◌, ℕ, true, false, ◌&&◌, ◌<◌, is_none, is_some, List, [], ◌∷◌, ◌++◌, Some}
+use Rattle.std.specs.Prelude.{◌≡◌, ◌≢◌, ◌⊎◌, ℕ, true, false, ◌&&◌, ◌||◌, ◌<◌, ◌↔◌, is_none, is_some, List, [], ◌∷◌, ◌++◌, Some, None}
 use Rattle.std.specs.List.{list_all, list_any}
 use Rattle.gl_modes.specs.declared.mode.Mode.{Mode}
 use Rattle.gl_modes.specs.declared.mode.Mode.TheVariants.{NL}
 use Rattle.gl_modes.specs.declared.node.NodeId.{NodeId}
 use Rattle.gl_modes.specs.declared.refusal.Refusal.TheVariants as no
 use Rattle.gl_modes.specs.Modes.{is_at_least}
-use Rattle.gl_graph.specs.Graph.{Graph, parents_of, shape_of}
-use Rattle.gl_graph.specs.Shapes.{is_record_shape}
+use Rattle.gl_graph.specs.Changes.{IsAdopted}
+use Rattle.gl_graph.specs.Graph.{Graph, first_parent, parents_of, shape_of}
+use Rattle.gl_graph.specs.Lawful.{IsLawfulGraph}
+use Rattle.gl_graph.specs.Shapes.{is_inner_shape, is_record_shape}
+use Rattle.gl_waits.specs.declared.board.Board.{Board}
+use Rattle.gl_waits.specs.Boards.{ShowsNobody, board_edge}
+use Rattle.gl_waits.specs.Waits.{IsOnCycle}
 use Rattle.gl_model.specs.Calls.{IsActing, accepted_once, enters_at, granted, joined, wanted}
 use Rattle.gl_model.specs.Lawful.{HasNoConflict, IsLawful}
-use Rattle.gl_model.specs.State.{State, intends, status_of}
+use Rattle.gl_model.specs.State.{State, intends, status_of, waits_for}
 use Rattle.gl_model.specs.Tellings.{Told}
 use Rattle.gl_model.specs.declared.txn.TxnId.{TxnId}
 use Rattle.gl_steps.specs.declared.command.Answer.{Answer}
@@ -19,13 +24,18 @@ use Rattle.gl_steps.specs.declared.command.Command.{Command}
 use Rattle.gl_steps.specs.declared.command.Command.TheVariants as command
 use Rattle.gl_steps.specs.Promises.{names}
 use Rattle.gl_steps.specs.Step.{Step}
-use Rattle.gl_parts.specs.Whole.{Each, IsInOne, IsLedBy, Part, held_at, is_in, is_intention, whole}
+use Rattle.gl_catalog.specs.Paths.{Ask, ComesFirst}
+use Rattle.gl_parts.specs.Whole.{Each, IsInOne, IsLedBy, Part, held_at, is_in, is_intention, waits_in, whole}
 use Rattle.gl_parts.specs.Leading.{AgreesWith, CanCopy, Follower, Leads, Managers, Obeys, WorkAsOne, covers, is_ready, managers, parts}
-use Rattle.gl_parts.specs.Actions.{Acts, AreKept, AreVisited, AskersAreReady, KeepsName, MayRequest, Runs, Takes, may_wait, releases, txn_at, with_mark}
+use Rattle.gl_parts.specs.Actions.{Acts, AreKept, AreVisited, AskersAreReady, KeepsName, MayRequest, Runs, Takes, may_wait, releases, requests_at, txn_at}
+use Rattle.gl_parts.specs.Actions.{with_mark}
+use Rattle.gl_parts.specs.declared.passing.Mark.{Mark}
+use Rattle.gl_parts.specs.declared.passing.Target.{Target}
+use Rattle.gl_parts.specs.Passing.{IsFirst, Lacks, MayClear, Passes}
 use Rattle.gl_parts.specs.declared.visits.ToCopy.{ToCopy}
 use Rattle.gl_parts.specs.declared.visits.Way.{Way}
 use Rattle.gl_parts.specs.declared.visits.Way.TheVariants as way
-use Rattle.gl_parts.specs.Visiting.{IsClear, IsCopied, IsNextCopy, way_of}
+use Rattle.gl_parts.specs.Visiting.{IsClear, IsCopied, IsNextCopy, own_copy, way_of}
 
 -- a main manager that leads the parts is what the laws of the whole need
 abbrev pub LeadersLead : Type 0
@@ -171,6 +181,13 @@ NextIsUncovered =
     (main p : Part) (n k j : NodeId) (c : ToCopy) → main.name n ≡ Some k → p.name n ≡ Some j → IsNextCopy main.state k p.state j c
     → (covers main p c.slot n ≡ false) × (c.mode ≡ held_at p c.slot n)
 
+-- what a transaction of its own has to copy is not covered; if there is none, all is
+abbrev pub OwnIsUncovered : Type 0
+OwnIsUncovered =
+    (main p : Part) (n k j : NodeId) (t : ℕ) → main.name n ≡ Some k → p.name n ≡ Some j
+    → (own_copy main.state k p.state j t ≡ None → covers main p t n ≡ true)
+    × ((m : Mode) → own_copy main.state k p.state j t ≡ Some m → (covers main p t n ≡ false) × (m ≡ held_at p t n))
+
 -- if nothing is left to copy, the part may be marked
 abbrev pub CopiedMayMark : Type 0
 CopiedMayMark =
@@ -216,3 +233,117 @@ InMainIsRefused =
     (main : Part) (f : Follower) (n k : NodeId) (t : TxnId) (m : Mode) (c : Command) → RequestsOn f.part n k t m c → way_to main f n m ≡ way.InMain
     → MayRequest main f c
     → ⊥
+
+-- Paths.
+
+-- t lacks nothing for a path to the target: on each node for which the part is marked and that such a path passes, it holds the intention in the part or in the
+-- main manager
+abbrev pub LacksNothing : Part → Follower → ℕ → Target → Type 0
+LacksNothing main f t x =
+    (n k j : NodeId) → main.name n ≡ Some k → f.part.name n ≡ Some j → f.marked n ≡ true
+    → Lacks (Some main.state) f.part.state t x (record { in_main = k; in_part = j }) → ⊥
+
+-- these are the marks of the part: each node of the main manager for which it is marked is listed by its names
+abbrev pub ListsMarks : Part → Follower → List Mark → Type 0
+ListsMarks main f marks =
+    (n k j : NodeId) → main.name n ≡ Some k → f.part.name n ≡ Some j → f.marked n ≡ true → (before after : List Mark)
+    × (marks ≡ before ++ record { in_main = k; in_part = j } ∷ after)
+
+-- if no mark is lacked nothing is, also if the main manager was not looked at
+abbrev pub ListedLackNothing : Type 0
+ListedLackNothing =
+    (main : Part) (f : Follower) (marks : List Mark) (t : ℕ) (x : Target) → ListsMarks main f marks
+    → (IsFirst (Lacks (Some main.state) f.part.state t x) marks None → LacksNothing main f t x)
+    × (IsFirst (Lacks None f.part.state t x) marks None → LacksNothing main f t x)
+
+-- the nodes that the part shares with the main manager are inner nodes there
+abbrev pub SharesInner : Part → Part → Type 0
+SharesInner main p = (n j : NodeId) → is_in n main ≡ true → p.name n ≡ Some j → is_inner_shape (shape_of p.state.graph j) ≡ true
+
+-- the command requests this
+abbrev pub AsksFor : TxnId → Ask → Command → Type 0
+AsksFor t ask c = (c ≡ command.Lock t ask.0 ask.1) ⊎ (c ≡ command.Try t ask.0 ask.1)
+
+-- each request of a path to a node of the part may be carried out there, if its transaction lacks nothing
+abbrev pub PathsMayRequest : Type 0
+PathsMayRequest =
+    (main : Part) (f : Follower) (t : TxnId) (x : Target) (first : Ask) (c : Command) → IsLawful f.part.state → Obeys main f → SharesInner main f.part
+    → x.is_row ≡ false → is_inner_shape (shape_of f.part.state.graph x.node) ≡ false → LacksNothing main f t.slot x
+    → ComesFirst f.part.state t (x.node, x.mode) first → AsksFor t first c
+    → MayRequest main f c
+
+-- so may each request of a path to a record of a file, if its transaction lacks nothing for a row of the file
+abbrev pub RowPathsMayRequest : Type 0
+RowPathsMayRequest =
+    (main : Part) (f : Follower) (t : TxnId) (x : Target) (r : NodeId) (first : Ask) (c : Command) → IsLawful f.part.state → Obeys main f
+    → SharesInner main f.part → x.is_row ≡ true → is_record_shape (shape_of f.part.state.graph r) ≡ true → first_parent f.part.state.graph r ≡ x.node
+    → LacksNothing main f t.slot x → ComesFirst f.part.state t (r, x.mode) first → AsksFor t first c
+    → MayRequest main f c
+
+-- who lacks nothing lacks nothing after the part is marked for one node more, if it does not lack the intention there
+abbrev pub MarksKeepPaths : Type 0
+MarksKeepPaths =
+    (main : Part) (f : Follower) (t : ℕ) (x : Target) (n k j : NodeId) → LacksNothing main f t x → main.name n ≡ Some k → f.part.name n ≡ Some j
+    → (Lacks (Some main.state) f.part.state t x (record { in_main = k; in_part = j }) → ⊥)
+    → LacksNothing main (with_mark f n true) t x
+
+-- so it does after a step of the main manager, unless the command releases something of its transaction
+abbrev pub MainStepsKeepPaths : Type 0
+MainStepsKeepPaths =
+    (main : Part) (f : Follower) (c : Command) (main' : Part) (t : ℕ) (x : Target) → IsLawful main.state → Takes main c main'
+    → ((n : NodeId) → KeepsName n main main') → (names (txn_at main t) c && releases c) ≡ false → LacksNothing main f t x
+    → LacksNothing main' f t x
+
+-- and after a step of the part, whoever takes it, that changes no name, and after which a path to the target passes no node more, as after one that changes no
+-- graph
+abbrev pub PartStepsKeepPaths : Type 0
+PartStepsKeepPaths =
+    (main : Part) (f : Follower) (next : Part) (t : ℕ) (x : Target) → Obeys main f
+    → ((n : NodeId) → Passes next.state.graph x n → Passes f.part.state.graph x n) → ((n : NodeId) → KeepsName n f.part next) → LacksNothing main f t x
+    → LacksNothing main (record f { part = next }) t x
+
+-- a path to a row of a file passes no node more after the node of a row was made, of that file or another
+abbrev pub AdoptsPassNoMore : Type 0
+AdoptsPassNoMore =
+    (g g' : Graph) (r file : NodeId) (keys : List ℕ) (x : Target) (n : NodeId) → IsLawfulGraph g → IsAdopted g g' r file keys → x.is_row ≡ true
+    → Passes g' x n
+    → Passes g x n
+
+-- Requests in progress.
+
+-- for a node with requests for more than an intention in progress, so many, the part is marked if it has the node
+abbrev pub IsMarkedAhead : (NodeId → ℕ) → Follower → Type 0
+IsMarkedAhead in_progress f = (n : NodeId) → is_in n f.part ≡ true → in_progress n ≢ 0 → f.marked n ≡ true
+
+-- so a request for more that is in progress finds the parts marked
+abbrev pub ProgressIsVisited : Type 0
+ProgressIsVisited =
+    (main : Part) (f : Follower) (c : Command) (in_progress : NodeId → ℕ) → IsMarkedAhead in_progress f
+    → ((n : NodeId) (t : ℕ) → is_intention (requests_at main c t n) ≡ false → in_progress n ≢ 0)
+    → AreVisited main c f
+
+-- if the marks for a node may be cleared, a part loses its mark by an action, and is still marked for each node with a request in progress
+pub record Unmarks (w w' : Managers) (f' : Follower) (in_progress : NodeId → ℕ) : Type 0 where
+  pub action : Acts w w'
+  pub ahead : IsMarkedAhead in_progress f'
+
+abbrev pub ClearsKeepProgress : Type 0
+ClearsKeepProgress =
+    (w : Managers) (before after : List Follower) (f : Follower) (n k : NodeId) (in_progress : NodeId → ℕ) → w.followers ≡ before ++ f ∷ after
+    → w.main.name n ≡ Some k → MayClear w.main.state k (in_progress n) → IsMarkedAhead in_progress f
+    → Unmarks w (record w { followers = before ++ with_mark f n false ∷ after }) (with_mark f n false) in_progress
+
+-- Waits in all managers, on one board.
+
+-- the board shows who waits for whom in any of the managers
+abbrev pub ShowsWaits : Board → List Part → Type 0
+ShowsWaits b ps = (t u : ℕ) → board_edge b t u ≡ waits_in ps t u
+
+-- a board without waits shows those of no manager; with the board of one more manager, or of one in which nobody waits left out, those of one manager more; and
+-- then who is on a cycle of the board is on one of the whole, and the other way round
+pub record BoardsJoin : Type 0 where
+  pub none : (b : Board) → ShowsNobody b → ShowsWaits b []
+  pub one_more : (b added joined : Board) (p : Part) (ps : List Part) → ShowsWaits b ps → ((t u : ℕ) → board_edge added t u ≡ waits_for p.state t u)
+      → ((t u : ℕ) → board_edge joined t u ≡ (board_edge b t u || board_edge added t u)) → ShowsWaits joined (p ∷ ps)
+  pub left_out : (b : Board) (p : Part) (ps : List Part) → ShowsWaits b ps → ((t u : ℕ) → waits_for p.state t u ≡ false) → ShowsWaits b (p ∷ ps)
+  pub cycles : (b : Board) (ps : List Part) (t : ℕ) → ShowsWaits b ps → IsOnCycle (board_edge b) t ↔ IsOnCycle (waits_in ps) t

@@ -1,5 +1,5 @@
 -- What a visit of a part has left to copy, when a mark is not needed any more, and where a request is made.
-use Rattle.std.specs.Prelude.{◌≡◌, ℕ, ◌<◌, Bool, true, false, not, ◌&&◌, ◌||◌, if◌then◌else◌}
+use Rattle.std.specs.Prelude.{◌≡◌, ℕ, ◌<◌, Bool, true, false, not, ◌&&◌, ◌||◌, Option, Some, None, if◌then◌else◌}
 use Rattle.std.specs.List.{list_any}
 use Rattle.gl_modes.specs.declared.mode.Mode.{Mode}
 use Rattle.gl_modes.specs.declared.node.NodeId.{NodeId}
@@ -24,6 +24,10 @@ pub record IsNextCopy (main : State) (k : NodeId) (part : State) (n : NodeId) (c
 -- no slot lacks anything
 abbrev pub IsCopied : State → NodeId → State → NodeId → Type 0
 IsCopied main k part n = (t : ℕ) → lacks main k part n t ≡ false
+
+-- what t has on n in the part and not, or not as much, on k in the main manager
+abbrev pub own_copy : State → NodeId → State → NodeId → ℕ → Option Mode
+own_copy main k part n t = if lacks main k part n t then Some (part.held t n) else None
 
 -- t has more than an intention on n, or waits there for it
 abbrev pub has_more_on : State → NodeId → ℕ → Bool

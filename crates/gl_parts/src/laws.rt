@@ -6,6 +6,8 @@ ghost use Rattle.gl_parts.specs.Promises.{ActionsKeepLaw, CopiesAreGranted, Inte
 ghost use Rattle.gl_parts.specs.Promises.{PartStepsAct, PlainMainSteps, PlainPartSteps, PlainStepsAgree, RequestsCanCopy, RequestsObey};
 ghost use Rattle.gl_parts.specs.Promises.{RunsHaveNoConflict, UnusedWorkAsOne, VisitorsJoin, VisitsNeverWait};
 ghost use Rattle.gl_parts.specs.Promises.{AfterMainIsAllowed, ClearMayUnmark, CopiedMayMark, HereIsAllowed, InMainIsRefused, NextIsUncovered};
+ghost use Rattle.gl_parts.specs.Promises.{AdoptsPassNoMore, BoardsJoin, ClearsKeepProgress, ListedLackNothing, MainStepsKeepPaths, MarksKeepPaths};
+ghost use Rattle.gl_parts.specs.Promises.{OwnIsUncovered, PartStepsKeepPaths, PathsMayRequest, ProgressIsVisited, RowPathsMayRequest};
 
 /// Several managers work as one: a main one and parts. The main manager has each node that is in
 /// several, and the parts hold intentions alone on such a node. Before anybody requests more on it in
@@ -89,11 +91,12 @@ pub fn can_copy()
     ensures main { MainStepsCanCopy }
 {}
 
-/// What `next_copy` answers is held in the part alone, so it can be copied. If nothing is left to copy,
-/// the part may be marked for the node; and if the node is clear in the main manager, a part may lose
-/// its mark for it.
+/// What `next_copy` and `own_copy` answer is held in the part alone, so it can be copied. If nothing is
+/// left to copy, the part may be marked for the node; and if the node is clear in the main manager, a
+/// part may lose its mark for it.
 pub fn marks()
     ensures next { NextIsUncovered }
+    ensures own { OwnIsUncovered }
     ensures copied { CopiedMayMark }
     ensures clear { ClearMayUnmark }
 {}
@@ -105,4 +108,33 @@ pub fn ways()
     ensures here { HereIsAllowed }
     ensures after_main { AfterMainIsAllowed }
     ensures in_main { InMainIsRefused }
+{}
+
+/// A path in a part requests an intention on nodes above its own. Each of these requests may be carried
+/// out in the part if its transaction lacks nothing: if it has the intention, there or in the main
+/// manager, on each node that a path to the target passes and for which the part is marked. Who lacks
+/// nothing goes on so after each step of the part by which no path passes more, each step of the main
+/// manager that releases nothing of it, and each visit for a node where it does not lack the intention.
+/// By the node of a row that is made no path to a row passes more.
+pub fn paths()
+    ensures nodes { PathsMayRequest }
+    ensures rows { RowPathsMayRequest }
+    ensures listed { ListedLackNothing }
+    ensures marks { MarksKeepPaths }
+    ensures main_steps { MainStepsKeepPaths }
+    ensures part_steps { PartStepsKeepPaths }
+    ensures adopts { AdoptsPassNoMore }
+{}
+
+/// A request for more than an intention on a node may wait for a node above it first. As long as it is
+/// in progress the parts stay marked for its node, so that it is an action once it is made.
+pub fn in_progress()
+    ensures visited { ProgressIsVisited }
+    ensures clears { ClearsKeepProgress }
+{}
+
+/// If each board shows who waits for whom in its manager, the board on which all are joined shows who
+/// waits for whom in any of them. So who is on a cycle of that board is on one of the whole.
+pub fn boards()
+    ensures { BoardsJoin }
 {}

@@ -1,7 +1,11 @@
 //! Several managers that work as one: the laws of that, and what is decided of visits and requests.
 #![tactic(auto)]
 
+mod joining;
 pub mod laws;
+mod passing;
 mod visits;
 
-pub use visits::{ToCopy, Way, is_clear, next_copy, way_for};
+pub use joining::join_board;
+pub use passing::{Mark, Marked, Target, first_lack, intention, may_clear};
+pub use visits::{ToCopy, Way, is_clear, next_copy, own_copy, way_for};

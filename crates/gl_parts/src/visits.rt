@@ -6,7 +6,7 @@ ghost use Rattle.gl_header.specs.Header.{holds};
 ghost use Rattle.gl_slots.specs.Slots.{has_slot};
 ghost use Rattle.gl_model.specs.State.{members};
 ghost use Rattle.gl_catalog.specs.Manager.{state_of};
-ghost use Rattle.gl_parts.specs.Visiting.{IsClear, IsCopied, IsNextCopy, way_of};
+ghost use Rattle.gl_parts.specs.Visiting.{IsClear, IsCopied, IsNextCopy, own_copy, way_of};
 ghost use Rattle.gl_parts.specs.Whole.{is_intention};
 
 use gl_catalog::Manager;
@@ -48,6 +48,25 @@ pub fn next_copy(main: &Manager, in_main: NodeId, part: &Manager, in_part: NodeI
         }
     }
     None
+}
+
+/// What a transaction has to copy of its own of a node, which may have another name in each manager:
+/// the mode in which it holds it in the part and not, or not as much, in the main manager. Two look-ups.
+pub fn own_copy(
+    main: &Manager,
+    in_main: NodeId,
+    part: &Manager,
+    in_part: NodeId,
+    slot: Slot,
+) -> Option<Mode>
+    ensures { result ≡ own_copy (state_of main.now) in_main (state_of part.now) in_part slot }
+{
+    let mode = part.mode_at(slot, in_part);
+    if covers(main.mode_at(slot, in_main), mode) {
+        None
+    } else {
+        Some(mode)
+    }
 }
 
 /// Whether nobody holds more than an intention on a node in the main manager, or waits there for it;

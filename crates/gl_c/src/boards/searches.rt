@@ -1,7 +1,7 @@
 //! Boards, and what is found on them: a board is a value that any thread may read.
 
 ghost use Rattle.std.specs.Prelude.{◌≡◌, ℕ};
-ghost use Rattle.gl_c.specs.Boards.{FindsCycle, FindsSuspects, PicksFor, Shows};
+ghost use Rattle.gl_c.specs.Boards.{FindsCycle, FindsSuspects, Joins, PicksFor, Shows};
 ghost use Rattle.gl_c.specs.managers.Handle.{guarded_in};
 
 use crate::answers::found::Found;
@@ -9,6 +9,7 @@ use crate::answers::reply::Reply;
 use crate::boards::board::{Board, Slots};
 use crate::managers::handle::Handle;
 use crate::numbers::{BAD_NUMBER, NO_PLACE};
+use gl_parts::join_board;
 use gl_slots::SLOTS;
 use gl_waits::{on_cycle, suspects, youngest};
 
@@ -18,6 +19,16 @@ pub extern "C" fn bs_call_board(manager: &mut Handle, board: &mut Board) -> Repl
     ensures { Shows (guarded_in manager.old) result board.old board.new (guarded_in manager.new) }
 {
     manager.show(board)
+}
+
+/// Adds to a board who waits for whom on another.
+#[unsafe(no_mangle)]
+pub extern "C" fn bs_call_join_board(joined: &mut Board, added: &Board)
+    ensures { Joins joined.old added.now joined.new }
+{
+    let mut board = joined.read();
+    join_board(&mut board, &added.read());
+    joined.put(board);
 }
 
 /// The slots on a cycle of waits with this slot.

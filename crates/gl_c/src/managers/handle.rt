@@ -7,6 +7,7 @@ use std::alloc::Global;
 
 mod calls;
 mod held;
+mod parts;
 
 /// The place of a manager. C makes it zero before the first call, and from then on neither reads,
 /// writes nor copies it.

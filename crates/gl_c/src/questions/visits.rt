@@ -81,7 +81,7 @@ fn copy_reply(copy: Option<ToCopy>) -> Reply
 }
 
 /// The refusal of a question about a node that does not live.
-fn refusal_of(manager: &Manager, node: NodeId) -> Option<Refusal>
+pub(crate) fn refusal_of(manager: &Manager, node: NodeId) -> Option<Refusal>
     ensures { result ≡ first_refusal (group_tests (state_of manager.now) node) }
 {
     match manager.queue(node) {
