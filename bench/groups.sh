@@ -7,8 +7,8 @@
 # and commits. For each number of threads a row for each side has its transactions a second, the median of five turns of
 # SECONDS (0.3 by default), and how many times those of the table by calls they are. The sides, by turns: a table by
 # calls; the same with each transaction in one list; a group of PARTS (16 by default), with the files in parts by turns;
-# and the group while another transaction has S on an area where none of the threads works. CC names another compiler
-# than cc.
+# the group when it keeps intentions; and the group while another transaction has S on an area where none of the threads
+# works. CC names another compiler than cc.
 
 # shellcheck source-path=SCRIPTDIR source=frame/frame.sh
 . "$(dirname "$0")/frame/frame.sh" || exit 2

@@ -26,6 +26,16 @@
  *
  * BEFORE A SLEEP in the main table all that a transaction holds in its parts on inner nodes is copied there, since
  * nobody can copy it while it waits.
+ *
+ * WHAT RESTS. If the group keeps intentions, a commit in a part begins a transaction that rests there, by the rules of a
+ * session (burlapslate_session.h); the next transaction of the slot takes it up in place of a join. Until then it is in
+ * no transaction of the group: its slot may be free, or taken by one that has not come to the part. None rests in a
+ * part that has a mark: a commit there keeps nothing, and a visitor first ends all that rest there. So no visitor joins
+ * the main table for a transaction that does not exist. None rests in the main table.
+ *
+ * The `since` of one that rests is the next age of its slot at the commit, or its age in the part if that is smaller. So
+ * it is at most the age of the transaction that takes it up. It is above each `since` below that next age of those that
+ * were in the part before: so a victim that begins again is the older one beside all that began to rest after it came.
  */
 #include "burlapslate_group.h"
 #include "burlapslate_inside.h"
@@ -54,7 +64,7 @@ typedef struct group_place {
   group_inner *inner;
 } group_place;
 
-/* A table of a group. `at` and `numbers` are read and written with its latch. */
+/* A table of a group. `at`, `numbers` and `keep` are read and written with its latch. */
 typedef struct group_table {
   bs_table *table;
   bs_manager *manager;
@@ -64,21 +74,31 @@ typedef struct group_table {
   uint64_t *marked;     /* the bits of the marks, by number */
   bs_marked *marks_at;  /* the names of those that are marked, in any order */
   uint32_t marks;       /* how many they are */
+  uint32_t keep;        /* how many intentions a commit keeps at most */
   uint32_t count, room; /* of inner nodes; the room is a power of two */
   uint32_t number;
 } __attribute__((aligned(GROUP_LINE))) group_table;
 
+/* What rests in a part for the next transaction of a slot. */
+typedef struct group_kept {
+  uint64_t age;   /* of its name in the part, whose slot is the group's */
+  uint32_t count; /* how many first locks the last commit in the part has kept; 0 after a join */
+} group_kept;
+
 /* A transaction, by slot. Its thread alone uses it. Others read `since` and `target` with the latch of a part where it
- * holds something or sleeps: its thread wrote them before it acquired that latch, or with it. */
+ * holds something or sleeps: its thread wrote them before it acquired that latch, or with it. A look also reads the
+ * `since` of a slot for which something rests, which no cycle has. */
 typedef struct group_slot {
   bool is_taken;               /* atomic */
   bool has_fallen;
   bool is_in_main, is_spread;  /* atomic: it has joined the main table; it has joined two tables */
   uint32_t number;
   uint64_t age;                /* atomic; 0: there is none */
-  uint64_t since;
+  uint64_t since;              /* atomic */
   uint64_t next_age, end_age;  /* the ages that the slot may give */
   uint64_t used;               /* bit p: it has joined part p */
+  uint64_t resting;            /* bit p: something rests for it in part p, unless others have ended that */
+  group_kept *kept;            /* by part: what rests there */
   bs_target target;            /* what it requests in a part, by the part's names */
   bs_txn in[];                 /* its name in each part, by number; with age 0 it has not joined */
 } group_slot;
@@ -262,6 +282,11 @@ static void *group_lines(size_t size, void **block) {
   return (void *)(((uintptr_t)*block + GROUP_LINE - 1) & ~(uintptr_t)(GROUP_LINE - 1));
 }
 
+/* A size in whole cache lines. */
+static size_t group_lines_of(size_t size) {
+  return (size + GROUP_LINE - 1) / GROUP_LINE * GROUP_LINE;
+}
+
 /* A group without tables; null if memory is refused. */
 static bs_table_group *group_new(uint32_t parts, uint32_t most) {
   void *block;
@@ -272,13 +297,17 @@ static bs_table_group *group_new(uint32_t parts, uint32_t most) {
   group->parts = parts;
   group->most = most;
   group->ages = 1;
-  group->stride = (sizeof(group_slot) + (parts + 1) * sizeof(bs_txn) + GROUP_LINE - 1) / GROUP_LINE * GROUP_LINE;
+  group->stride = group_lines_of(sizeof(group_slot) + (parts + 1) * (sizeof(bs_txn) + sizeof(group_kept)));
   group->slots = (unsigned char *)group_lines(most * group->stride, &group->slots_block);
   if (group->slots == NULL) {
     free(block);
     return NULL;
   }
-  for (slot = 0; slot < most; slot++) group_slot_at(group, slot)->number = slot;
+  for (slot = 0; slot < most; slot++) {
+    group_slot *own = group_slot_at(group, slot);
+    own->number = slot;
+    own->kept = (group_kept *)(void *)(own->in + parts + 1);
+  }
   return group;
 }
 
@@ -599,6 +628,15 @@ static group_slot *group_take_slot(const bs_table_group *group) {
   return NULL;
 }
 
+/* The age of the next transaction of a slot. */
+static inline uint64_t group_next_age(bs_table_group *group, group_slot *own) {
+  if (own->next_age == own->end_age) {
+    own->next_age = __atomic_fetch_add(&group->ages, GROUP_AGES, __ATOMIC_RELAXED);
+    own->end_age = own->next_age + GROUP_AGES;
+  }
+  return own->next_age;
+}
+
 bs_reply bs_group_begin_again(bs_table_group *group, uint64_t since) {
   bs_reply reply = group_only(group_shut(group));
   group_slot *own;
@@ -606,12 +644,9 @@ bs_reply bs_group_begin_again(bs_table_group *group, uint64_t since) {
   if (reply.status != BS_DONE) return reply;
   own = group_take_slot(group);
   if (own == NULL) return group_only(BS_TOO_MANY_TXNS);
-  if (own->next_age == own->end_age) {
-    own->next_age = __atomic_fetch_add(&group->ages, GROUP_AGES, __ATOMIC_RELAXED);
-    own->end_age = own->next_age + GROUP_AGES;
-  }
-  age = own->next_age++;
-  own->since = since < age ? since : age;
+  age = group_next_age(group, own);
+  own->next_age++;
+  __atomic_store_n(&own->since, since < age ? since : age, __ATOMIC_RELAXED);
   __atomic_store_n(&own->age, age, __ATOMIC_RELAXED);
   reply.txn.slot = own->number;
   reply.txn.age = age;
@@ -645,12 +680,35 @@ static GROUP_APART void group_note_spread(bs_table_group *group, group_slot *own
   __atomic_fetch_add(&group->spread, 1, __ATOMIC_RELAXED);
 }
 
-/* Joins a part, whose latch is held, if the transaction has not done so. */
+/* Takes up what rests for a transaction in a part, or ends it if the transaction began again. Answers BS_NO_PLACE if
+ * nothing was taken up. */
+static bs_reply group_take_up(group_slot *own, group_table *t) {
+  bs_reply reply;
+  bs_txn rests;
+  rests.slot = own->number;
+  rests.age = own->kept[t->number].age;
+  own->resting &= ~((uint64_t)1 << t->number);
+  reply = bs_call_wake(t->manager, rests);
+  if (reply.status != BS_DONE) return group_only(BS_NO_PLACE);
+  if (own->since == own->age) {
+    reply.txn = rests;
+    return reply;
+  }
+  bs_inside_commit(t->table, rests);
+  return group_only(BS_NO_PLACE);
+}
+
+/* Joins a part, whose latch is held, if the transaction has not done so, or takes up what rests for it there. */
 static inline bs_status group_join(bs_table_group *group, group_slot *own, group_table *t) {
   bs_reply reply;
   if (own->in[t->number].age != 0) return BS_DONE;
-  reply = bs_call_join(t->manager, own->number, own->since);
-  if (reply.status != BS_DONE) return reply.status;
+  reply.status = BS_NO_PLACE;
+  if ((own->resting >> t->number & 1) != 0) reply = group_take_up(own, t);
+  if (reply.status != BS_DONE) {
+    reply = bs_call_join(t->manager, own->number, own->since);
+    if (reply.status != BS_DONE) return reply.status;
+    own->kept[t->number].count = 0;
+  }
   if (own->used != 0 || __atomic_load_n(&own->is_in_main, __ATOMIC_RELAXED)) group_note_spread(group, own);
   own->in[t->number] = reply.txn;
   own->used |= (uint64_t)1 << t->number;
@@ -851,9 +909,10 @@ static bs_status group_copy_sleeper(bs_table_group *group, const group_table *t,
   return status;
 }
 
-/* Marks an inner node in a part, whose latch is held too, after all that others have there was copied. */
+/* Marks an inner node in a part, whose latch is held too, after all that others have there was copied. From then on no
+ * transaction rests there. */
 static bs_status group_visit(bs_table_group *group, group_table *t, const group_inner *inner) {
-  bs_status status = BS_DONE;
+  bs_status status = bs_inside_end_resting(t->table);
   uint32_t above, slot;
   for (above = 0; above < inner->above_count && status == BS_DONE; above++) {
     if (!group_is_marked(t, inner->above[above])) status = group_copy_holders(group, t, inner->above[above]);
@@ -965,6 +1024,25 @@ static GROUP_APART bs_status group_end_in_main(bs_table_group *group, group_slot
   return reply.status;
 }
 
+/* Commits it in a part, and lets the next one of its slot rest there. */
+static bs_reply group_let_rest(bs_table_group *group, group_slot *own, const group_table *t) {
+  group_kept *kept = &own->kept[t->number];
+  uint64_t since = group_next_age(group, own);
+  bs_reply reply = bs_inside_commit_and_rest(t->table, own->in[t->number], kept->count, t->keep, since);
+  if (reply.status != BS_DONE || reply.txn.age == 0) return reply;
+  own->resting |= (uint64_t)1 << t->number;
+  kept->age = reply.txn.age;
+  kept->count = (uint32_t)reply.count;
+  return reply;
+}
+
+/* Ends it in a part, whose latch is held. */
+static bs_reply group_end_in(bs_table_group *group, group_slot *own, const group_table *t, bool commits) {
+  if (!commits) return bs_inside_abort(t->table, own->in[t->number]);
+  if (t->keep != 0 && t->marks == 0) return group_let_rest(group, own, t);
+  return bs_inside_commit(t->table, own->in[t->number]);
+}
+
 /* Ends it in all parts. */
 static bs_status group_end_in_parts(bs_table_group *group, group_slot *own, bool commits) {
   bs_status status = BS_DONE;
@@ -972,7 +1050,7 @@ static bs_status group_end_in_parts(bs_table_group *group, group_slot *own, bool
     const group_table *t = &group->tables[__builtin_ctzll(own->used)];
     bs_reply reply;
     if (!bs_inside_enter(t->table)) return BS_NO_MANAGER;
-    reply = (commits ? bs_inside_commit : bs_inside_abort)(t->table, own->in[t->number]);
+    reply = group_end_in(group, own, t, commits);
     bs_inside_release(t->table);
     own->in[t->number].age = 0;
     if (reply.status != BS_DONE) status = reply.status;
@@ -1010,6 +1088,19 @@ bs_reply bs_group_abort(bs_table_group *group, bs_txn txn) {
   bs_status status = group_finds(group, txn, &own);
   if (status != BS_DONE && status != BS_TXN_CONDEMNED) return group_only(status);
   return group_end_txn(group, own, false);
+}
+
+bs_reply bs_group_keep(bs_table_group *group, uint32_t most) {
+  bs_status status = group_shut(group);
+  uint32_t part;
+  for (part = 1; status == BS_DONE && part <= group->parts; part++) {
+    group_table *t = &group->tables[part];
+    if (!bs_inside_enter(t->table)) return group_only(BS_NO_MANAGER);
+    t->keep = most;
+    if (most == 0) status = bs_inside_end_resting(t->table);
+    bs_inside_release(t->table);
+  }
+  return group_only(status);
 }
 
 /* ------------------------------------------------------------------------------------------------
@@ -1295,7 +1386,8 @@ bs_reply bs_group_name_of(bs_table_group *group, bs_node node, uint32_t table) {
 static void group_add_board(bs_table_group *group) {
   uint32_t slot;
   for (slot = 0; slot < group->most; slot++) {
-    if (group->one.ages[slot] != 0) group->joined.ages[slot] = group_slot_at(group, slot)->since;
+    if (group->one.ages[slot] == 0) continue;
+    group->joined.ages[slot] = __atomic_load_n(&group_slot_at(group, slot)->since, __ATOMIC_RELAXED);
   }
   bs_join_board(&group->joined, &group->one);
 }

@@ -151,6 +151,13 @@ bs_reply bs_inside_escalate(bs_table *table, bs_txn txn, bs_node node);
 bs_reply bs_inside_commit(bs_table *table, bs_txn txn);
 bs_reply bs_inside_abort(bs_table *table, bs_txn txn);
 
+/* Commits a transaction, and lets the next one of its slot rest: bs_call_commit_and_rest, or bs_inside_commit if there
+ * is nothing to keep. From then on the calls above end resting transactions that block them, as those of a table do. */
+bs_reply bs_inside_commit_and_rest(bs_table *table, bs_txn txn, size_t known, size_t most, uint64_t since);
+
+/* Ends all resting transactions; BS_DONE if none rests any more. */
+bs_status bs_inside_end_resting(bs_table *table);
+
 /* ------------------------------------------------------------------------------------------------
  * Of burlapslate_trace.c: a trace of a table.
  */

@@ -2526,7 +2526,7 @@ bs_reply bs_inside_rekey_row(bs_table *table, bs_txn txn, bs_node file, uint64_t
 }
 
 bs_reply bs_inside_escalate(bs_table *table, bs_txn txn, bs_node node) {
-  return table_wake_after(table, table_make_escalate(table, txn, node, &table->told), false);
+  return table_wake_after(table, table_do_escalate(table, txn, node, &table->told), false);
 }
 
 bs_reply bs_inside_commit(bs_table *table, bs_txn txn) {
@@ -2535,6 +2535,24 @@ bs_reply bs_inside_commit(bs_table *table, bs_txn txn) {
 
 bs_reply bs_inside_abort(bs_table *table, bs_txn txn) {
   return table_wake_after(table, table_make_abort(table, txn, &table->told), true);
+}
+
+bs_reply bs_inside_commit_and_rest(bs_table *table, bs_txn txn, size_t known, size_t most, uint64_t since) {
+  bs_reply reply = bs_call_commit_and_rest(&table->manager, txn, known, most, since, &table->told);
+  if (reply.status == BS_NO_PLACE) return bs_inside_commit(table, txn);
+  if (reply.txn.age != 0) table->has_rested = true;
+  return table_wake_after(table, reply, false);
+}
+
+/* It tells nobody, since nobody waits for a resting transaction. */
+bs_status bs_inside_end_resting(bs_table *table) {
+  bs_reply reply;
+  if (!table->has_rested) return BS_DONE;
+  do {
+    reply = table_make_call_make_room(table, &table->told);
+  } while (reply.status == BS_DONE);
+  table->has_rested = reply.status != BS_NO_PLACE;
+  return table->has_rested ? reply.status : BS_DONE;
 }
 
 /* ------------------------------------------------------------------------------------------------

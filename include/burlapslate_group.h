@@ -39,6 +39,12 @@
  * transaction is in two tables and no other thread has looked meanwhile. To look costs the latches of all tables, and
  * the boards of those where threads sleep. The youngest on a cycle falls, by `since`: its call is answered BS_VICTIM.
  *
+ * KEPT INTENTIONS. A transaction mostly needs the intentions that the one before it in its thread had. After
+ * bs_group_keep a commit keeps them in each part for the next transaction of its slot. They rest there, by the rules of
+ * a session (burlapslate_session.h), and are released as soon as they block a request. The slot's next transaction takes
+ * them up with its first call in the part. Then it may hold an intention that it has not requested, and others may wait
+ * for that until it ends. What rests belongs to no transaction of the group, and its slot is free.
+ *
  * COSTS. A call costs what that of a table does, a begin no latch at all. A transaction in several parts ends in one
  * after the other: what it has released in one can be had by others before it ends in the next.
  */
@@ -121,6 +127,19 @@ bs_reply bs_group_begin_again(bs_table_group *group, uint64_t since);
 bs_reply bs_group_commit(bs_table_group *group, bs_txn txn);
 bs_reply bs_group_abort(bs_table_group *group, bs_txn txn);
 
+/* From now on a commit keeps, in each part that its transaction has joined, the first locks there that are intentions
+ * (BS_IS, BS_IX), at most so many; 16 is usual. With 0, as at first, commits keep nothing, and this call releases what
+ * rests.
+ *   - A commit keeps nothing in a part while an inner node is locked in more than an intention, or is requested so. Such
+ *     a request first releases all that rests in the group.
+ *   - An abort keeps nothing.
+ *   - A transaction that began again, with a `since` below its age, takes nothing up: its first call in a part releases
+ *     what rests there for its slot.
+ *   - When a victim is chosen within a part, a transaction that took something up there counts as one that began at the
+ *     commit that kept it. It may count as older than any that came to the part after that commit.
+ * It costs the latch of each part, one after the other. */
+bs_reply bs_group_keep(bs_table_group *group, uint32_t most);
+
 /* ------------------------------------------------------------------------------------------------
  * Locks.
  */
@@ -161,14 +180,16 @@ bs_reply bs_group_forget(bs_table_group *group, bs_node record);
  * Questions.
  */
 
-/* The mode in which a transaction holds a node, in `mode`: of an inner node the supremum of what it has in all tables.
+/* The mode in which a transaction holds a node, in `mode`: of an inner node the supremum of what it has in all tables,
+ * with what it has taken up there (bs_group_keep).
  * Of an inner node it costs the latches of the main table and of the transaction's parts, one after the other; of
  * another node that of its part. Also of a transaction that fell. Refused with BS_NO_SUCH_TXN, BS_NO_SUCH_NODE. */
 bs_reply bs_group_held(bs_table_group *group, bs_txn txn, bs_node node);
 
 /* Acquires the latch of a table of the group, by its number, and lends its manager, as bs_table_hold does: for questions
  * of one table. Null also if this thread holds a table already. The manager has names of its own: of nodes, as the two
- * calls below say, and of transactions, which have the slot of the group's, but another age (bs_living). */
+ * calls below say, and of transactions, which have the slot of the group's, but another age (bs_living). One that rests
+ * (bs_group_keep) is a transaction there. */
 const bs_manager *bs_group_hold(bs_table_group *group, uint32_t table);
 bs_reply bs_group_let_go(bs_table_group *group, uint32_t table);
 

@@ -5,8 +5,9 @@
  *   groups [SECONDS [PARTS]]    for 1, 2, 4 and 16 threads prints a row for each side, the median of five turns, each as
  *                               long as this (0.3): transactions a second, and how many times those of the table by calls
  *
- * The sides are a table by calls, the same with each transaction in one list, a group, and the group while a transaction
- * that only reads has BS_S on an area where none of the threads works. PARTS is 16 if it is not named.
+ * The sides are a table by calls, the same with each transaction in one list, a group, the group when it keeps intentions
+ * (bs_group_keep), and the group while a transaction that only reads has BS_S on an area where none of the threads works.
+ * PARTS is 16 if it is not named.
  */
 #include "burlapslate_group.h"
 
@@ -15,10 +16,11 @@
 #include <stdlib.h>
 #include <string.h>
 
-enum { MOST_THREADS = 16, TURNS = 5, SIDES = 4, COUNTS = 4 };
+enum { MOST_THREADS = 16, TURNS = 5, SIDES = 5, COUNTS = 4, KEPT = 16 };
 
 static const size_t counts[COUNTS] = { 1, 2, 4, 16 };
-static const char *const sides[SIDES] = { "table, by calls", "table, in a list", "group", "group, one area in S" };
+static const char *const sides[SIDES] = { "table, by calls", "table, in a list", "group", "group, intentions kept",
+                                          "group, one area in S" };
 
 static bs_table *table;
 static bs_table_group *group;
@@ -102,7 +104,8 @@ static double turn(int side, size_t threads, double seconds) {
   uint64_t all = 0;
   bs_txn reader = { 0, 0 };
   size_t i;
-  if (side == 3) DONE(bs_group_lock_path(group, reader = DONE(bs_group_begin(group)).txn, idle_area, BS_S, NULL));
+  DONE(bs_group_keep(group, side == 3 ? KEPT : 0));
+  if (side == 4) DONE(bs_group_lock_path(group, reader = DONE(bs_group_begin(group)).txn, idle_area, BS_S, NULL));
   is_over = false;
   clock_gettime(CLOCK_MONOTONIC, &from);
   for (i = 0; i < threads; i++) {
@@ -118,7 +121,7 @@ static double turn(int side, size_t threads, double seconds) {
     all += workers[i].done;
   }
   clock_gettime(CLOCK_MONOTONIC, &to);
-  if (side == 3) DONE(bs_group_commit(group, reader));
+  if (side == 4) DONE(bs_group_commit(group, reader));
   return (double)all / ((double)(to.tv_sec - from.tv_sec) + (double)(to.tv_nsec - from.tv_nsec) / 1e9);
 }
 

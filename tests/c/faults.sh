@@ -373,6 +373,21 @@ group-sees-no-marks	s/^  if (__builtin_expect(t->marks != 0, 0) \&\& /  if (fals
 group-needs-nothing-above-an-index	s/^  target.rows = 1;/  target.rows = 0;/
 group-marks-stay	/ group_end_in_main(/,/^}/s/^  group_clear(.*//
 group-frees-a-slot-early	/ group_end_txn(/,/^}/s/^  bs_status status = group_end_in_parts/  bs_status status = (__atomic_store_n(\&own->is_taken, false, __ATOMIC_RELEASE), BS_DONE) + group_end_in_parts/
+group-rests-beside-a-mark	s/^  if (t->keep != 0 \&\& t->marks == 0) /  if (t->keep != 0) /
+group-visits-end-none-who-rests	/ group_visit(/,/^}/s/bs_inside_end_resting(t->table)/BS_DONE/
+group-lets-rest-as-old-as-before	/ group_let_rest(/,/^}/s/since = group_next_age(group, own)/since = own->since/
+group-takes-up-what-is-younger	/ group_take_up(/,/^}/s/^  if (own->since == own->age) {/  if (true) {/
+group-joins-beside-who-rests	/ group_take_up(/,/^}/s/^  bs_inside_commit(t->table, rests);//
+group-takes-up-what-was-ended	/ group_take_up(/,/^}/s/^  if (reply.status != BS_DONE) return .*/  reply.status = BS_DONE;/
+group-takes-nothing-up	s/^  if ((own->resting >> t->number \& 1) != 0) .*//
+group-aborts-and-keeps	/ group_end_in(/,/^}/{s/^  if (!commits) .*//;s/^  return bs_inside_commit(/  return (commits ? bs_inside_commit : bs_inside_abort)(/}
+group-knows-what-it-kept-before	/ group_join(/,/^}/s/^    own->kept\[t->number\].count = 0;//
+group-keeps-on	/^bs_reply bs_group_keep(/,/^}/s/^    if (most == 0) status = .*//
+group-keeps-in-the-first-part	/^bs_reply bs_group_keep(/,/^}/s/part <= group->parts/part <= 1/
+group-waits-for-who-rests	/^bs_reply bs_inside_commit_and_rest(/,/^}/s/^  if (reply.txn.age != 0) .*//
+group-escalates-not-past-who-rests	/^bs_reply bs_inside_escalate(/,/^}/s/table_do_escalate(/table_make_escalate(/
+group-wakes-nobody-by-what-it-keeps	/^bs_reply bs_inside_commit_and_rest(/,/^}/s/table_wake_after(table, reply, false)/reply/
+group-ends-one-who-rests	/^bs_status bs_inside_end_resting(/,/^}/s/  } while (reply.status == BS_DONE);/  } while (false);/
 a-refused-list-of-a-session-tells	/^size_t bs_session_run(/,/^}/s/^    table_list_of(table, commands\[0\].told)->count = 0;//
 FAULTS
 }

@@ -42,12 +42,29 @@ static void want_rules_of(const bs_table_group *group, const group_table *t, uin
   }
 }
 
-/* Who is in the main table knows it, and nobody is in a table without a slot. */
+/* Whether one rests for a slot in a table; its latch is held. */
+static bool rests_there(const group_table *t, uint32_t slot) {
+  return bs_has(bs_call_resting(t->manager).slots, slot);
+}
+
+/* Of one that rests: it is in a part without marks, its slot knows it, it waits for nothing, and has intentions alone. */
+static void want_rules_of_resting(const group_table *t, const group_slot *own) {
+  bs_txn rests = bs_living(t->manager, own->number).txn;
+  uint64_t locks = bs_lock_count(t->manager, rests).count, place;
+  WANT(t->number != 0 && t->marks == 0 && t->keep != 0);
+  WANT((own->resting >> t->number & 1) != 0 && own->kept[t->number].age == rests.age);
+  WANT(bs_doing(t->manager, rests).count == BS_ACTIVE && locks > 0);
+  for (place = 0; place < locks; place++) WANT(bs_lock_at(t->manager, rests, (size_t)place).mode <= BS_IX);
+}
+
+/* Who is in the main table knows it, and nobody is in a table without a slot, but those who rest. */
 static void want_rules_of_slot(const bs_table_group *group, uint32_t slot) {
   const group_slot *own = group_slot_at(group, slot);
   uint32_t number, tables = 0;
   for (number = 0; number <= group->parts; number++) {
-    tables += bs_living(group->tables[number].manager, slot).status == BS_DONE;
+    const group_table *t = &group->tables[number];
+    if (rests_there(t, slot)) want_rules_of_resting(t, own);
+    else tables += bs_living(t->manager, slot).status == BS_DONE;
   }
   if (bs_living(group->tables[0].manager, slot).status == BS_DONE) {
     WANT(__atomic_load_n(&own->is_in_main, __ATOMIC_RELAXED));
@@ -83,10 +100,13 @@ static uint32_t marks_in(bs_table_group *group, uint32_t part) {
   return marks;
 }
 
-/* Nobody has a slot, holds anything or is in any table, and nothing is marked. */
+static uint32_t world_keeps; /* how many intentions the group keeps */
+
+/* Nobody has a slot, holds anything or is in any table, after what rests was ended; and nothing is marked. */
 static void want_rest(bs_table_group *group) {
   uint32_t table, number, slot;
   want_rules(group);
+  DONE(bs_group_keep(group, 0));
   for (table = 0; table <= group->parts; table++) {
     const group_table *t = &group->tables[table];
     WANT(marks_in(group, table) == 0);
@@ -97,6 +117,7 @@ static void want_rest(bs_table_group *group) {
   }
   for (slot = 0; slot < group->most; slot++) WANT(!group_slot_at(group, slot)->is_taken);
   WANT(group->spread == 0);
+  DONE(bs_group_keep(group, world_keeps));
 }
 
 /* The mode in which a transaction holds an inner node in one table. */
@@ -153,6 +174,7 @@ static void make_world(uint32_t transactions) {
   memset(&options, 0, sizeof options);
   options.transactions = transactions;
   DONE(bs_group_make(&group, &options, PARTS));
+  DONE(bs_group_keep(group, world_keeps));
   base = DONE(bs_group_add_inner(group, NULL, 0)).node;
   for (i = 0; i < AREAS; i++) areas[i] = DONE(bs_group_add_inner(group, &base, 1)).node;
   for (i = 0; i < AREAS; i++) quarters[i] = DONE(bs_group_add_inner(group, &areas[i], 1)).node;
@@ -166,6 +188,8 @@ static void end_world(void) {
   DONE(bs_group_free(&group));
   WANT(group == NULL);
 }
+
+static const struct timespec at_once = { 0, 0 };
 
 static bs_reply lock_path(bs_txn txn, bs_node node, bs_mode mode) {
   return bs_group_lock_path(group, txn, node, mode, NULL);
@@ -202,6 +226,7 @@ static void groups_are_made_and_ended(void) {
   DONE(bs_group_end(other));
   ANSWERS(BS_NO_MANAGER, bs_group_end(other));
   ANSWERS(BS_NO_MANAGER, bs_group_begin(other));
+  ANSWERS(BS_NO_MANAGER, bs_group_keep(other, 1));
   ANSWERS(BS_NO_MANAGER, bs_group_add_inner(other, NULL, 0));
   WANT(bs_group_hold(other, 0) == NULL);
   DONE(bs_group_free(&other));
@@ -216,6 +241,7 @@ static void null_groups_are_refused(void) {
   ANSWERS(BS_NULL_POINTER, bs_group_begin_again(NULL, 1));
   ANSWERS(BS_NULL_POINTER, bs_group_commit(NULL, txn));
   ANSWERS(BS_NULL_POINTER, bs_group_abort(NULL, txn));
+  ANSWERS(BS_NULL_POINTER, bs_group_keep(NULL, 1));
   ANSWERS(BS_NULL_POINTER, bs_group_add_inner(NULL, NULL, 0));
   ANSWERS(BS_NULL_POINTER, bs_group_add_inner(group, NULL, 1));
   ANSWERS(BS_NULL_POINTER, bs_group_add_file(NULL, 1, &base, 1));
@@ -319,6 +345,7 @@ static void who_holds_a_table_is_refused(void) {
   ANSWERS(BS_IN_USE, bs_group_commit(group, txn));
   ANSWERS(BS_IN_USE, bs_group_add_inner(group, NULL, 0));
   ANSWERS(BS_IN_USE, bs_group_end(group));
+  ANSWERS(BS_IN_USE, bs_group_keep(group, 1));
   ANSWERS(BS_IN_USE, bs_group_free(&same));
   ANSWERS(BS_IN_USE, bs_group_name_in(group, base, 1));
   DONE(bs_group_name_in(group, base, 2));
@@ -544,7 +571,6 @@ static void many_marks_are_reached(void) {
 
 enum { TWINS = 6, TWIN_NODES = 1 + 2 * AREAS + PARTS * (1 + RECORDS), TWIN_STEPS = 3000 };
 
-static const struct timespec at_once = { 0, 0 };
 static bs_table *twin_table;
 static bs_node twin_nodes[2][TWIN_NODES]; /* of the group and of the table; files are the last but their records */
 static size_t twin_count;
@@ -1072,6 +1098,267 @@ static void cycles_of_one_table_end(void) {
   want_rest(group);
 }
 
+/* ------------------------------------------------------------------------------------------------
+ * Stories of intentions that are kept.
+ */
+
+static void keep(uint32_t most) {
+  world_keeps = most;
+  DONE(bs_group_keep(group, most));
+}
+
+/* How many locks rest in a part for a slot; 0 if none rests. */
+static uint64_t rest_in(uint32_t part, uint32_t slot) {
+  const group_table *t = &group->tables[part];
+  uint64_t locks = 0;
+  bs_inside_take(t->table);
+  if (rests_there(t, slot)) locks = bs_lock_count(t->manager, bs_living(t->manager, slot).txn).count;
+  bs_inside_release(t->table);
+  return locks;
+}
+
+/* Begins a transaction of its own slot, and lets it rest with the path to a record of each of these parts. */
+static uint32_t let_rest(uint32_t first, uint32_t last, bs_mode mode) {
+  bs_txn txn = begun();
+  uint32_t part;
+  for (part = first; part <= last; part++) DONE(lock_path(txn, records[part][0], mode));
+  commit(txn);
+  for (part = first; part <= last; part++) WANT(rest_in(part, txn.slot) == 3);
+  return txn.slot;
+}
+
+/* The next transaction of the slot has in its first call what the last one kept, and what it asks for. */
+static void what_rests_is_taken_up(void) {
+  bs_txn txn;
+  uint32_t slot;
+  keep(16);
+  slot = let_rest(1, 1, BS_X);
+  want_rules(group);
+  WANT(!group_slot_at(group, slot)->is_taken);
+  txn = begun();
+  WANT(txn.slot == slot && DONE(bs_group_held(group, txn, base)).mode == BS_NL);
+  DONE(lock_path(txn, records[1][1], BS_S));
+  WANT(rest_in(1, slot) == 0 && DONE(bs_group_held(group, txn, files[1])).mode == BS_IX);
+  WANT(held_in(group, 1, txn, base) == BS_IX && DONE(bs_group_held(group, txn, records[1][0])).mode == BS_NL);
+  want_rules(group);
+  WANT(group->spread == 0);
+  DONE(lock_path(txn, records[2][0], BS_S));
+  WANT(group->spread == 1);
+  commit(txn);
+  WANT(rest_in(1, slot) == 3 && rest_in(2, slot) == 3 && group->spread == 0);
+  want_rest(group);
+}
+
+/* What rests in a part stays while transactions of the slot work in others; and the most that is kept can change. */
+static void each_part_has_what_rests(void) {
+  bs_txn txn;
+  uint32_t slot;
+  keep(16);
+  slot = let_rest(1, 2, BS_X);
+  txn = begun();
+  DONE(lock_path(txn, records[2][1], BS_X));
+  DONE(bs_group_lock_row_path(group, txn, row_files[2], 7, (const uint64_t[]){ 50 }, 1, BS_S, NULL));
+  commit(txn);
+  WANT(rest_in(1, slot) == 3 && rest_in(2, slot) == 3);
+  txn = begun();
+  DONE(bs_group_insert(group, txn, files[1], NULL, 0));
+  DONE(lock_path(txn, records[2][1], BS_X));
+  WANT(group->spread == 1);
+  commit(txn);
+  keep(2);
+  txn = begun();
+  DONE(lock_path(txn, records[1][1], BS_S));
+  DONE(lock_path(txn, records[3][1], BS_S));
+  commit(txn);
+  WANT(rest_in(1, slot) == 2 && rest_in(2, slot) == 3 && rest_in(3, slot) == 2);
+  keep(0);
+  WANT(rest_in(1, slot) + rest_in(2, slot) + rest_in(3, slot) == 0);
+  txn = begun();
+  DONE(lock_path(txn, records[1][1], BS_S));
+  commit(txn);
+  WANT(rest_in(1, slot) == 0);
+  want_rest(group);
+}
+
+/* What is more than an intention is not kept, nor what comes after it. */
+static void only_intentions_rest(void) {
+  bs_txn txn;
+  keep(16);
+  DONE(lock_path(txn = begun(), files[1], BS_S));
+  DONE(lock_path(txn, records[2][0], BS_X));
+  DONE(lock_path(txn, files[2], BS_X));
+  commit(txn);
+  WANT(rest_in(1, txn.slot) == 2 && rest_in(2, txn.slot) == 2);
+  txn = begun();
+  DONE(lock_path(txn, records[2][0], BS_X));
+  commit(txn);
+  WANT(rest_in(2, txn.slot) == 3);
+  txn = begun();
+  DONE(lock_path(txn, files[2], BS_S));
+  WANT(DONE(bs_group_held(group, txn, files[2])).mode == BS_SIX);
+  commit(txn);
+  WANT(rest_in(2, txn.slot) == 0);
+  txn = begun();
+  DONE(lock_path(txn, files[2], BS_S));
+  commit(txn);
+  WANT(rest_in(2, txn.slot) == 2);
+  want_rules(group);
+  want_rest(group);
+}
+
+/* A lock of more than an intention on an inner node ends who rests in any part, and none rests while it lasts. */
+static void strong_locks_end_what_rests(void) {
+  static const bs_mode modes[] = { BS_S, BS_SIX, BS_X };
+  bs_node nodes[3];
+  bs_txn others[PARTS + 1], strong, reader;
+  uint32_t part, i;
+  nodes[0] = base;
+  nodes[1] = areas[1];
+  nodes[2] = quarters[0];
+  keep(16);
+  for (i = 0; i < 9; i++) {
+    for (part = 1; part <= PARTS; part++) DONE(lock_path(others[part] = begun(), records[part][0], BS_X));
+    for (part = 1; part <= PARTS; part++) commit(others[part]);
+    for (part = 1; part <= PARTS; part++) WANT(rest_in(part, others[part].slot) == 3);
+    DONE(bs_group_lock_path(group, strong = begun(), nodes[i % 3], modes[i / 3], &at_once));
+    for (part = 1; part <= PARTS; part++) WANT(rest_in(part, others[part].slot) == 0 && marks_in(group, part) == 1);
+    want_rules(group);
+    reader = begun();
+    if (i < 3) DONE(lock_path(reader, records[4][0], BS_S));
+    commit(reader);
+    for (part = 1; part <= PARTS; part++) WANT(rest_in(part, reader.slot) == 0);
+    want_rules(group);
+    DONE(lock_path(strong, records[1][1], BS_S));
+    commit(strong);
+    WANT(rest_in(1, strong.slot) == 0);
+    WANT(let_rest(1, PARTS, BS_S) < group->most);
+    want_rest(group);
+  }
+}
+
+/* Who rests keeps nobody from more than an intention on a file, whether that is locked, tried or escalated to. */
+static void who_rests_is_in_nobodys_way(void) {
+  bs_txn txn = begun(), holder;
+  uint32_t slot;
+  sleeper own;
+  keep(16);
+  slot = let_rest(1, 3, BS_X);
+  WANT(slot != txn.slot);
+  DONE(bs_group_lock_path(group, txn, files[1], BS_X, &at_once));
+  WANT(rest_in(1, slot) == 0 && rest_in(2, slot) == 3);
+  DONE(lock_path(txn, records[2][1], BS_S));
+  WANT(DONE(bs_group_escalate(group, txn, files[2])).mode == BS_S);
+  WANT(rest_in(2, slot) == 0 && rest_in(3, slot) == 3);
+  want_rules(group);
+  DONE(lock_path(holder = begun(), records[3][1], BS_X));
+  WANT(holder.slot == slot);
+  slot = let_rest(3, 3, BS_X);
+  sleep_in(&own, 3, txn, files[3], BS_S);
+  WANT(rest_in(3, slot) == 0);
+  commit(holder);
+  wakes_with(&own, BS_DONE);
+  WANT(rest_in(3, holder.slot) == 0);
+  commit(txn);
+  want_rest(group);
+}
+
+/* A transaction that fell, or is aborted, keeps nothing; what rests elsewhere for its slot stays. */
+static void aborts_keep_nothing(void) {
+  bs_txn txn, other;
+  sleeper own;
+  uint32_t slot;
+  keep(16);
+  slot = let_rest(1, 2, BS_X);
+  txn = begun();
+  DONE(lock_path(txn, records[1][1], BS_X));
+  DONE(bs_group_abort(group, txn));
+  WANT(txn.slot == slot && rest_in(1, slot) == 0 && rest_in(2, slot) == 3);
+  want_rules(group);
+  other = begun();
+  txn = begun();
+  WANT(other.slot == slot);
+  DONE(lock_path(other, records[2][0], BS_X));
+  DONE(lock_path(txn, records[2][1], BS_X));
+  sleep_in(&own, 2, other, records[2][1], BS_X);
+  ANSWERS(BS_VICTIM, lock_path(txn, records[2][0], BS_X));
+  ANSWERS(BS_TXN_CONDEMNED, bs_group_commit(group, txn));
+  DONE(bs_group_abort(group, txn));
+  WANT(rest_in(2, txn.slot) == 0);
+  wakes_with(&own, BS_DONE);
+  commit(other);
+  WANT(rest_in(2, slot) == 3);
+  want_rest(group);
+}
+
+/* Two wait for each other in part 1: this one falls, and the other, which slept, goes on. */
+static void falls_beside(bs_txn falls, bs_txn sleeps) {
+  sleeper own;
+  DONE(lock_path(falls, records[1][0], BS_X));
+  DONE(lock_path(sleeps, records[1][1], BS_X));
+  sleep_in(&own, 1, sleeps, records[1][0], BS_X);
+  ANSWERS(BS_VICTIM, lock_path(falls, records[1][1], BS_X));
+  DONE(bs_group_abort(group, falls));
+  wakes_with(&own, BS_DONE);
+  commit(sleeps);
+}
+
+/* What an older transaction has kept does not make the next one of its slot older: it falls in its turn. */
+static void what_rests_is_as_young_as_the_next(void) {
+  bs_txn middle = begun(), txn = DONE(bs_group_begin_again(group, 0)).txn;
+  uint32_t slot = txn.slot;
+  keep(16);
+  DONE(lock_path(middle, records[1][1], BS_S));
+  DONE(lock_path(txn, records[1][0], BS_X));
+  commit(txn);
+  WANT(rest_in(1, slot) == 3);
+  txn = begun();
+  WANT(txn.slot == slot && middle.age < txn.age);
+  falls_beside(txn, middle);
+  want_rest(group);
+}
+
+/* Work that was tried before is as old as it was: it takes nothing up. */
+static void work_that_is_tried_again_joins(void) {
+  bs_txn other, txn;
+  uint32_t slot;
+  keep(16);
+  slot = let_rest(1, 2, BS_X);
+  txn = DONE(bs_group_begin_again(group, 0)).txn;
+  other = DONE(bs_group_begin_again(group, 1)).txn;
+  WANT(txn.slot == slot);
+  DONE(lock_path(txn, base, BS_IS));
+  WANT(rest_in(1, slot) == 3 && rest_in(2, slot) == 3);
+  DONE(lock_path(txn, records[2][1], BS_S));
+  WANT(rest_in(2, slot) == 0 && held_in(group, 2, txn, files[2]) == BS_IS);
+  falls_beside(other, txn);
+  WANT(rest_in(1, slot) == 3 && rest_in(2, slot) == 3);
+  want_rest(group);
+}
+
+/* Many transactions of several slots, over several blocks of ages, by turns in one part and another. */
+static void slots_take_turns(void) {
+  bs_txn txns[3];
+  uint32_t i, j;
+  keep(16);
+  for (i = 0; i < 500; i++) {
+    for (j = 0; j < 3; j++) DONE(lock_path(txns[j] = begun(), records[1 + (i * (j + 1)) % PARTS][j], BS_X));
+    for (j = 0; j < 3; j++) commit(txns[j]);
+    if (i % 50 == 0) want_rules(group);
+  }
+  WANT(rest_in(1 + (499 % PARTS), txns[0].slot) == 3);
+  want_rest(group);
+}
+
+/* A group ends with those who rest in it. */
+static void ends_end_what_rests(void) {
+  keep(16);
+  let_rest(1, PARTS, BS_X);
+  DONE(bs_group_end(group));
+  ANSWERS(BS_NO_MANAGER, bs_group_keep(group, 0));
+  DONE(bs_group_free(&group));
+  world_keeps = 0;
+}
+
 /* A group ends under those who sleep in it. */
 static void ends_wake_all(void) {
   bs_txn holder = begun(), one = begun(), two = begun();
@@ -1349,6 +1636,7 @@ static void *in_crowd(void *place) {
   while (own->commits == 0 || bs_call_now() < crowd_end) {
     make_one(own);
     if (++made % 300 != own->number) continue;
+    if (world_keeps != 0 && own->number == 0) DONE(bs_group_keep(group, draw(own, 2 * world_keeps)));
     want_rules(group);
     own->checks++;
   }
@@ -1363,11 +1651,12 @@ static void make_crossed(void) {
   commit(txn);
 }
 
-/* A crowd of so many threads, over so many slots. */
-static void crowd(uint32_t threads, uint32_t slots, uint32_t strong, uint64_t milliseconds, uint64_t seed) {
+/* A crowd of so many threads, over so many slots, in a group that keeps intentions or not. */
+static void crowd(uint32_t threads, uint32_t slots, uint32_t strong, bool keeps, uint64_t milliseconds, uint64_t seed) {
   static crowd_thread all[MOST_THREADS];
   crowd_thread sum;
   uint32_t i;
+  world_keeps = keeps ? 8 : 0;
   make_world(slots);
   make_crossed();
   strong_share = strong;
@@ -1388,48 +1677,71 @@ static void crowd(uint32_t threads, uint32_t slots, uint32_t strong, uint64_t mi
     sum.strong += all[i].strong;
     sum.checks += all[i].checks;
   }
-  printf("crowd of %u, %u slots, %u in 1000 strong: %llu commits, %llu aborts, %llu victims, ", threads, slots, strong,
-         (unsigned long long)sum.commits, (unsigned long long)sum.aborts, (unsigned long long)sum.victims);
+  printf("crowd of %u, %u slots, %u in 1000 strong%s: %llu commits, %llu aborts, %llu victims, ", threads, slots, strong,
+         keeps ? ", kept" : "", (unsigned long long)sum.commits, (unsigned long long)sum.aborts,
+         (unsigned long long)sum.victims);
   printf("%llu late, %llu inner, %llu checks\n", (unsigned long long)sum.times, (unsigned long long)sum.strong,
          (unsigned long long)sum.checks);
   end_world();
+  world_keeps = 0;
 }
 
 /* ------------------------------------------------------------------------------------------------
  * The program.
  */
 
-#define STORY(name) { #name, name }
+/* A story; it is played again in a group that keeps intentions, unless it calls bs_group_keep or depends on what is
+ * held. */
+#define STORY(name) { #name, name, true }
+#define STORY_ALONE(name) { #name, name, false }
 
 static const struct {
   const char *name;
   void (*play)(void);
+  bool is_played_again;
 } stories[] = {
   STORY(null_groups_are_refused), STORY(wrong_graphs_are_refused), STORY(wrong_requests_are_refused),
   STORY(who_holds_a_table_is_refused), STORY(names_are_translated), STORY(one_part_needs_no_other),
-  STORY(begins_have_ages), STORY(records_come_and_go), STORY(rows_have_numbers), STORY(strong_locks_are_in_main),
+  STORY(begins_have_ages), STORY_ALONE(records_come_and_go), STORY(rows_have_numbers), STORY(strong_locks_are_in_main),
   STORY(inserts_are_tried), STORY(nodes_are_made_at_any_time), STORY(many_marks_are_reached),
-  STORY(answers_are_those_of_a_table),
+  STORY_ALONE(answers_are_those_of_a_table),
   STORY(refused_memory_makes_no_group), STORY(refused_memory_breaks_no_rule),
   STORY(strong_waits_for_records_of_any_part), STORY(records_wait_for_strong), STORY(sleepers_are_visited),
   STORY(rows_that_wait_are_visited), STORY(new_indexes_end_paths), STORY(readers_that_wait_are_visited),
-  STORY(marks_stay_for_requests_above), STORY(times_leave_no_marks), STORY(cycles_over_parts_end), STORY(cycles_over_main_end), STORY(one_of_a_cycle_falls),
-  STORY(cycles_of_one_table_end),
+  STORY(marks_stay_for_requests_above),
+  STORY(times_leave_no_marks), STORY(cycles_over_parts_end), STORY(cycles_over_main_end), STORY(one_of_a_cycle_falls),
+  STORY(cycles_of_one_table_end), STORY_ALONE(what_rests_is_taken_up),
+  STORY_ALONE(each_part_has_what_rests), STORY_ALONE(only_intentions_rest),
+  STORY_ALONE(strong_locks_end_what_rests), STORY_ALONE(who_rests_is_in_nobodys_way), STORY_ALONE(aborts_keep_nothing),
+  STORY_ALONE(what_rests_is_as_young_as_the_next), STORY_ALONE(work_that_is_tried_again_joins),
+  STORY_ALONE(slots_take_turns),
 };
 
-static void play_all(void) {
+static void play_stories(uint32_t keeps) {
   size_t i;
+  for (i = 0; i < sizeof stories / sizeof stories[0]; i++) {
+    if (keeps != 0 && !stories[i].is_played_again) continue;
+    story = stories[i].name;
+    feed(20);
+    world_keeps = keeps;
+    make_world(BS_SLOTS);
+    stories[i].play();
+    world_keeps = 0;
+    end_world();
+    printf("%s%s\n", story, keeps != 0 ? ", kept" : "");
+  }
+}
+
+static void play_all(void) {
   story = "groups_are_made_and_ended";
   groups_are_made_and_ended();
   printf("%s\n", story);
-  for (i = 0; i < sizeof stories / sizeof stories[0]; i++) {
-    story = stories[i].name;
-    feed(20);
-    make_world(BS_SLOTS);
-    stories[i].play();
-    end_world();
-    printf("%s\n", story);
-  }
+  play_stories(0);
+  play_stories(16);
+  story = "ends_end_what_rests";
+  make_world(BS_SLOTS);
+  ends_end_what_rests();
+  printf("%s\n", story);
   story = "ends_wake_all";
   make_world(BS_SLOTS);
   ends_wake_all();
@@ -1458,7 +1770,7 @@ static void play_crowds(uint64_t milliseconds, uint64_t seed) {
   story = "crowd";
   for (i = 0; i < 4; i++) {
     feed(20 + (unsigned)(milliseconds / 1000));
-    crowd(threads[i], slots[i], strong[i], milliseconds / 4, seed + i);
+    crowd(threads[i], slots[i], strong[i], (seed + i) % 2 == 0, milliseconds / 4, seed + i);
   }
 }
 

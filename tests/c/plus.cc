@@ -140,6 +140,7 @@ static bool groups() {
   if (bs_group_make(&group, NULL, 2).status != BS_DONE) return false;
   bs_node base = bs_group_add_inner(group, NULL, 0).node;
   bs_node file = bs_group_add_file(group, 2, &base, 1).node;
+  if (bs_group_keep(group, 16).status != BS_DONE) return false;
   bs_txn txn = bs_group_begin(group).txn;
   bs_node record = bs_group_insert(group, txn, file, NULL, 0).node;
   if (bs_group_table(base) != 0 || bs_group_table(record) != 2) return false;
