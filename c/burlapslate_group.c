@@ -734,14 +734,21 @@ static bs_status group_join_main(bs_table_group *group, group_slot *own, bool is
  * Requests in a part that is marked.
  */
 
+/* How a request is made: it may sleep until this time; or it is a try, and keeps this of what it acquired if it is
+ * refused. */
+typedef struct group_manner {
+  const struct timespec *until;
+  bool may_sleep;
+  uint32_t keep;
+} group_manner;
+
 /* A request in a part, while it is found out what it lacks in the main table. */
 typedef struct group_way {
   bs_table_group *group;
   group_slot *own;
   group_table *part;
   const bs_target *target;
-  const struct timespec *until;
-  bool may_sleep;
+  group_manner manner;
   bool in_main;   /* the main table's latch is held, and the transaction has joined it, by this name */
   bs_txn main_txn;
 } group_way;
@@ -757,17 +764,23 @@ static GROUP_APART bs_reply group_lacks(const group_way *way) {
 
 static bs_status group_copy_own(bs_table_group *group, group_slot *own, bs_txn main_txn);
 
-/* Acquires in the main table, whose latch is held before and after, what the request lacks there. */
+/* Requests a node of a table in this manner, with the latch held before and after. */
+static bs_reply group_request(const group_table *t, bs_txn txn, bs_node node, bs_mode mode, const group_manner *manner) {
+  if (!manner->may_sleep) return bs_inside_try_path(t->table, txn, node, mode, manner->keep);
+  return bs_inside_path(t->table, txn, node, mode, manner->until);
+}
+
+/* Acquires in the main table, whose latch is held before and after, what the request lacks there, which stays. */
 static bs_reply group_acquire(const group_way *way, bs_reply lacks) {
-  const group_table *main = &way->group->tables[0];
-  if (!way->may_sleep) return bs_inside_try_path(main->table, way->main_txn, lacks.node, lacks.mode);
-  return bs_inside_path(main->table, way->main_txn, lacks.node, lacks.mode, way->until);
+  group_manner manner = way->manner;
+  manner.keep = BS_KEEP_WAY;
+  return group_request(&way->group->tables[0], way->main_txn, lacks.node, lacks.mode, &manner);
 }
 
 /* Joins the main table for a request that lacks something there, with the main table's latch held. */
 static bs_status group_way_by_main(group_way *way) {
   bs_status status = group_join_main(way->group, way->own, false, &way->main_txn);
-  if (status == BS_DONE && way->may_sleep) status = group_copy_own(way->group, way->own, way->main_txn);
+  if (status == BS_DONE && way->manner.may_sleep) status = group_copy_own(way->group, way->own, way->main_txn);
   way->in_main = status == BS_DONE;
   return status;
 }
@@ -904,7 +917,7 @@ static bs_status group_copy_sleeper(bs_table_group *group, const group_table *t,
   if (lacks.status != BS_DONE) return lacks.status == BS_NO_PLACE ? BS_DONE : lacks.status;
   status = group_join_main(group, other, true, &main_txn);
   if (status != BS_DONE) return status;
-  status = bs_inside_try_path(main->table, main_txn, lacks.node, lacks.mode).status;
+  status = bs_inside_try_path(main->table, main_txn, lacks.node, lacks.mode, BS_KEEP_WAY).status;
   group_note_fault(group, status);
   return status;
 }
@@ -963,13 +976,13 @@ static void group_clear(bs_table_group *group, uint32_t *numbers, uint32_t count
 
 /* Requests more than an intention on an inner node. */
 static bs_reply group_lock_more(bs_table_group *group, bs_txn main_txn, group_inner *inner, bs_mode mode,
-                                const struct timespec *until) {
+                                const group_manner *manner) {
   const group_table *main = &group->tables[0];
   uint32_t number = inner->number;
   bs_reply reply;
   inner->in_progress++;
   reply = group_only(group_visit_all(group, inner));
-  if (reply.status == BS_DONE) reply = bs_inside_path(main->table, main_txn, main->at[number].node, mode, until);
+  if (reply.status == BS_DONE) reply = group_request(main, main_txn, main->at[number].node, mode, manner);
   inner->in_progress--;
   if (reply.status != BS_DONE) group_clear(group, &number, 1);
   return reply;
@@ -977,7 +990,7 @@ static bs_reply group_lock_more(bs_table_group *group, bs_txn main_txn, group_in
 
 /* Locks an inner node in the main table. */
 static bs_reply group_lock_inner(bs_table_group *group, group_slot *own, bs_node node, bs_mode mode,
-                                 const struct timespec *until) {
+                                 const group_manner *manner) {
   group_table *main = &group->tables[0];
   group_inner *inner;
   bs_txn main_txn;
@@ -988,8 +1001,8 @@ static bs_reply group_lock_inner(bs_table_group *group, group_slot *own, bs_node
   if (reply.status == BS_DONE) reply.status = group_join_main(group, own, false, &main_txn);
   if (reply.status == BS_DONE) reply.status = group_copy_own(group, own, main_txn);
   if (reply.status != BS_DONE) return group_leave(main, reply);
-  if (mode > BS_IX) reply = group_lock_more(group, main_txn, inner, mode, until);
-  else reply = bs_inside_path(main->table, main_txn, main->at[inner->number].node, mode, until);
+  if (mode > BS_IX) reply = group_lock_more(group, main_txn, inner, mode, manner);
+  else reply = group_request(main, main_txn, main->at[inner->number].node, mode, manner);
   if (reply.status == BS_VICTIM) own->has_fallen = true;
   return group_leave(main, reply);
 }
@@ -1109,16 +1122,28 @@ bs_reply bs_group_keep(bs_table_group *group, uint32_t most) {
 
 /* A request in a part. */
 static inline group_way group_way_to(bs_table_group *group, group_slot *own, group_table *t, const bs_target *target,
-                                     const struct timespec *until) {
+                                     const group_manner *manner) {
   group_way way;
   way.group = group;
   way.own = own;
   way.part = t;
   way.target = target;
-  way.until = until;
-  way.may_sleep = true;
+  way.manner = *manner;
   way.in_main = false;
   return way;
+}
+
+/* The manner of a request that may sleep until this time; and of a try. */
+static inline group_manner group_until(const struct timespec *until) {
+  group_manner manner = { NULL, true, BS_KEEP_WAY };
+  manner.until = until;
+  return manner;
+}
+
+static inline group_manner group_tries(uint32_t keep) {
+  group_manner manner = { NULL, false, BS_KEEP_NOTHING };
+  manner.keep = keep;
+  return manner;
 }
 
 /* Leaves a part after a request that was answered so. */
@@ -1127,15 +1152,17 @@ static inline bs_reply group_requested(group_slot *own, const group_table *t, bs
   return group_leave(t, reply);
 }
 
-/* Why no call can have this mode and this time. */
-static inline bs_status group_bad_call(const bs_table_group *group, bs_mode mode, const struct timespec *until) {
+/* Why no call can have this mode, and be made in this manner. */
+static inline bs_status group_bad_call(const bs_table_group *group, bs_mode mode, const group_manner *manner) {
   if (group == NULL) return BS_NULL_POINTER;
-  return mode > BS_X || !bs_inside_is_time(until) ? BS_BAD_NUMBER : BS_DONE;
+  if (mode > BS_X || manner->keep > BS_KEEP_WAY) return BS_BAD_NUMBER;
+  return bs_inside_is_time(manner->until) ? BS_DONE : BS_BAD_NUMBER;
 }
 
-bs_reply bs_group_lock_path(bs_table_group *group, bs_txn txn, bs_node node, bs_mode mode,
-                            const struct timespec *until) {
-  bs_status status = group_bad_call(group, mode, until);
+/* Locks a node with what must be held above it. */
+static inline bs_reply group_path(bs_table_group *group, bs_txn txn, bs_node node, bs_mode mode,
+                                  const group_manner *manner) {
+  bs_status status = group_bad_call(group, mode, manner);
   uint32_t part = bs_group_table(node);
   bs_target target;
   group_table *t;
@@ -1145,14 +1172,25 @@ bs_reply bs_group_lock_path(bs_table_group *group, bs_txn txn, bs_node node, bs_
   if (status == BS_DONE) status = group_finds(group, txn, &own);
   if (status == BS_DONE && part > group->parts) status = BS_NO_SUCH_NODE;
   if (status != BS_DONE) return group_only(status);
-  if (part == 0) return group_lock_inner(group, own, node, mode, until);
+  if (part == 0) return group_lock_inner(group, own, node, mode, manner);
   t = &group->tables[part];
   target.node = group_name_there(t, node);
-  target.mode = mode;
   target.rows = 0;
-  way = group_way_to(group, own, t, &target, until);
+  target.mode = mode;
+  way = group_way_to(group, own, t, &target, manner);
   if (!group_reach(&way, &reply)) return reply;
-  return group_requested(own, t, bs_inside_path(t->table, own->in[part], target.node, mode, until));
+  return group_requested(own, t, group_request(t, own->in[part], target.node, mode, manner));
+}
+
+bs_reply bs_group_lock_path(bs_table_group *group, bs_txn txn, bs_node node, bs_mode mode,
+                            const struct timespec *until) {
+  group_manner manner = group_until(until);
+  return group_path(group, txn, node, mode, &manner);
+}
+
+bs_reply bs_group_try_path(bs_table_group *group, bs_txn txn, bs_node node, bs_mode mode, uint32_t keep) {
+  group_manner manner = group_tries(keep);
+  return group_path(group, txn, node, mode, &manner);
 }
 
 /* Finds the transaction of a call, and the part of a node, which an inner node has not: that is refused so. */
@@ -1171,9 +1209,10 @@ static bs_target group_in_file(const group_table *t, bs_node file, bs_mode mode)
   return target;
 }
 
-bs_reply bs_group_lock_row_path(bs_table_group *group, bs_txn txn, bs_node file, uint64_t number, const uint64_t *keys,
-                                size_t count, bs_mode mode, const struct timespec *until) {
-  bs_status status = group_bad_call(group, mode, until);
+/* Locks a row with what must be held above it. */
+static inline bs_reply group_row_path(bs_table_group *group, bs_txn txn, bs_node file, uint64_t number,
+                                      const uint64_t *keys, size_t count, bs_mode mode, const group_manner *manner) {
+  bs_status status = group_bad_call(group, mode, manner);
   bs_target target;
   group_table *t;
   group_slot *own;
@@ -1183,14 +1222,32 @@ bs_reply bs_group_lock_row_path(bs_table_group *group, bs_txn txn, bs_node file,
   if (status == BS_DONE) status = group_finds_both(group, txn, file, BS_NOT_ROWS, &own, &t);
   if (status != BS_DONE) return group_only(status);
   target = group_in_file(t, file, mode);
-  way = group_way_to(group, own, t, &target, until);
+  way = group_way_to(group, own, t, &target, manner);
   if (!group_reach(&way, &reply)) return reply;
-  reply = bs_inside_row_path(t->table, own->in[t->number], target.node, number, keys, count, mode, until);
+  txn = own->in[t->number];
+  if (manner->may_sleep) {
+    reply = bs_inside_row_path(t->table, txn, target.node, number, keys, count, mode, manner->until);
+  } else {
+    reply = bs_inside_try_row_path(t->table, txn, target.node, number, keys, count, mode, manner->keep);
+  }
   return group_requested(own, t, reply);
 }
 
+bs_reply bs_group_lock_row_path(bs_table_group *group, bs_txn txn, bs_node file, uint64_t number, const uint64_t *keys,
+                                size_t count, bs_mode mode, const struct timespec *until) {
+  group_manner manner = group_until(until);
+  return group_row_path(group, txn, file, number, keys, count, mode, &manner);
+}
+
+bs_reply bs_group_try_row_path(bs_table_group *group, bs_txn txn, bs_node file, uint64_t number, const uint64_t *keys,
+                               size_t count, bs_mode mode, uint32_t keep) {
+  group_manner manner = group_tries(keep);
+  return group_row_path(group, txn, file, number, keys, count, mode, &manner);
+}
+
 bs_reply bs_group_insert(bs_table_group *group, bs_txn txn, bs_node file, const uint64_t *keys, size_t count) {
-  bs_status status = group_bad_call(group, BS_X, NULL);
+  group_manner manner = group_tries(BS_KEEP_NOTHING);
+  bs_status status = group_bad_call(group, BS_X, &manner);
   bs_target target;
   group_table *t;
   group_slot *own;
@@ -1200,8 +1257,7 @@ bs_reply bs_group_insert(bs_table_group *group, bs_txn txn, bs_node file, const 
   if (status == BS_DONE) status = group_finds_both(group, txn, file, BS_BAD_PARENTS, &own, &t);
   if (status != BS_DONE) return group_only(status);
   target = group_in_file(t, file, BS_X);
-  way = group_way_to(group, own, t, &target, NULL);
-  way.may_sleep = false;
+  way = group_way_to(group, own, t, &target, &manner);
   if (!group_reach(&way, &reply)) return reply;
   return group_leave(t, bs_inside_insert(t->table, own->in[t->number], target.node, keys, count));
 }

@@ -138,8 +138,10 @@ bs_reply bs_inside_path(bs_table *table, bs_txn txn, bs_node node, bs_mode mode,
 bs_reply bs_inside_row_path(bs_table *table, bs_txn txn, bs_node file, uint64_t number, const uint64_t *keys,
                             size_t count, bs_mode mode, const struct timespec *until);
 
-/* As bs_table_try_path, which keeps the way, and bs_table_insert_path, which keeps nothing. */
-bs_reply bs_inside_try_path(bs_table *table, bs_txn txn, bs_node node, bs_mode mode);
+/* As bs_table_try_path, bs_table_try_row_path, and bs_table_insert_path, which keeps nothing. */
+bs_reply bs_inside_try_path(bs_table *table, bs_txn txn, bs_node node, bs_mode mode, uint32_t keep);
+bs_reply bs_inside_try_row_path(bs_table *table, bs_txn txn, bs_node file, uint64_t number, const uint64_t *keys,
+                                size_t count, bs_mode mode, uint32_t keep);
 bs_reply bs_inside_insert(bs_table *table, bs_txn txn, bs_node file, const uint64_t *keys, size_t count);
 
 /* As the call of a table that has the name. */

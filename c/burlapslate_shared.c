@@ -2495,8 +2495,14 @@ bs_reply bs_inside_row_path(bs_table *table, bs_txn txn, bs_node file, uint64_t 
   return reply.status == BS_WAITING ? table_sleep(table, txn, &own) : reply;
 }
 
-bs_reply bs_inside_try_path(bs_table *table, bs_txn txn, bs_node node, bs_mode mode) {
-  return table_path_tried(table, txn, node, mode, BS_KEEP_WAY);
+bs_reply bs_inside_try_path(bs_table *table, bs_txn txn, bs_node node, bs_mode mode, uint32_t keep) {
+  return table_path_tried(table, txn, node, mode, keep);
+}
+
+bs_reply bs_inside_try_row_path(bs_table *table, bs_txn txn, bs_node file, uint64_t number, const uint64_t *keys,
+                                size_t count, bs_mode mode, uint32_t keep) {
+  table_row row = table_row_of(file, number, keys, count);
+  return table_row_path_tried(table, txn, &row, mode, keep);
 }
 
 bs_reply bs_inside_insert(bs_table *table, bs_txn txn, bs_node file, const uint64_t *keys, size_t count) {

@@ -23,7 +23,8 @@
  * WHAT A CALL ANSWERS. A call answers as the call of a table that has its name (`bs_table_` for `bs_group_`), and is
  * refused as that, after these:
  *   - BS_NULL_POINTER;
- *   - BS_BAD_NUMBER: a mode that is none of enum bs_modes, BS_INSTANT among them, or a time that is not valid;
+ *   - BS_BAD_NUMBER: a mode that is none of enum bs_modes, BS_INSTANT among them, a time that is not valid, or a `keep`
+ *     that is none of enum bs_keeps;
  *   - BS_IN_USE: this thread holds a table, of the group or another, or is in a callback of a table;
  *   - BS_NO_MANAGER: the group was ended;
  *   - BS_NO_SUCH_TXN, of a call with a transaction;
@@ -153,6 +154,13 @@ bs_reply bs_group_lock_path(bs_table_group *group, bs_txn txn, bs_node node, bs_
 /* As bs_table_lock_row_path. */
 bs_reply bs_group_lock_row_path(bs_table_group *group, bs_txn txn, bs_node file, uint64_t number, const uint64_t *keys,
                                 size_t count, bs_mode mode, const struct timespec *until);
+
+/* The same by tries, as bs_table_try_path and bs_table_try_row_path: they never sleep. BS_WOULD_BLOCK: `node` is the one
+ * that cannot be had at once. `keep` is about the table of the node; what a path to another node got in the main table
+ * stays. */
+bs_reply bs_group_try_path(bs_table_group *group, bs_txn txn, bs_node node, bs_mode mode, uint32_t keep);
+bs_reply bs_group_try_row_path(bs_table_group *group, bs_txn txn, bs_node file, uint64_t number, const uint64_t *keys,
+                               size_t count, bs_mode mode, uint32_t keep);
 
 bs_reply bs_group_unlock_row(bs_table_group *group, bs_txn txn, bs_node file, uint64_t number);
 

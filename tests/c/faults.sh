@@ -366,7 +366,7 @@ a-session-s-list-wakes-nobody	/ table_session_commit(/,/^}/s/^  table_wake(.*//
 group-unmarks-under-a-request	s/, at->inner->in_progress).count/, 0).count/
 group-visits-no-sleepers	s/^    if (!bs_inside_sleeps(t->table, slot)) continue;/    continue;/
 group-visits-no-parents	s/^    if (!group_is_marked(t, inner->above\[above\])) status = .*/    ;/
-group-copies-nothing-before-a-sleep	s/^  if (status == BS_DONE \&\& way->may_sleep) status = group_copy_own(.*//
+group-copies-nothing-before-a-sleep	s/^  if (status == BS_DONE \&\& way->manner.may_sleep) status = group_copy_own(.*//
 group-looks-never	s/^  while (group_settle_one(group)) continue;//
 group-forgets-who-fell	s/^  if (__builtin_expect(reply.status == BS_VICTIM, 0)) own->has_fallen = true;//
 group-sees-no-marks	s/^  if (__builtin_expect(t->marks != 0, 0) \&\& /  if (false \&\& /
@@ -387,6 +387,9 @@ group-keeps-in-the-first-part	/^bs_reply bs_group_keep(/,/^}/s/part <= group->pa
 group-waits-for-who-rests	/^bs_reply bs_inside_commit_and_rest(/,/^}/s/^  if (reply.txn.age != 0) .*//
 group-escalates-not-past-who-rests	/^bs_reply bs_inside_escalate(/,/^}/s/table_do_escalate(/table_make_escalate(/
 group-wakes-nobody-by-what-it-keeps	/^bs_reply bs_inside_commit_and_rest(/,/^}/s/table_wake_after(table, reply, false)/reply/
+group-tries-keep-the-way	/ group_tries(/,/^}/s/^  manner.keep = keep;/  manner.keep = BS_KEEP_WAY;/
+group-tries-sleep	/ group_tries(/,/^}/s/NULL, false,/NULL, true,/
+group-refused-requests-leave-marks	/ group_lock_more(/,/^}/s/^  if (reply.status != BS_DONE) group_clear(.*//
 group-ends-one-who-rests	/^bs_status bs_inside_end_resting(/,/^}/s/  } while (reply.status == BS_DONE);/  } while (false);/
 a-refused-list-of-a-session-tells	/^size_t bs_session_run(/,/^}/s/^    table_list_of(table, commands\[0\].told)->count = 0;//
 FAULTS

@@ -249,6 +249,8 @@ static void null_groups_are_refused(void) {
   ANSWERS(BS_NULL_POINTER, bs_group_add_row_file(group, 1, NULL, 1));
   ANSWERS(BS_NULL_POINTER, bs_group_add_index(group, &base, 1, files[1], NULL, 1));
   ANSWERS(BS_NULL_POINTER, bs_group_lock_path(NULL, txn, base, BS_S, NULL));
+  ANSWERS(BS_NULL_POINTER, bs_group_try_path(NULL, txn, base, BS_S, BS_KEEP_WAY));
+  ANSWERS(BS_NULL_POINTER, bs_group_try_row_path(group, txn, row_files[1], 1, NULL, 1, BS_S, BS_KEEP_WAY));
   ANSWERS(BS_NULL_POINTER, bs_group_lock_row_path(NULL, txn, base, 1, NULL, 0, BS_S, NULL));
   ANSWERS(BS_NULL_POINTER, bs_group_lock_row_path(group, txn, base, 1, NULL, 1, BS_S, NULL));
   ANSWERS(BS_NULL_POINTER, bs_group_insert(NULL, txn, base, NULL, 0));
@@ -505,6 +507,44 @@ static void inserts_are_tried(void) {
   DONE(lock_path(other, records[1][0], BS_S));
   WANT(held_in(group, 0, other, base) == BS_IS && held_in(group, 1, other, base) == BS_IS);
   WANT(held_in(group, 0, other, area_of(1)) == BS_NL && held_in(group, 1, other, area_of(1)) == BS_IS);
+  commit(txn);
+  commit(other);
+  want_rest(group);
+}
+
+/* A try never sleeps either, and keeps what it got in the table of its node only if it is to. */
+static void paths_are_tried(void) {
+  bs_txn txn = begun(), other = begun();
+  bs_node record = records[1][0];
+  WANT(DONE(bs_group_try_path(group, txn, record, BS_X, BS_KEEP_NOTHING)).mode == BS_X);
+  WANT(group_is_node(ANSWERS(BS_WOULD_BLOCK, bs_group_try_path(group, other, record, BS_S, BS_KEEP_NOTHING)).node, record));
+  WANT(held_in(group, 1, other, base) == BS_NL && held_in(group, 1, other, files[1]) == BS_NL);
+  ANSWERS(BS_WOULD_BLOCK, bs_group_try_path(group, other, record, BS_S, BS_KEEP_WAY));
+  WANT(held_in(group, 1, other, base) == BS_IS && held_in(group, 1, other, files[1]) == BS_IS);
+  WANT(group_is_node(ANSWERS(BS_WOULD_BLOCK, bs_group_try_path(group, other, base, BS_S, BS_KEEP_NOTHING)).node, base));
+  WANT(held_in(group, 0, other, base) == BS_IS && marks_in(group, 1) == 0);
+  DONE(bs_group_try_path(group, other, areas[1], BS_S, BS_KEEP_NOTHING));
+  WANT(held_in(group, 0, other, areas[1]) == BS_S && marks_in(group, 1) == 1);
+  WANT(group_is_node(ANSWERS(BS_WOULD_BLOCK, bs_group_try_path(group, txn, files[2], BS_IX, BS_KEEP_WAY)).node, areas[1]));
+  ANSWERS(BS_BAD_NUMBER, bs_group_try_path(group, txn, record, BS_S, BS_KEEP_WAY + 1));
+  want_rules(group);
+  commit(txn);
+  commit(other);
+  want_rest(group);
+}
+
+static void row_paths_are_tried(void) {
+  bs_txn txn = begun(), other = begun();
+  const uint64_t key = 50, other_key = 150;
+  bs_node row = DONE(bs_group_try_row_path(group, txn, row_files[3], 7, &key, 1, BS_X, BS_KEEP_NOTHING)).node;
+  bs_reply reply = ANSWERS(BS_WOULD_BLOCK, bs_group_try_row_path(group, other, row_files[3], 7, &key, 1, BS_S, BS_KEEP_NOTHING));
+  WANT(bs_group_table(row) == 3 && group_is_node(reply.node, row));
+  WANT(held_in(group, 3, other, row_files[3]) == BS_NL && held_in(group, 3, other, base) == BS_NL);
+  ANSWERS(BS_WOULD_BLOCK, bs_group_try_row_path(group, other, row_files[3], 7, &key, 1, BS_S, BS_KEEP_WAY));
+  WANT(held_in(group, 3, other, row_files[3]) == BS_IS);
+  ANSWERS(BS_OTHER_KEYS, bs_group_try_row_path(group, txn, row_files[3], 7, &other_key, 1, BS_X, BS_KEEP_WAY));
+  ANSWERS(BS_NOT_ROWS, bs_group_try_row_path(group, txn, base, 7, &key, 1, BS_X, BS_KEEP_WAY));
+  ANSWERS(BS_BAD_NUMBER, bs_group_try_row_path(group, txn, row_files[3], 7, &key, 1, BS_X, BS_KEEP_WAY + 1));
   commit(txn);
   commit(other);
   want_rest(group);
@@ -1497,8 +1537,12 @@ static const struct timespec *some_time(crowd_thread *own, struct timespec *time
   return time;
 }
 
+/* Mostly a lock, and else a try. */
 static bool request(crowd_thread *own, bs_node node, bs_mode mode, bool *fell) {
   struct timespec time;
+  if (draw(own, 5) == 0) {
+    return was_granted(own, bs_group_try_path(group, own->txn, node, mode, draw(own, 2)), fell);
+  }
   return was_granted(own, bs_group_lock_path(group, own->txn, node, mode, some_time(own, &time)), fell);
 }
 
@@ -1544,8 +1588,13 @@ static void touch_row(crowd_thread *own, bool *fell) {
   uint64_t key = row * (uint64_t)50;
   bool writes = draw(own, 2) == 0;
   struct timespec time;
-  bs_reply reply = bs_group_lock_row_path(group, own->txn, row_files[part], row, &key, 1, writes ? BS_X : BS_S,
-                                          some_time(own, &time));
+  bs_mode mode = writes ? BS_X : BS_S;
+  bs_reply reply;
+  if (draw(own, 5) == 0) {
+    reply = bs_group_try_row_path(group, own->txn, row_files[part], row, &key, 1, mode, draw(own, 2));
+  } else {
+    reply = bs_group_lock_row_path(group, own->txn, row_files[part], row, &key, 1, mode, some_time(own, &time));
+  }
   if (!was_granted(own, reply, fell)) return;
   above_part(own, part, writes);
   below(own, &of_quarters[(part - 1) % AREAS], writes);
@@ -1703,7 +1752,7 @@ static const struct {
   STORY(null_groups_are_refused), STORY(wrong_graphs_are_refused), STORY(wrong_requests_are_refused),
   STORY(who_holds_a_table_is_refused), STORY(names_are_translated), STORY(one_part_needs_no_other),
   STORY(begins_have_ages), STORY_ALONE(records_come_and_go), STORY(rows_have_numbers), STORY(strong_locks_are_in_main),
-  STORY(inserts_are_tried), STORY(nodes_are_made_at_any_time), STORY(many_marks_are_reached),
+  STORY(inserts_are_tried), STORY(paths_are_tried), STORY(row_paths_are_tried), STORY(nodes_are_made_at_any_time), STORY(many_marks_are_reached),
   STORY_ALONE(answers_are_those_of_a_table),
   STORY(refused_memory_makes_no_group), STORY(refused_memory_breaks_no_rule),
   STORY(strong_waits_for_records_of_any_part), STORY(records_wait_for_strong), STORY(sleepers_are_visited),
