@@ -30,7 +30,8 @@
 //! granted, and which is aborted if it is dropped without a commit. One call locks a node or a row with all that
 //! must be held above it ([`Session::lock_path`], [`Session::lock_row_path`]). If there are more threads than slots
 //! they [begin in turn](Table::begin_in_turn). A thread keeps its intentions from one transaction to the next
-//! ([`Session::rest`]). A task of a runtime awaits its begin and its locks, and no thread sleeps
+//! ([`Session::rest`]). If threads wait for each other's calls, a [`Group`] gives the files of different threads tables
+//! with latches of their own, which work as one. A task of a runtime awaits its begin and its locks, and no thread sleeps
 //! ([`Table::begin_async`], [`Session::lock_async`]). A [`Watcher`] reads who waits for whom without the mutex. A
 //! table says how long waits last and where ([`Table::waits`], [`Table::awaited`], [`Table::metrics`]), and tells of
 //! long ones ([`Table::on_long_wait`]). What it does can be written as a script ([`Table::trace`]).
@@ -103,6 +104,8 @@
 mod answers;
 mod board;
 mod clock;
+#[cfg(target_pointer_width = "64")]
+mod group;
 mod list;
 mod listing;
 mod manager;
@@ -119,6 +122,8 @@ mod watcher;
 
 pub use answers::Answers;
 pub use board::{Board, SlotIter, Slots};
+#[cfg(target_pointer_width = "64")]
+pub use group::{Group, GroupSession};
 pub use list::{Do, Done, Halt, Named, NamedRow};
 pub use listing::{Counters, Deadlock, Doing, Listing, LockRow, Stuck, TxnRow, Waiter};
 pub use manager::{Asked, Escalated, Manager, Mark, Options, Reached, RowAsked, Wait};
@@ -166,6 +171,10 @@ pub const MOST_PARENTS: usize = 8;
 
 /// How many watchers a manager can have at once.
 pub const MOST_WATCHERS: usize = 8;
+
+/// How many parts a [`Group`] can have.
+#[cfg(target_pointer_width = "64")]
+pub const MOST_PARTS: usize = 63;
 
 /// The examples of the README.
 #[cfg(doctest)]

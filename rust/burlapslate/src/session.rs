@@ -126,12 +126,22 @@ pub enum Tried<T> {
 
 impl Tried<RowLocked> {
     /// By what a try was answered.
-    fn of(reply: &Reply) -> Result<Tried<RowLocked>, Refusal> {
+    pub(crate) fn of(reply: &Reply) -> Result<Tried<RowLocked>, Refusal> {
         match RowLocked::of(reply) {
             Some(locked) => Ok(Tried::Locked(locked)),
             None if reply.status == sys::WOULD_BLOCK => Ok(Tried::WouldBlock(reply.node)),
             None => Err(Refusal::of(reply)),
         }
+    }
+}
+
+impl Tried<Mode> {
+    /// The same of a node, which has no keys.
+    pub(crate) fn of_node(reply: &Reply) -> Result<Tried<Mode>, Refusal> {
+        Ok(match Tried::of(reply)? {
+            Tried::Locked(locked) => Tried::Locked(locked.mode()),
+            Tried::WouldBlock(node) => Tried::WouldBlock(node),
+        })
     }
 }
 
@@ -258,17 +268,25 @@ pub struct Session<'t> {
     kept: u32,
 }
 
-/// How a session has its table: borrowed, or as one of its owners.
-#[derive(Clone)]
-pub(crate) enum Handle<'t> {
-    Lent(&'t Table),
-    Shared(Arc<Table>),
+/// How a session has its table or its group: borrowed, or as one of its owners.
+pub(crate) enum Handle<'t, T = Table> {
+    Lent(&'t T),
+    Shared(Arc<T>),
 }
 
-impl Deref for Handle<'_> {
-    type Target = Table;
+impl<T> Clone for Handle<'_, T> {
+    fn clone(&self) -> Self {
+        match self {
+            Handle::Lent(table) => Handle::Lent(table),
+            Handle::Shared(table) => Handle::Shared(Arc::clone(table)),
+        }
+    }
+}
 
-    fn deref(&self) -> &Table {
+impl<T> Deref for Handle<'_, T> {
+    type Target = T;
+
+    fn deref(&self) -> &T {
         match self {
             Handle::Lent(table) => table,
             Handle::Shared(table) => table,
@@ -696,10 +714,7 @@ impl<'t> Session<'t> {
     ) -> Result<Tried<Mode>, Refusal> {
         let (mode, keep) = (mode as u32, keep.as_number());
         let reply = shared::bs_table_try_path(&self.call(), self.txn, node, mode, keep);
-        Ok(match Tried::of(&reply)? {
-            Tried::Locked(locked) => Tried::Locked(locked.mode()),
-            Tried::WouldBlock(node) => Tried::WouldBlock(node),
-        })
+        Tried::of_node(&reply)
     }
 
     /// As [`lock_row`](Session::lock_row), but the call never sleeps, joins no queue and makes nobody a

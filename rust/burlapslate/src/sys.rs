@@ -1,5 +1,5 @@
 //! The library's calls, as `include/burlapslate_calls.h` declares them. All unsafe code is here, in
-//! [`shared`], [`commands`], [`awaited`], [`begun`] and [`running`].
+//! [`shared`], [`commands`], [`awaited`], [`begun`], [`running`] and [`group`].
 //!
 //! A reference stands for a pointer that is not null, and says for the call what the header asks of
 //! it: what a call writes is behind a `&mut`, so it overlaps with nothing else and nobody else uses
@@ -25,6 +25,8 @@ use std::ptr::NonNull;
 pub(crate) mod awaited;
 pub(crate) mod begun;
 pub(crate) mod commands;
+#[cfg(target_pointer_width = "64")]
+pub(crate) mod group;
 pub(crate) mod running;
 pub(crate) mod shared;
 

@@ -9,6 +9,8 @@
 mod common;
 mod tasks;
 
+#[cfg(target_pointer_width = "64")]
+use burlapslate::Group;
 use burlapslate::{
     Answers, Detect, Do, Done, Halt, Keep, Manager, Mode, Node, Notice, Refusal, Row, RowAsked,
     RowLocked, Session, Stop, Table, Taken, Tried, Try, Txn, SLOTS,
@@ -16,6 +18,7 @@ use burlapslate::{
 use common::{at_block, begin, grant, manager, store, wait};
 use std::cell::Cell;
 use std::ffi::c_void;
+use std::fmt::Debug;
 use std::future::Future;
 use std::mem::forget;
 use std::ptr::null_mut;
@@ -601,4 +604,85 @@ fn a_row_that_is_tried_is_given_back() {
         two.commit().unwrap();
         assert_eq!(table.row_node(row), None);
     }
+}
+
+/// A group that is not made leaves nothing behind, nor does one that is dropped as it is.
+#[cfg(target_pointer_width = "64")]
+#[test]
+fn all_memory_of_a_group_comes_back() {
+    let before = BLOCKS.get();
+    for n in 1.. {
+        let (made, _) = refusing(Refused::Nth(n), || Group::new(2));
+        let Ok(group) = made else {
+            assert!(made.is_err_and(|refusal| refusal == Refusal::NoMemory));
+            assert_eq!(BLOCKS.get(), before);
+            continue;
+        };
+        assert!(n > 3);
+        let db = group.add_inner(&[]).unwrap();
+        let file = group.add_file(&[db]).unwrap();
+        let mut session = group.begin().unwrap();
+        let made = session.insert(file, &[]).unwrap();
+        assert!(matches!(made, Tried::Locked(_)));
+        session.commit().unwrap();
+        drop(group);
+        assert_eq!(BLOCKS.get(), before);
+        return;
+    }
+}
+
+/// What makes or acquires something can be called again after it was refused memory; what ends or releases something
+/// takes none.
+#[cfg(target_pointer_width = "64")]
+#[test]
+fn ends_in_a_group_take_none() {
+    fn again<T, E: PartialEq + Debug>(refused: E, mut call: impl FnMut() -> Result<T, E>) -> T {
+        for n in 1.. {
+            match refusing(Refused::From(n), &mut call).0 {
+                Ok(made) => return made,
+                Err(refusal) => assert_eq!(refusal, refused),
+            }
+        }
+        unreachable!()
+    }
+    let (none, no_lock) = (Refusal::NoMemory, Stop::Refused(Refusal::NoMemory));
+    let group = Group::new(2).unwrap();
+    let db = again(none, || group.add_inner(&[]));
+    let file = again(none, || group.add_file_in(1, &[db]));
+    let rows = again(none, || group.add_row_file_in(2, &[db]));
+    let index = again(none, || group.add_index(&[db], file, &[100]));
+    let row = Row {
+        file: rows,
+        number: 7,
+    };
+    let mut session = again(none, || group.begin());
+    let Tried::Locked(record) = again(none, || session.insert(file, &[50])) else {
+        unreachable!()
+    };
+    let own = again(no_lock, || session.lock_row_path(row, &[], Mode::X));
+    assert_eq!(own, RowLocked::Own(Mode::X));
+    let unlocked = without_memory(|| session.unlock_row(row));
+    assert_eq!(unlocked, Ok(()));
+    let rekeyed = without_memory(|| session.rekey(record, index, 60));
+    assert_eq!(rekeyed, Ok(()));
+    assert_eq!(without_memory(|| session.held(record)), Ok(Mode::X));
+    let escalated = without_memory(|| session.escalate(file).map(|escalated| escalated.mode));
+    assert_eq!(escalated, Ok(Mode::X));
+    assert_eq!(without_memory(|| session.delete(record)), Ok(()));
+    let strong = again(no_lock, || session.lock_path(db, Mode::SIX));
+    assert_eq!(strong, Mode::SIX);
+    assert_eq!(without_memory(|| session.commit()), Ok(()));
+    let mut session = group.begin().unwrap();
+    session.lock_path(file, Mode::X).unwrap();
+    without_memory(|| session.abort());
+    assert_eq!(without_memory(|| group.keep(16)), Ok(()));
+    for _ in 0..2 {
+        let mut session = group.begin().unwrap();
+        session.lock_path(file, Mode::X).unwrap();
+        assert_eq!(without_memory(|| session.commit()), Ok(()));
+    }
+    assert_eq!(without_memory(|| group.keep(0)), Ok(()));
+    let known = again(none, || group.adopt(file, &[1]));
+    assert_eq!(without_memory(|| group.forget(known)), Ok(()));
+    assert_eq!(without_memory(|| group.begin().map(drop)), Ok(()));
 }

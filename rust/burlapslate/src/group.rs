@@ -1,0 +1,728 @@
+//! A group of tables that work as one.
+
+use crate::clock::Clock;
+use crate::manager::{Escalated, Manager, Options};
+use crate::mode::{Detect, Mode};
+use crate::names::{Node, Row, Txn};
+use crate::refusal::{accepted, done, Refusal};
+use crate::session::{deadline, ended, Handle, Keep, RowLocked, Stop, Tried};
+use crate::sys::group::{self, Transaction};
+use crate::sys::shared::Time;
+use crate::table::node_of;
+use crate::MOST_PARTS;
+use std::fmt;
+use std::sync::Arc;
+use std::thread;
+use std::time::{Duration, Instant};
+
+/// A group of tables that work as one lock manager, each with a latch of its own. So threads that work in different
+/// parts do not wait for each other's calls. It is a `bs_table_group` of the library.
+///
+/// A group has a main table, whose number is 0, and 1 to [`MOST_PARTS`] parts, numbered from 1. Its inner nodes are in
+/// all of them. A file is in one part, with its indexes, their intervals and its records. A transaction, which is a
+/// [`GroupSession`], locks nodes of any parts. It joins a table with its first call there.
+///
+/// ```
+/// use burlapslate::{Group, Mode, Stop};
+/// use std::thread;
+///
+/// let group = Group::new(4)?;
+/// let db = group.add_inner(&[])?;
+/// let files = [(); 4].map(|()| group.add_file(&[db]).unwrap()); // In each part by turns.
+/// thread::scope(|scope| {
+///     for file in files {
+///         let group = &group;
+///         scope.spawn(move || {
+///             let mut session = group.begin()?;
+///             session.lock_path(file, Mode::X)?; // It also takes IX on `db`.
+///             session.commit()?;
+///             Ok::<(), Stop>(())
+///         });
+///     }
+/// });
+/// let mut backup = group.begin()?;
+/// backup.lock_path(db, Mode::S)?; // It reads all files, in all parts.
+/// backup.commit()?;
+/// # Ok::<(), Stop>(())
+/// ```
+///
+/// The rules are those of a [`Table`](crate::Table), with these differences:
+///
+/// - To read below a node that has several inner nodes as parents, a transaction needs the first of them, even if it
+///   holds `S` or more on another.
+/// - `IS` or `IX` on an inner node is locked in the main table. No transaction needs to request it: the locks below
+///   acquire their own intentions.
+/// - Nodes are neither moved nor dropped. Records are rekeyed and deleted.
+///
+/// More than an intention on an inner node (`S`, `SIX`, `X`) costs a visit of each part. As long as it lasts, each
+/// transaction that locks below that node needs one more call of the main table. Use it for rare work, such as a backup.
+///
+/// A deadlock within one table is ended as it arises. A deadlock over several tables is detected by a thread that sleeps:
+/// it looks after 2 ms, and then after twice as long each time, up to 256 ms. The victim of the latter is the youngest
+/// member.
+///
+/// # Names
+///
+/// The names of a group's nodes and transactions are its own: use them with no [`Table`](crate::Table) or [`Manager`],
+/// and with no other group. There they name nothing, or another node or transaction. [`name_in`](Group::name_in) translates the name
+/// of a node into that in one of the group's tables, for questions ([`with_table`](Group::with_table)).
+///
+/// # Refusals
+///
+/// Each call of a group, and of its sessions, is refused with [`InUse`](Refusal::InUse) in a waker and while the thread
+/// holds a table, of this group or any other. [`name_in`](Group::name_in) and [`name_of`](Group::name_of) may be called
+/// for the table that the thread holds.
+///
+/// Two tables share no node but the inner ones. So a node of another part than the call's is refused with
+/// [`NoSuchNode`](Refusal::NoSuchNode), and an inner node in place of a file, an index, an interval or a record with
+/// [`BadParents`](Refusal::BadParents), or with [`NotRows`](Refusal::NotRows) in place of a file of rows.
+///
+/// Proved are the laws by which several managers work as one, and what is decided by them. Written in C, and tested:
+/// the latches, the sleeps, and the calls that keep these laws.
+pub struct Group {
+    group: group::Group,
+    parts: u32,
+    clock: Clock,
+}
+
+/// Groups and their graph.
+impl Group {
+    /// Makes a group with so many parts, 1 to [`MOST_PARTS`], by the options of
+    /// [`Options::new`]`(`[`Detect::AtBlock`]`)`.
+    ///
+    /// Refused as [`with_options`](Group::with_options).
+    pub fn new(parts: usize) -> Result<Group, Refusal> {
+        Group::with_options(Options::new(Detect::AtBlock), parts)
+    }
+
+    /// Makes a group with so many parts, 1 to [`MOST_PARTS`]. Each of its tables may have as many nodes as the options
+    /// say, and the group as many transactions at once.
+    ///
+    /// Refused as [`Manager::with_options`]; with [`BadNumber`](Refusal::BadNumber) also for another number of parts,
+    /// and for other options than of [`Detect::AtBlock`].
+    pub fn with_options(options: Options, parts: usize) -> Result<Group, Refusal> {
+        let options = options.checked()?;
+        let parts = within(parts, MOST_PARTS)?;
+        Ok(Group {
+            group: group::Group::new(&options, parts)?,
+            parts,
+            clock: Clock::new(),
+        })
+    }
+
+    /// How many parts it has. Beside them it has the main table, whose number is 0.
+    pub fn parts(&self) -> usize {
+        self.parts as usize
+    }
+
+    /// The number of the table that has a node of a group: 0 for an inner node, which is in all of them, or the part of
+    /// any other.
+    pub fn table_of(node: Node) -> usize {
+        node.key >> 32
+    }
+
+    /// As [`Manager::add_inner`], in all tables. Costs the latches of all tables at once.
+    ///
+    /// Refused as that call, and with [`TooManyNodes`](Refusal::TooManyNodes) if any table is full. After
+    /// [`NoMemory`](Refusal::NoMemory) some tables may keep a node that nobody can name.
+    pub fn add_inner(&self, parents: &[Node]) -> Result<Node, Refusal> {
+        node_of(self.group.add_inner(parents))
+    }
+
+    /// As [`Manager::add_file`], in each part by turns.
+    pub fn add_file(&self, parents: &[Node]) -> Result<Node, Refusal> {
+        node_of(self.group.add_file(0, parents))
+    }
+
+    /// As [`Manager::add_file`], in this part, from 1 on.
+    ///
+    /// Refused as that call, and with [`BadNumber`](Refusal::BadNumber) if there is no such part.
+    ///
+    /// ```
+    /// # use burlapslate::{Group, Refusal};
+    /// # let group = Group::new(2)?;
+    /// # let db = group.add_inner(&[])?;
+    /// let orders = group.add_file_in(2, &[db])?;
+    /// assert_eq!((Group::table_of(orders), Group::table_of(db)), (2, 0));
+    /// assert_eq!(group.add_file_in(0, &[db]), Err(Refusal::BadNumber)); // The main table has no files.
+    /// # Ok::<(), Refusal>(())
+    /// ```
+    pub fn add_file_in(&self, part: usize, parents: &[Node]) -> Result<Node, Refusal> {
+        node_of(self.group.add_file(self.part(part)?, parents))
+    }
+
+    /// As [`Manager::add_row_file`], in each part by turns.
+    pub fn add_row_file(&self, parents: &[Node]) -> Result<Node, Refusal> {
+        node_of(self.group.add_row_file(0, parents))
+    }
+
+    /// As [`Manager::add_row_file`], in this part, from 1 on.
+    ///
+    /// Refused as that call, and with [`BadNumber`](Refusal::BadNumber) if there is no such part.
+    pub fn add_row_file_in(&self, part: usize, parents: &[Node]) -> Result<Node, Refusal> {
+        node_of(self.group.add_row_file(self.part(part)?, parents))
+    }
+
+    /// As [`Manager::add_index`], in the part of the file.
+    pub fn add_index(&self, parents: &[Node], file: Node, bounds: &[u64]) -> Result<Node, Refusal> {
+        node_of(self.group.add_index(parents, file, bounds))
+    }
+
+    /// As [`Manager::adopt`].
+    pub fn adopt(&self, file: Node, keys: &[u64]) -> Result<Node, Refusal> {
+        node_of(self.group.adopt(file, keys))
+    }
+
+    /// As [`Manager::forget`].
+    pub fn forget(&self, record: Node) -> Result<(), Refusal> {
+        done(self.group.forget(record))
+    }
+}
+
+/// Transactions.
+impl Group {
+    /// A new transaction, for this thread. It costs no latch. A slot takes 64 ages at a time, so a later transaction of
+    /// another slot may have a smaller age, and counts as the older one.
+    ///
+    /// Refused with [`TooManyTxns`](Refusal::TooManyTxns).
+    pub fn begin(&self) -> Result<GroupSession<'_>, Refusal> {
+        self.begin_again(u64::MAX)
+    }
+
+    /// As [`begin`](Group::begin), for work that an earlier transaction began, as [`Manager::begin_again`]: in a
+    /// deadlock it counts as old as that.
+    ///
+    /// ```
+    /// # use burlapslate::{Group, Mode, Stop};
+    /// let group = Group::new(2)?;
+    /// let db = group.add_inner(&[])?;
+    /// let mut session = group.begin()?;
+    /// let since = session.txn().age();
+    /// while session.lock_path(db, Mode::X) == Err(Stop::Victim) {
+    ///     session.abort();
+    ///     session = group.begin_again(since)?;
+    /// }
+    /// session.commit()?;
+    /// # Ok::<(), Stop>(())
+    /// ```
+    pub fn begin_again(&self, since: u64) -> Result<GroupSession<'_>, Refusal> {
+        GroupSession::begin(Handle::Lent(self), since)
+    }
+
+    /// From now on a commit keeps in each part the first locks there that are intentions, at most so many, for the next
+    /// transaction of its slot; 16 is usual. The next transaction of a thread mostly has the same slot. With 0, as at
+    /// first, commits keep nothing, and this call releases what they kept.
+    ///
+    /// What is kept rests in the part, and belongs to no transaction of the group. It is released as soon as it blocks a
+    /// request. The next transaction of the slot takes it up with its first call in the part. That transaction may then
+    /// hold intentions that it has not requested, for which others wait until it ends. An abort keeps nothing. A
+    /// transaction of [`begin_again`](Group::begin_again) takes nothing up: its first call in a part releases what rests
+    /// there for its slot.
+    ///
+    /// A commit keeps nothing in a part while an inner node is locked in more than an intention, or is requested so. Such
+    /// a request first releases all that rests in the group.
+    ///
+    /// When a victim is chosen within a part, a transaction that took something up there counts as one that began at the
+    /// commit that kept it. Costs the latch of each part, one after the other.
+    ///
+    /// ```
+    /// # use burlapslate::{Group, Mode, Stop};
+    /// # let group = Group::new(2)?;
+    /// # let db = group.add_inner(&[])?;
+    /// # let files = [group.add_file_in(1, &[db])?, group.add_file_in(1, &[db])?];
+    /// group.keep(16)?;
+    /// let mut session = group.begin()?;
+    /// session.lock_path(files[0], Mode::X)?;
+    /// session.commit()?; // It keeps IX on `db` in part 1.
+    /// let mut session = group.begin()?;
+    /// session.lock_path(files[1], Mode::S)?; // It takes that up.
+    /// assert_eq!(session.held(db), Ok(Mode::IX));
+    /// # Ok::<(), Stop>(())
+    /// ```
+    pub fn keep(&self, most: usize) -> Result<(), Refusal> {
+        done(self.group.keep(u32::try_from(most).unwrap_or(u32::MAX)))
+    }
+
+    /// As [`begin`](Group::begin), for a session that is one of the group's owners: what stores the session, such as a
+    /// connection, need not store the group.
+    ///
+    /// ```
+    /// use burlapslate::{Group, GroupSession, Mode};
+    /// use std::sync::Arc;
+    ///
+    /// struct Connection {
+    ///     session: GroupSession<'static>,
+    /// }
+    ///
+    /// let group = Arc::new(Group::new(2)?);
+    /// let db = group.add_inner(&[])?;
+    /// let mut connection = Connection {
+    ///     session: group.begin_shared()?,
+    /// };
+    /// drop(group);
+    /// assert_eq!(connection.session.lock_path(db, Mode::X), Ok(Mode::X));
+    /// connection.session.commit()?;
+    /// # Ok::<(), burlapslate::Refusal>(())
+    /// ```
+    pub fn begin_shared(self: &Arc<Group>) -> Result<GroupSession<'static>, Refusal> {
+        self.begin_shared_again(u64::MAX)
+    }
+
+    /// As [`begin_again`](Group::begin_again), for a session that is one of the group's owners.
+    pub fn begin_shared_again(
+        self: &Arc<Group>,
+        since: u64,
+    ) -> Result<GroupSession<'static>, Refusal> {
+        GroupSession::begin(Handle::Shared(Arc::clone(self)), since)
+    }
+}
+
+/// Questions.
+impl Group {
+    /// Asks questions of one of the group's tables, by its number, that are all of one moment, with its latch held. The
+    /// manager has names of its own: of nodes, as [`name_in`](Group::name_in) and [`name_of`](Group::name_of) say, and of
+    /// transactions, which have the slot of the group's, but another age. What a commit has kept
+    /// ([`keep`](Group::keep)) is a transaction there.
+    ///
+    /// Refused with [`BadNumber`](Refusal::BadNumber) if there is no such table, and with [`InUse`](Refusal::InUse) in a
+    /// waker and if the thread holds a table already, as within the closure.
+    ///
+    /// ```
+    /// # use burlapslate::{Group, Mode, Stop};
+    /// # let group = Group::new(2)?;
+    /// # let db = group.add_inner(&[])?;
+    /// let orders = group.add_file_in(2, &[db])?;
+    /// let mut session = group.begin()?;
+    /// session.lock_path(orders, Mode::X)?;
+    /// let name = group.name_in(orders, 2)?;
+    /// assert_eq!(group.with_table(2, |m| m.group(name))?, Ok(Mode::X));
+    /// assert!(group.with_table(1, |m| m.transactions().next().is_none())?); // It needs no other part.
+    /// # Ok::<(), Stop>(())
+    /// ```
+    pub fn with_table<T>(
+        &self,
+        table: usize,
+        ask: impl FnOnce(&Manager) -> T,
+    ) -> Result<T, Refusal> {
+        let asked = self.group.with(self.table(table)?, ask);
+        asked.ok_or(Refusal::InUse)
+    }
+
+    /// The name of a node of the group in one of its tables, by the table's number. A name of a node that is not an inner
+    /// one is translated whether it names a node or not.
+    ///
+    /// Refused with [`BadNumber`](Refusal::BadNumber) if there is no such table, with [`InUse`](Refusal::InUse) if the
+    /// thread holds another one, and with [`NoSuchNode`](Refusal::NoSuchNode) if the node is not there.
+    pub fn name_in(&self, node: Node, table: usize) -> Result<Node, Refusal> {
+        node_of(self.group.name_in(node, self.table(table)?))
+    }
+
+    /// The name in the group of a node of one of its tables, by the table's number.
+    ///
+    /// Refused as [`name_in`](Group::name_in).
+    ///
+    /// ```
+    /// # use burlapslate::{Group, Refusal};
+    /// # let group = Group::new(2)?;
+    /// let db = group.add_inner(&[])?;
+    /// for table in 0..=group.parts() {
+    ///     let name = group.name_in(db, table)?;
+    ///     assert_eq!(group.name_of(name, table), Ok(db));
+    /// }
+    /// # Ok::<(), Refusal>(())
+    /// ```
+    pub fn name_of(&self, node: Node, table: usize) -> Result<Node, Refusal> {
+        node_of(self.group.name_of(node, self.table(table)?))
+    }
+
+    /// The number of a part.
+    fn part(&self, part: usize) -> Result<u32, Refusal> {
+        if part == 0 {
+            return Err(Refusal::BadNumber);
+        }
+        self.table(part)
+    }
+
+    /// The number of a table.
+    fn table(&self, table: usize) -> Result<u32, Refusal> {
+        within(table, self.parts())
+    }
+
+    /// The group of the library.
+    pub(crate) fn shared(&self) -> &group::Group {
+        &self.group
+    }
+
+    /// A time as the library takes it.
+    fn time(&self, until: Option<Instant>) -> Option<Time> {
+        until.map(|until| self.clock.time(until))
+    }
+}
+
+/// A number that is not above this one.
+fn within(number: usize, most: usize) -> Result<u32, Refusal> {
+    let number = Some(number).filter(|number| *number <= most);
+    let number = number.and_then(|number| u32::try_from(number).ok());
+    number.ok_or(Refusal::BadNumber)
+}
+
+/// How many parts it has.
+impl fmt::Debug for Group {
+    fn fmt(&self, f: &mut fmt::Formatter<'_>) -> fmt::Result {
+        let mut shown = f.debug_struct("Group");
+        shown.field("parts", &self.parts).finish_non_exhaustive()
+    }
+}
+
+/// A transaction of a [`Group`], which one thread drives. A lock call sleeps until the lock is granted. A session that is
+/// dropped without a commit is aborted, so that its locks never outlive it: undo what it wrote first. Within a closure of
+/// [`Group::with_table`] or [`Table::with`](crate::Table::with), and in a waker, it cannot be aborted: a drop panics there.
+/// It borrows its group, or is one of its owners ([`Group::begin_shared`]).
+///
+/// ```
+/// use burlapslate::{Group, Mode};
+///
+/// let group = Group::new(2)?;
+/// let db = group.add_inner(&[])?;
+/// let mut session = group.begin()?;
+/// assert_eq!(session.lock_path(db, Mode::X), Ok(Mode::X));
+/// drop(session); // It is aborted.
+/// assert_eq!(group.begin()?.lock_path(db, Mode::X), Ok(Mode::X));
+/// # Ok::<(), burlapslate::Refusal>(())
+/// ```
+///
+/// It ends once:
+///
+/// ```compile_fail,E0382
+/// # use burlapslate::{Group, Mode, Stop};
+/// # let group = Group::new(2)?;
+/// # let db = group.add_inner(&[])?;
+/// let mut session = group.begin()?;
+/// session.commit()?;
+/// session.lock_path(db, Mode::X)?; // It has ended.
+/// # Ok::<(), Stop>(())
+/// ```
+///
+/// It does not outlive a group that it borrows:
+///
+/// ```compile_fail,E0505
+/// # use burlapslate::{Group, Stop};
+/// # let group = Group::new(2)?;
+/// let session = group.begin()?;
+/// drop(group);
+/// session.commit()?;
+/// # Ok::<(), Stop>(())
+/// ```
+///
+/// The calls of one transaction come from one thread at a time. So a session is `Send`, and not `Sync`: a thread may give
+/// it to another, and two threads have no part in one.
+///
+/// ```compile_fail,E0277
+/// # use burlapslate::{Group, Refusal};
+/// # let group = Group::new(2)?;
+/// # let db = group.add_inner(&[])?;
+/// let session = group.begin()?;
+/// std::thread::scope(|scope| {
+///     scope.spawn(|| session.held(db)); // A second thread has no part in it.
+/// });
+/// # Ok::<(), Refusal>(())
+/// ```
+#[must_use = "a session that is dropped is aborted"]
+pub struct GroupSession<'g> {
+    transaction: Transaction<'g>,
+    has_ended: bool,
+}
+
+impl<'g> GroupSession<'g> {
+    fn begin(group: Handle<'g, Group>, since: u64) -> Result<GroupSession<'g>, Refusal> {
+        Ok(GroupSession {
+            transaction: Transaction::begin(group, since)?,
+            has_ended: false,
+        })
+    }
+
+    /// The name of its transaction in the group: its slot, and its age for [`Group::begin_again`].
+    pub fn txn(&self) -> Txn {
+        self.transaction.name()
+    }
+
+    /// Locks a node with what must be held above it, as [`Session::lock_path`](crate::Session::lock_path), and answers
+    /// the mode that is held then. If an inner node above a file or its nodes is locked in more than an intention, or
+    /// somebody waits for that, the call may sleep in the main table first. The answer is never [`Stop::Moved`] or
+    /// [`Stop::Cancelled`].
+    ///
+    /// More than an intention on an inner node is the mode that the main table grants: what the transaction holds there
+    /// alone, it keeps until it ends. [`held`](GroupSession::held) says what it holds in all tables.
+    ///
+    /// ```
+    /// # use burlapslate::{Group, Mode, Stop};
+    /// # let group = Group::new(2)?;
+    /// # let db = group.add_inner(&[])?;
+    /// # let file = group.add_file(&[db])?;
+    /// let mut session = group.begin()?;
+    /// assert_eq!(session.lock_path(file, Mode::X), Ok(Mode::X));
+    /// assert_eq!(session.held(db), Ok(Mode::IX));
+    /// session.commit()?;
+    /// # Ok::<(), Stop>(())
+    /// ```
+    pub fn lock_path(&mut self, node: Node, mode: Mode) -> Result<Mode, Stop> {
+        self.path(node, mode, None)
+    }
+
+    /// As [`lock_path`](GroupSession::lock_path), but after this time the wait is cancelled and answered with
+    /// [`Stop::TimedOut`]. A lock that was granted by then is answered as granted.
+    ///
+    /// ```
+    /// # use burlapslate::{Group, Mode, Stop};
+    /// # use std::time::Duration;
+    /// # let group = Group::new(2)?;
+    /// # let db = group.add_inner(&[])?;
+    /// # let file = group.add_file(&[db])?;
+    /// let (mut first, mut second) = (group.begin()?, group.begin()?);
+    /// first.lock_path(file, Mode::S)?;
+    /// let end = second.lock_path_timeout(file, Mode::X, Duration::from_millis(1));
+    /// assert_eq!(end, Err(Stop::TimedOut));
+    /// assert_eq!(second.lock_path(file, Mode::S), Ok(Mode::S));
+    /// # Ok::<(), Stop>(())
+    /// ```
+    pub fn lock_path_timeout(
+        &mut self,
+        node: Node,
+        mode: Mode,
+        time: Duration,
+    ) -> Result<Mode, Stop> {
+        self.path(node, mode, deadline(time))
+    }
+
+    /// As [`lock_path_timeout`](GroupSession::lock_path_timeout), with the time at which a wait is cancelled.
+    pub fn lock_path_until(
+        &mut self,
+        node: Node,
+        mode: Mode,
+        until: Instant,
+    ) -> Result<Mode, Stop> {
+        self.path(node, mode, Some(until))
+    }
+
+    fn path(&mut self, node: Node, mode: Mode, until: Option<Instant>) -> Result<Mode, Stop> {
+        let until = self.transaction.owner().time(until);
+        let reply = self.transaction.lock_path(node, mode as u32, until);
+        ended(&reply).map(RowLocked::mode)
+    }
+
+    /// Locks a row with what must be held above it, as [`Session::lock_row_path`](crate::Session::lock_row_path). The end
+    /// of the session lets its rows go.
+    ///
+    /// ```
+    /// # use burlapslate::{Group, Mode, Row, RowLocked, Stop};
+    /// # let group = Group::new(2)?;
+    /// # let db = group.add_inner(&[])?;
+    /// let file = group.add_row_file(&[db])?;
+    /// let days = group.add_index(&[db], file, &[100, 200])?;
+    /// let mut session = group.begin()?;
+    /// let row = Row { file, number: 7 };
+    /// assert_eq!(session.lock_row_path(row, &[150], Mode::X)?, RowLocked::Own(Mode::X));
+    /// for node in [db, file, days] {
+    ///     assert_eq!(session.held(node), Ok(Mode::IX));
+    /// }
+    /// # Ok::<(), Stop>(())
+    /// ```
+    pub fn lock_row_path(&mut self, row: Row, keys: &[u64], mode: Mode) -> Result<RowLocked, Stop> {
+        self.row_path(row, keys, mode, None)
+    }
+
+    /// As [`lock_row_path`](GroupSession::lock_row_path), but after this time the wait is cancelled and answered with
+    /// [`Stop::TimedOut`]. The row is let go then, and what was locked above it stays.
+    pub fn lock_row_path_timeout(
+        &mut self,
+        row: Row,
+        keys: &[u64],
+        mode: Mode,
+        time: Duration,
+    ) -> Result<RowLocked, Stop> {
+        self.row_path(row, keys, mode, deadline(time))
+    }
+
+    /// As [`lock_row_path_timeout`](GroupSession::lock_row_path_timeout), with the time at which the wait is cancelled.
+    pub fn lock_row_path_until(
+        &mut self,
+        row: Row,
+        keys: &[u64],
+        mode: Mode,
+        until: Instant,
+    ) -> Result<RowLocked, Stop> {
+        self.row_path(row, keys, mode, Some(until))
+    }
+
+    fn row_path(
+        &mut self,
+        row: Row,
+        keys: &[u64],
+        mode: Mode,
+        until: Option<Instant>,
+    ) -> Result<RowLocked, Stop> {
+        let until = self.transaction.owner().time(until);
+        ended(
+            &self
+                .transaction
+                .lock_row_path(row, keys, mode as u32, until),
+        )
+    }
+
+    /// Locks a node with what must be held above it, as [`Session::try_lock_path`](crate::Session::try_lock_path): each
+    /// lock by a try, also in the main table. The call never sleeps, joins no queue and makes nobody a victim. It answers
+    /// the mode that is held then, or the node, this one or one above it, for which the transaction would have to wait.
+    /// For an inner node it answers the mode in the main table, as [`lock_path`](GroupSession::lock_path).
+    ///
+    /// If the call fails after some of the locks, `keep` says what becomes of those in the table of the node. If that
+    /// table is a part, the locks that the call acquired in the main table stay.
+    ///
+    /// ```
+    /// # use burlapslate::{Group, Keep, Mode, Refusal, Tried};
+    /// # let group = Group::new(2)?;
+    /// # let db = group.add_inner(&[])?;
+    /// # let file = group.add_file(&[db])?;
+    /// let (mut first, mut second) = (group.begin()?, group.begin()?);
+    /// let tried = first.try_lock_path(file, Mode::X, Keep::Nothing)?;
+    /// assert_eq!(tried, Tried::Locked(Mode::X));
+    /// let tried = second.try_lock_path(file, Mode::S, Keep::Nothing)?;
+    /// assert_eq!(tried, Tried::WouldBlock(file));
+    /// assert_eq!(second.held(db), Ok(Mode::NL));
+    /// # Ok::<(), Refusal>(())
+    /// ```
+    pub fn try_lock_path(
+        &mut self,
+        node: Node,
+        mode: Mode,
+        keep: Keep,
+    ) -> Result<Tried<Mode>, Refusal> {
+        let (mode, keep) = (mode as u32, keep.as_number());
+        Tried::of_node(&self.transaction.try_path(node, mode, keep))
+    }
+
+    /// Locks a row with what must be held above it, as [`Session::try_lock_row_path`](crate::Session::try_lock_row_path):
+    /// each lock by a try, also in the main table. The call never sleeps, joins no queue and makes nobody a victim. It
+    /// answers how the row is held then, or the node, the row's or one above it, for which the transaction would have to
+    /// wait. `keep` is as in [`try_lock_path`](GroupSession::try_lock_path).
+    ///
+    /// ```
+    /// # use burlapslate::{Group, Keep, Mode, Refusal, Row, RowLocked, Tried};
+    /// # let group = Group::new(2)?;
+    /// # let db = group.add_inner(&[])?;
+    /// # let file = group.add_row_file(&[db])?;
+    /// let row = Row { file, number: 7 };
+    /// let (mut first, mut second) = (group.begin()?, group.begin()?);
+    /// let tried = first.try_lock_row_path(row, &[], Mode::X, Keep::Nothing)?;
+    /// assert_eq!(tried, Tried::Locked(RowLocked::Own(Mode::X)));
+    /// let tried = second.try_lock_row_path(row, &[], Mode::S, Keep::Way)?;
+    /// assert!(matches!(tried, Tried::WouldBlock(node) if first.held(node) == Ok(Mode::X)));
+    /// assert_eq!(second.held(file), Ok(Mode::IS)); // It is on the way.
+    /// # Ok::<(), Refusal>(())
+    /// ```
+    pub fn try_lock_row_path(
+        &mut self,
+        row: Row,
+        keys: &[u64],
+        mode: Mode,
+        keep: Keep,
+    ) -> Result<Tried<RowLocked>, Refusal> {
+        let (mode, keep) = (mode as u32, keep.as_number());
+        Tried::of(&self.transaction.try_row_path(row, keys, mode, keep))
+    }
+
+    /// As [`Manager::unlock_row`].
+    pub fn unlock_row(&mut self, row: Row) -> Result<(), Refusal> {
+        done(self.transaction.unlock_row(row))
+    }
+
+    /// As [`Manager::escalate`], of a file, an index or an interval.
+    ///
+    /// Refused as that call, and with [`BadParents`](Refusal::BadParents) for an inner node.
+    pub fn escalate(&mut self, node: Node) -> Result<Escalated, Refusal> {
+        let reply = accepted(self.transaction.escalate(node))?;
+        Ok(Escalated::of(&reply))
+    }
+
+    /// Makes a record with what must be held above it, as [`Session::insert_path`](crate::Session::insert_path): each
+    /// lock by a try, also in the main table. The call never sleeps: it answers the record, or the node above it for
+    /// which the transaction would have to wait. If the call fails, it keeps nothing of what it acquired in the part, but
+    /// what it acquired in the main table stays.
+    ///
+    /// ```
+    /// # use burlapslate::{Group, Mode, Refusal, Tried};
+    /// # let group = Group::new(2)?;
+    /// # let db = group.add_inner(&[])?;
+    /// let orders = group.add_file(&[db])?;
+    /// let mut session = group.begin()?;
+    /// let Tried::Locked(order) = session.insert(orders, &[])? else { unreachable!() };
+    /// assert_eq!(session.held(order), Ok(Mode::X));
+    /// session.commit()?;
+    /// # Ok::<(), Refusal>(())
+    /// ```
+    pub fn insert(&mut self, file: Node, keys: &[u64]) -> Result<Tried<Node>, Refusal> {
+        let reply = self.transaction.insert(file, keys);
+        Ok(match Tried::of(&reply)? {
+            Tried::Locked(_) => Tried::Locked(reply.node),
+            Tried::WouldBlock(node) => Tried::WouldBlock(node),
+        })
+    }
+
+    /// As [`Manager::delete`]. Threads that sleep for the record are woken. What the call needs must be held.
+    pub fn delete(&mut self, record: Node) -> Result<(), Refusal> {
+        done(self.transaction.delete(record))
+    }
+
+    /// As [`Manager::rekey`]. What the call needs must be held.
+    pub fn rekey(&mut self, record: Node, index: Node, key: u64) -> Result<(), Refusal> {
+        done(self.transaction.rekey(record, index, key))
+    }
+
+    /// As [`Manager::rekey_row`]. What the call needs must be held.
+    pub fn rekey_row(&mut self, row: Row, index: Node, key: u64) -> Result<(), Refusal> {
+        done(self.transaction.rekey_row(row, index, key))
+    }
+
+    /// The mode in which the transaction holds a node; of an inner node the supremum of what it holds in all tables, with
+    /// what it has taken up there ([`Group::keep`]). Also of a victim.
+    ///
+    /// Refused with [`NoSuchNode`](Refusal::NoSuchNode). Costs the latch of the node's part; of an inner node the latches
+    /// of the main table and of the transaction's parts, one after the other.
+    pub fn held(&self, node: Node) -> Result<Mode, Refusal> {
+        let reply = accepted(self.transaction.held(node))?;
+        Ok(Mode::of(reply.mode))
+    }
+
+    /// Commits in each of its tables, one after the other, and wakes the waiters that are granted by it. What it has
+    /// released in one table others can have before it ends in the next. If the commit is refused, because the
+    /// transaction was condemned, the session is aborted.
+    ///
+    /// Refused with [`TxnCondemned`](Refusal::TxnCondemned).
+    pub fn commit(mut self) -> Result<(), Refusal> {
+        let end = done(self.transaction.commit());
+        self.has_ended = end.is_ok();
+        end
+    }
+
+    /// Aborts. A session that is dropped does the same.
+    pub fn abort(self) {}
+}
+
+impl Drop for GroupSession<'_> {
+    fn drop(&mut self) {
+        if !self.has_ended {
+            let end = done(self.transaction.abort());
+            let is_lost = end == Err(Refusal::InUse) && !thread::panicking();
+            assert!(
+                !is_lost,
+                "a session was dropped while its thread held a table"
+            );
+        }
+    }
+}
+
+impl fmt::Debug for GroupSession<'_> {
+    fn fmt(&self, f: &mut fmt::Formatter<'_>) -> fmt::Result {
+        let name = self.transaction.name();
+        f.debug_tuple("GroupSession").field(&name).finish()
+    }
+}

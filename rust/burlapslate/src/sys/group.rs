@@ -1,0 +1,341 @@
+//! The calls with a group of tables, as `include/burlapslate_group.h` declares them.
+//!
+//! Any thread may make any call with a group, so these take it by `&`. Those of one transaction come from one thread at
+//! a time: a [`Transaction`] makes them, which is no copy of another and is not `Sync`. A group is freed when its owner
+//! drops it, and no thread is in a call then, because each call borrows it.
+
+use super::shared::{Time, Until};
+use super::{assert_fits, nodes, numbers, Options, Pinned, Place, Reply, IN_USE};
+use crate::group::Group as Owner;
+use crate::manager::Manager;
+use crate::names::{Node, Row, Txn};
+use crate::refusal::{accepted, Refusal};
+use crate::session::Handle;
+use std::cell::{Cell, UnsafeCell};
+use std::marker::PhantomData;
+use std::mem::ManuallyDrop;
+use std::panic::{RefUnwindSafe, UnwindSafe};
+use std::ptr::{null_mut, NonNull};
+use std::thread;
+
+/// `bs_table_group`, which callers know by its address alone.
+#[repr(C)]
+struct Shared {
+    _own: UnsafeCell<[u8; 0]>,
+}
+
+// SAFETY: these are the calls of the header, and their types have the layout of its types. Those that are safe have no
+// conditions but what their types say: an `Option` of a reference is a pointer that may be null. Those with a transaction
+// are not: no two threads may be in calls of one transaction.
+unsafe extern "C" {
+    fn bs_call_group_make(
+        group: &mut *mut Shared,
+        options: &Options,
+        size: usize,
+        parts: u32,
+    ) -> Reply;
+    safe fn bs_group_end(group: &Shared) -> Reply;
+    fn bs_group_free(group: &mut *mut Shared) -> Reply;
+
+    fn bs_group_add_inner(group: &Shared, parents: *const Node, count: usize) -> Reply;
+    fn bs_group_add_file(group: &Shared, part: u32, parents: *const Node, count: usize) -> Reply;
+    fn bs_group_add_row_file(
+        group: &Shared,
+        part: u32,
+        parents: *const Node,
+        count: usize,
+    ) -> Reply;
+    fn bs_group_add_index(
+        group: &Shared,
+        parents: *const Node,
+        count: usize,
+        file: Node,
+        bounds: *const u64,
+        bound_count: usize,
+    ) -> Reply;
+    fn bs_group_adopt(group: &Shared, file: Node, keys: *const u64, count: usize) -> Reply;
+    safe fn bs_group_forget(group: &Shared, record: Node) -> Reply;
+
+    safe fn bs_group_keep(group: &Shared, most: u32) -> Reply;
+    safe fn bs_group_begin_again(group: &Shared, since: u64) -> Reply;
+    fn bs_group_commit(group: &Shared, txn: Txn) -> Reply;
+    fn bs_group_abort(group: &Shared, txn: Txn) -> Reply;
+    fn bs_group_lock_path(
+        group: &Shared,
+        txn: Txn,
+        node: Node,
+        mode: u32,
+        until: Until<'_>,
+    ) -> Reply;
+    fn bs_group_lock_row_path(
+        group: &Shared,
+        txn: Txn,
+        file: Node,
+        number: u64,
+        keys: *const u64,
+        count: usize,
+        mode: u32,
+        until: Until<'_>,
+    ) -> Reply;
+    fn bs_group_try_path(group: &Shared, txn: Txn, node: Node, mode: u32, keep: u32) -> Reply;
+    fn bs_group_try_row_path(
+        group: &Shared,
+        txn: Txn,
+        file: Node,
+        number: u64,
+        keys: *const u64,
+        count: usize,
+        mode: u32,
+        keep: u32,
+    ) -> Reply;
+    fn bs_group_unlock_row(group: &Shared, txn: Txn, file: Node, number: u64) -> Reply;
+    fn bs_group_escalate(group: &Shared, txn: Txn, node: Node) -> Reply;
+    fn bs_group_insert(
+        group: &Shared,
+        txn: Txn,
+        file: Node,
+        keys: *const u64,
+        count: usize,
+    ) -> Reply;
+    fn bs_group_delete(group: &Shared, txn: Txn, record: Node) -> Reply;
+    fn bs_group_rekey(group: &Shared, txn: Txn, record: Node, index: Node, key: u64) -> Reply;
+    fn bs_group_rekey_row(
+        group: &Shared,
+        txn: Txn,
+        file: Node,
+        number: u64,
+        index: Node,
+        key: u64,
+    ) -> Reply;
+    fn bs_group_held(group: &Shared, txn: Txn, node: Node) -> Reply;
+
+    safe fn bs_group_hold(group: &Shared, table: u32) -> Option<NonNull<Place>>;
+    safe fn bs_group_let_go(group: &Shared, table: u32) -> Reply;
+    safe fn bs_group_name_in(group: &Shared, node: Node, table: u32) -> Reply;
+    safe fn bs_group_name_of(group: &Shared, node: Node, table: u32) -> Reply;
+}
+
+/// A group, which ends with this.
+pub(crate) struct Group {
+    at: NonNull<Shared>,
+}
+
+// SAFETY: any thread may make any call with a group, and any thread may end it.
+unsafe impl Send for Group {}
+
+// SAFETY: the same.
+unsafe impl Sync for Group {}
+
+// No panic passes through a call of the library.
+impl UnwindSafe for Group {}
+impl RefUnwindSafe for Group {}
+
+impl Group {
+    /// Makes a group with so many parts.
+    pub(crate) fn new(options: &Options, parts: u32) -> Result<Group, Refusal> {
+        assert_fits();
+        let mut at = null_mut();
+        // SAFETY: the size is that of the options.
+        accepted(unsafe { bs_call_group_make(&mut at, options, size_of::<Options>(), parts) })?;
+        let at = NonNull::new(at).expect("a group that was made");
+        Ok(Group { at })
+    }
+
+    fn shared(&self) -> &Shared {
+        // SAFETY: the group is there until the drop.
+        unsafe { self.at.as_ref() }
+    }
+
+    pub(crate) fn add_inner(&self, parents: &[Node]) -> Reply {
+        // SAFETY: the count is the list's own.
+        unsafe { bs_group_add_inner(self.shared(), nodes(parents), parents.len()) }
+    }
+
+    /// Makes a file in this part; with 0, in each part by turns.
+    pub(crate) fn add_file(&self, part: u32, parents: &[Node]) -> Reply {
+        // SAFETY: the count is the list's own.
+        unsafe { bs_group_add_file(self.shared(), part, nodes(parents), parents.len()) }
+    }
+
+    pub(crate) fn add_row_file(&self, part: u32, parents: &[Node]) -> Reply {
+        // SAFETY: the count is the list's own.
+        unsafe { bs_group_add_row_file(self.shared(), part, nodes(parents), parents.len()) }
+    }
+
+    pub(crate) fn add_index(&self, parents: &[Node], file: Node, bounds: &[u64]) -> Reply {
+        let (group, above, count) = (self.shared(), nodes(parents), parents.len());
+        // SAFETY: the counts are the lists' own.
+        unsafe { bs_group_add_index(group, above, count, file, numbers(bounds), bounds.len()) }
+    }
+
+    pub(crate) fn adopt(&self, file: Node, keys: &[u64]) -> Reply {
+        // SAFETY: the count is the list's own.
+        unsafe { bs_group_adopt(self.shared(), file, numbers(keys), keys.len()) }
+    }
+
+    pub(crate) fn forget(&self, record: Node) -> Reply {
+        bs_group_forget(self.shared(), record)
+    }
+
+    pub(crate) fn keep(&self, most: u32) -> Reply {
+        bs_group_keep(self.shared(), most)
+    }
+
+    pub(crate) fn name_in(&self, node: Node, table: u32) -> Reply {
+        bs_group_name_in(self.shared(), node, table)
+    }
+
+    pub(crate) fn name_of(&self, node: Node, table: u32) -> Reply {
+        bs_group_name_of(self.shared(), node, table)
+    }
+
+    /// Asks the manager of a table, with its latch held for so long, also if that panics. `None` if this thread may not
+    /// hold the table.
+    pub(crate) fn with<T>(&self, table: u32, ask: impl FnOnce(&Manager) -> T) -> Option<T> {
+        let group = self.shared();
+        let place = bs_group_hold(group, table)?;
+        let _held = Held { group, table };
+        // SAFETY: the manager is there, and no other thread uses it, as long as the latch is held, which outlives this.
+        let manager = Manager::lent(unsafe { Pinned::lent(place) });
+        Some(ask(&manager))
+    }
+}
+
+impl Drop for Group {
+    /// The end may sleep, which a waker must not, nor a thread that holds a table: another thread ends it then. If there
+    /// can be none, the group stays.
+    fn drop(&mut self) {
+        let mut at = self.at.as_ptr();
+        if bs_group_end(self.shared()).status != IN_USE {
+            // SAFETY: the group was ended, and no thread is in a call with it: each borrows its owner.
+            unsafe { bs_group_free(&mut at) };
+            return;
+        }
+        let group = ManuallyDrop::new(Group { at: self.at });
+        let ends = move || drop(ManuallyDrop::into_inner(group));
+        let _ = thread::Builder::new().spawn(ends);
+    }
+}
+
+/// A table of a group whose latch this thread holds.
+struct Held<'g> {
+    group: &'g Shared,
+    table: u32,
+}
+
+impl Drop for Held<'_> {
+    fn drop(&mut self) {
+        bs_group_let_go(self.group, self.table);
+    }
+}
+
+/// A transaction of a group. Nobody else makes calls with its name, and one thread has it at a time.
+pub(crate) struct Transaction<'g> {
+    owner: Handle<'g, Owner>,
+    name: Txn,
+    /// It is not `Sync`.
+    _of_one_thread: PhantomData<Cell<()>>,
+}
+
+// No panic passes through a call of the library.
+impl RefUnwindSafe for Transaction<'_> {}
+
+impl<'g> Transaction<'g> {
+    /// Begins one, for work that has been tried since an earlier begin.
+    pub(crate) fn begin(owner: Handle<'g, Owner>, since: u64) -> Result<Transaction<'g>, Refusal> {
+        let begun = accepted(bs_group_begin_again(owner.shared().shared(), since))?;
+        Ok(Transaction {
+            owner,
+            name: begun.txn,
+            _of_one_thread: PhantomData,
+        })
+    }
+
+    pub(crate) fn name(&self) -> Txn {
+        self.name
+    }
+
+    pub(crate) fn owner(&self) -> &Owner {
+        &self.owner
+    }
+
+    fn shared(&self) -> &Shared {
+        self.owner.shared().shared()
+    }
+
+    pub(crate) fn commit(&mut self) -> Reply {
+        // SAFETY: no other thread is in a call of this transaction.
+        unsafe { bs_group_commit(self.shared(), self.name) }
+    }
+
+    pub(crate) fn abort(&mut self) -> Reply {
+        // SAFETY: no other thread is in a call of this transaction.
+        unsafe { bs_group_abort(self.shared(), self.name) }
+    }
+
+    pub(crate) fn lock_path(&mut self, node: Node, mode: u32, until: Option<Time>) -> Reply {
+        // SAFETY: no other thread is in a call of this transaction.
+        unsafe { bs_group_lock_path(self.shared(), self.name, node, mode, until.as_ref()) }
+    }
+
+    pub(crate) fn lock_row_path(
+        &mut self,
+        row: Row,
+        keys: &[u64],
+        mode: u32,
+        until: Option<Time>,
+    ) -> Reply {
+        let (group, txn, Row { file, number }) = (self.shared(), self.name, row);
+        let (start, count, until) = (numbers(keys), keys.len(), until.as_ref());
+        // SAFETY: no other thread is in a call of this transaction, and the count is the list's own.
+        unsafe { bs_group_lock_row_path(group, txn, file, number, start, count, mode, until) }
+    }
+
+    pub(crate) fn try_path(&mut self, node: Node, mode: u32, keep: u32) -> Reply {
+        // SAFETY: no other thread is in a call of this transaction.
+        unsafe { bs_group_try_path(self.shared(), self.name, node, mode, keep) }
+    }
+
+    pub(crate) fn try_row_path(&mut self, row: Row, keys: &[u64], mode: u32, keep: u32) -> Reply {
+        let (group, txn, Row { file, number }) = (self.shared(), self.name, row);
+        let (start, count) = (numbers(keys), keys.len());
+        // SAFETY: no other thread is in a call of this transaction, and the count is the list's own.
+        unsafe { bs_group_try_row_path(group, txn, file, number, start, count, mode, keep) }
+    }
+
+    pub(crate) fn unlock_row(&mut self, row: Row) -> Reply {
+        // SAFETY: no other thread is in a call of this transaction.
+        unsafe { bs_group_unlock_row(self.shared(), self.name, row.file, row.number) }
+    }
+
+    pub(crate) fn escalate(&mut self, node: Node) -> Reply {
+        // SAFETY: no other thread is in a call of this transaction.
+        unsafe { bs_group_escalate(self.shared(), self.name, node) }
+    }
+
+    pub(crate) fn insert(&mut self, file: Node, keys: &[u64]) -> Reply {
+        // SAFETY: no other thread is in a call of this transaction, and the count is the list's own.
+        unsafe { bs_group_insert(self.shared(), self.name, file, numbers(keys), keys.len()) }
+    }
+
+    pub(crate) fn delete(&mut self, record: Node) -> Reply {
+        // SAFETY: no other thread is in a call of this transaction.
+        unsafe { bs_group_delete(self.shared(), self.name, record) }
+    }
+
+    pub(crate) fn rekey(&mut self, record: Node, index: Node, key: u64) -> Reply {
+        // SAFETY: no other thread is in a call of this transaction.
+        unsafe { bs_group_rekey(self.shared(), self.name, record, index, key) }
+    }
+
+    pub(crate) fn rekey_row(&mut self, row: Row, index: Node, key: u64) -> Reply {
+        let (group, txn, Row { file, number }) = (self.shared(), self.name, row);
+        // SAFETY: no other thread is in a call of this transaction.
+        unsafe { bs_group_rekey_row(group, txn, file, number, index, key) }
+    }
+
+    pub(crate) fn held(&self, node: Node) -> Reply {
+        // SAFETY: no other thread is in a call of this transaction.
+        unsafe { bs_group_held(self.shared(), self.name, node) }
+    }
+}
