@@ -24,6 +24,11 @@
  * for them and copy their locks. A transaction looks at its end whether it is in the main table, after it has left its
  * parts: no visitor finds it any more.
  *
+ * NEW INDEXES. A path to write a row passes each node above the indexes of its file. So a path that waits in a part
+ * passes more after an index is made, and may lack that in the main table. Its wait ends with BS_BAD_KEYS as the index is
+ * made, with the latch held: it has no key for it. Otherwise it would go on if another index was dropped meanwhile, so
+ * that the file has as many as before. No other call makes a path that waits pass more.
+ *
  * BEFORE A SLEEP in the main table all that a transaction holds in its parts on inner nodes is copied there, since
  * nobody can copy it while it waits.
  *
@@ -587,19 +592,37 @@ static bs_status group_part_of(bs_table_group *group, bs_node node, bs_status in
   return status == BS_DONE ? inner : status;
 }
 
+/* Leaves a part after a call for an index of a file that was answered so. If it was made, each sleep for a row of the
+ * file ends. */
+static bs_reply group_indexed(bs_table_group *group, const group_table *t, bs_node file, bs_reply reply) {
+  uint32_t slot;
+  for (slot = 0; reply.status == BS_DONE && slot < group->most; slot++) {
+    const bs_target *target = &group_slot_at(group, slot)->target;
+    if (!bs_inside_sleeps(t->table, slot) || target->rows == 0 || !group_is_node(target->node, file)) continue;
+    bs_inside_end_sleep(t->table, slot, BS_BAD_KEYS);
+  }
+  return group_leave(t, reply);
+}
+
+/* Why no index can have these parents and bounds, of those reasons that come before the group's own. */
+static bs_status group_bad_index(const bs_node *parents, size_t count, const uint64_t *bounds, size_t bound_count) {
+  if (bounds == NULL && bound_count != 0) return BS_NULL_POINTER;
+  return group_bad_parents(parents, count);
+}
+
 bs_reply bs_group_add_index(bs_table_group *group, const bs_node *parents, size_t count, bs_node file,
                             const uint64_t *bounds, size_t bound_count) {
-  bs_status status = group_bad_parents(parents, count), shut = group_shut(group);
-  bs_node there[BS_MOST_PARENTS];
+  bs_status status = group_bad_index(parents, count, bounds, bound_count), shut = group_shut(group);
+  bs_node there[BS_MOST_PARENTS], name;
   group_table *t;
-  if (bounds == NULL && bound_count != 0) return bs_call_null();
   if (shut == BS_NULL_POINTER || status == BS_NULL_POINTER) return bs_call_null();
   if (status == BS_DONE) status = shut;
   if (status == BS_DONE) status = group_part_of(group, file, BS_BAD_PARENTS, &t);
   if (status != BS_DONE) return group_only(status);
   if (!bs_inside_enter(t->table)) return group_only(BS_NO_MANAGER);
   group_parents_there(t, parents, count, there);
-  return group_leave(t, bs_add_index(t->manager, there, count, group_name_there(t, file), bounds, bound_count));
+  name = group_name_there(t, file);
+  return group_indexed(group, t, name, bs_add_index(t->manager, there, count, name, bounds, bound_count));
 }
 
 /* ------------------------------------------------------------------------------------------------
@@ -1264,6 +1287,7 @@ bs_reply bs_group_insert(bs_table_group *group, bs_txn txn, bs_node file, const 
 
 /* A call of a transaction in a part that requests nothing on an inner node. */
 typedef struct group_call {
+  group_slot *own;
   group_table *at;
   bs_table *table;
   bs_txn txn; /* its name in the part */
@@ -1271,15 +1295,28 @@ typedef struct group_call {
 
 /* Enters the part of a node for such a call; an inner node is refused so. The part's latch is held if that is done. */
 static bs_status group_enter(bs_table_group *group, bs_txn txn, bs_node node, bs_status inner, group_call *call) {
-  group_slot *own;
-  bs_status status = group_finds_both(group, txn, node, inner, &own, &call->at);
+  bs_status status = group_finds_both(group, txn, node, inner, &call->own, &call->at);
   if (status != BS_DONE) return status;
   call->table = call->at->table;
   if (!bs_inside_enter(call->table)) return BS_NO_MANAGER;
-  status = group_join(group, own, call->at);
+  status = group_join(group, call->own, call->at);
   if (status != BS_DONE) bs_inside_release(call->table);
-  call->txn = own->in[call->at->number];
+  call->txn = call->own->in[call->at->number];
   return status;
+}
+
+/* Leaves it after a call that may have released any lock, and was answered so: then the first locks may be others than
+ * those that were kept. */
+static bs_reply group_released(const group_call *call, bs_reply reply) {
+  call->own->kept[call->at->number].count = 0;
+  return group_leave(call->at, reply);
+}
+
+bs_reply bs_group_unlock(bs_table_group *group, bs_txn txn, bs_node node) {
+  group_call call;
+  bs_status status = group_enter(group, txn, node, BS_BAD_PARENTS, &call);
+  if (status != BS_DONE) return group_only(status);
+  return group_released(&call, bs_inside_unlock(call.table, call.txn, group_name_there(call.at, node)));
 }
 
 bs_reply bs_group_unlock_row(bs_table_group *group, bs_txn txn, bs_node file, uint64_t number) {
@@ -1293,7 +1330,7 @@ bs_reply bs_group_escalate(bs_table_group *group, bs_txn txn, bs_node node) {
   group_call call;
   bs_status status = group_enter(group, txn, node, BS_BAD_PARENTS, &call);
   if (status != BS_DONE) return group_only(status);
-  return group_leave(call.at, bs_inside_escalate(call.table, call.txn, group_name_there(call.at, node)));
+  return group_released(&call, bs_inside_escalate(call.table, call.txn, group_name_there(call.at, node)));
 }
 
 bs_reply bs_group_delete(bs_table_group *group, bs_txn txn, bs_node record) {
@@ -1346,6 +1383,118 @@ bs_reply bs_group_forget(bs_table_group *group, bs_node record) {
 }
 
 /* ------------------------------------------------------------------------------------------------
+ * What a schema changes in a part, and intervals.
+ */
+
+bs_reply bs_group_drop(bs_table_group *group, bs_txn txn, bs_node node) {
+  group_call call;
+  bs_status status = group_enter(group, txn, node, BS_BAD_PARENTS, &call);
+  if (status != BS_DONE) return group_only(status);
+  return group_released(&call, bs_inside_drop(call.table, call.txn, group_name_there(call.at, node)));
+}
+
+bs_reply bs_group_split(bs_table_group *group, bs_txn txn, bs_node interval, uint64_t at) {
+  group_call call;
+  bs_status status = group_enter(group, txn, interval, BS_BAD_PARENTS, &call);
+  if (status != BS_DONE) return group_only(status);
+  return group_leave(call.at, bs_inside_split(call.table, call.txn, group_name_there(call.at, interval), at));
+}
+
+bs_reply bs_group_merge(bs_table_group *group, bs_txn txn, bs_node interval) {
+  group_call call;
+  bs_status status = group_enter(group, txn, interval, BS_BAD_PARENTS, &call);
+  if (status != BS_DONE) return group_only(status);
+  return group_released(&call, bs_inside_merge(call.table, call.txn, group_name_there(call.at, interval)));
+}
+
+/* Tries an intention to write on an inner node in a part, after what it needs in the main table. By the laws it is
+ * granted in the part. */
+static bs_reply group_intend(bs_table_group *group, const group_call *call, bs_node inner) {
+  group_manner manner = group_tries(BS_KEEP_WAY);
+  bs_target target;
+  group_way way;
+  bs_reply reply;
+  target.node = group_name_there(call->at, inner);
+  target.mode = BS_IX;
+  target.rows = 0;
+  way = group_way_to(group, call->own, call->at, &target, &manner);
+  if (!group_reach(&way, &reply)) return reply;
+  return group_leave(call->at, group_request(call->at, call->txn, target.node, BS_IX, &manner));
+}
+
+/* Makes an index with what the transaction holds: BS_NEED_PARENTS names an inner node that it lacks in the part. */
+static bs_reply group_index_by_once(bs_table_group *group, const group_call *call, const bs_node *parents,
+                                    size_t count, bs_node file, const uint64_t *bounds, size_t bound_count) {
+  bs_node there[BS_MOST_PARENTS], name = group_name_there(call->at, file);
+  bs_reply reply;
+  group_parents_there(call->at, parents, count, there);
+  reply = bs_inside_index_by(call->table, call->txn, there, count, name, bounds, bound_count);
+  return group_indexed(group, call->at, name, reply);
+}
+
+bs_reply bs_group_index_by(bs_table_group *group, bs_txn txn, const bs_node *parents, size_t count, bs_node file,
+                           const uint64_t *bounds, size_t bound_count) {
+  bs_status status = group == NULL ? BS_NULL_POINTER : group_bad_index(parents, count, bounds, bound_count);
+  group_call call;
+  bs_reply reply;
+  if (status != BS_DONE) return group_only(status);
+  for (;;) {
+    status = group_enter(group, txn, file, BS_BAD_PARENTS, &call);
+    if (status != BS_DONE) return group_only(status);
+    reply = group_index_by_once(group, &call, parents, count, file, bounds, bound_count);
+    if (reply.status != BS_NEED_PARENTS) return reply;
+    reply = group_intend(group, &call, reply.node);
+    if (reply.status != BS_DONE) return reply;
+  }
+}
+
+/* ------------------------------------------------------------------------------------------------
+ * Savepoints.
+ */
+
+bs_reply bs_group_mark(bs_table_group *group, bs_txn txn, bs_group_savepoint *savepoint) {
+  bs_status status = savepoint == NULL ? BS_NULL_POINTER : BS_DONE;
+  group_slot *own;
+  uint64_t left;
+  if (status == BS_DONE) status = group_finds(group, txn, &own);
+  if (status != BS_DONE) return group_only(status);
+  memset(savepoint, 0, sizeof *savepoint);
+  for (left = own->used; left != 0; left &= left - 1) {
+    const group_table *t = &group->tables[__builtin_ctzll(left)];
+    if (!bs_inside_enter(t->table)) return group_only(BS_NO_MANAGER);
+    savepoint->at[t->number] = bs_mark(t->manager, own->in[t->number]).count;
+    bs_inside_release(t->table);
+  }
+  return group_only(BS_DONE);
+}
+
+/* Releases in a part, whose latch is held, what a transaction has acquired since it had so many locks there. */
+static bs_reply group_release_in(group_slot *own, const group_table *t, uint64_t savepoint) {
+  group_kept *kept = &own->kept[t->number];
+  if (kept->count > savepoint) kept->count = (uint32_t)savepoint;
+  return bs_inside_release_since(t->table, own->in[t->number], savepoint);
+}
+
+bs_reply bs_group_release_since(bs_table_group *group, bs_txn txn, const bs_group_savepoint *savepoint) {
+  bs_status status = savepoint == NULL ? BS_NULL_POINTER : BS_DONE;
+  bs_reply all = group_only(BS_DONE);
+  group_slot *own;
+  uint64_t left;
+  if (status == BS_DONE) status = group_finds(group, txn, &own);
+  if (status != BS_DONE) return group_only(status);
+  for (left = own->used; left != 0; left &= left - 1) {
+    const group_table *t = &group->tables[__builtin_ctzll(left)];
+    bs_reply reply;
+    if (!bs_inside_enter(t->table)) return group_only(BS_NO_MANAGER);
+    reply = group_release_in(own, t, savepoint->at[t->number]);
+    bs_inside_release(t->table);
+    if (reply.status != BS_DONE) all.status = reply.status;
+    else all.count += reply.count;
+  }
+  return all;
+}
+
+/* ------------------------------------------------------------------------------------------------
  * Questions.
  */
 
@@ -1394,6 +1543,44 @@ bs_reply bs_group_held(bs_table_group *group, bs_txn txn, bs_node node) {
   t = &group->tables[part];
   if (!bs_inside_enter(t->table)) return group_only(BS_NO_MANAGER);
   return group_leave(t, group_held_in(t, own->in[part], node));
+}
+
+static uint64_t group_sum(uint64_t one, uint64_t other) {
+  return one + other < one ? UINT64_MAX : one + other;
+}
+
+/* Adds the counts of a table to those of others. */
+static void group_add_counts(bs_counts *all, const bs_counts *one) {
+  all->accepted = group_sum(all->accepted, one->accepted);
+  all->granted = group_sum(all->granted, one->granted);
+  all->waited = group_sum(all->waited, one->waited);
+  all->conversions = group_sum(all->conversions, one->conversions);
+  all->granted_later = group_sum(all->granted_later, one->granted_later);
+  all->condemned = group_sum(all->condemned, one->condemned);
+  all->moved = group_sum(all->moved, one->moved);
+  all->gone = group_sum(all->gone, one->gone);
+  all->escalations = group_sum(all->escalations, one->escalations);
+  all->released_children = group_sum(all->released_children, one->released_children);
+  if (all->most_waiting < one->most_waiting) all->most_waiting = one->most_waiting;
+  if (all->longest_queue < one->longest_queue) all->longest_queue = one->longest_queue;
+  all->passed = group_sum(all->passed, one->passed);
+}
+
+bs_reply bs_group_counters(bs_table_group *group, bs_counts *counts) {
+  bs_status status = counts == NULL ? BS_NULL_POINTER : group_shut(group);
+  bs_counts all, one;
+  uint32_t number;
+  if (status != BS_DONE) return group_only(status);
+  memset(&all, 0, sizeof all);
+  for (number = 0; number <= group->parts; number++) {
+    const group_table *t = &group->tables[number];
+    if (!bs_inside_enter(t->table)) return group_only(BS_NO_MANAGER);
+    bs_counters(t->manager, &one);
+    bs_inside_release(t->table);
+    group_add_counts(&all, &one);
+  }
+  *counts = all;
+  return group_only(BS_DONE);
 }
 
 const bs_manager *bs_group_hold(bs_table_group *group, uint32_t table) {
@@ -1460,7 +1647,7 @@ static bool group_settle_one(bs_table_group *group) {
   }
   youngest = bs_youngest(&group->joined, bs_suspects(&group->joined).slots);
   for (table = 0; youngest.status == BS_DONE && table <= group->parts; table++) {
-    if (bs_inside_fall(group->tables[table].table, (uint32_t)youngest.count)) return true;
+    if (bs_inside_end_sleep(group->tables[table].table, (uint32_t)youngest.count, BS_VICTIM)) return true;
   }
   return false;
 }

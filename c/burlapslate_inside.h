@@ -64,9 +64,11 @@ void bs_call_condemned(bs_running *running);
  * ended by their name. */
 void bs_call_waits_ended(bs_running *running, const bs_slots *ended, const bs_notices *told);
 
-/* The wait of a slot was cancelled since its time is over; or since its transaction fell in a group. */
+/* The wait of a slot was cancelled since its time is over; since its transaction fell in a group; or since a group has
+ * ended it for another reason. */
 void bs_call_wait_late(bs_running *running, uint32_t slot);
 void bs_call_wait_fell(bs_running *running, uint32_t slot);
+void bs_call_wait_cut(bs_running *running, uint32_t slot);
 
 /* The table ends: wakes the thread that tells. Then, without the latch, awaits its end. */
 void bs_call_run_out(bs_running *running);
@@ -130,8 +132,9 @@ void bs_inside_look_by(bs_table *table, bs_inside_look *look, void *context);
 bool bs_inside_sleeps(const bs_table *table, uint32_t slot);
 bool bs_inside_any_sleeps(const bs_table *table);
 
-/* Ends such a sleep with BS_VICTIM. The manager does not know the transaction as condemned. False if none sleeps. */
-bool bs_inside_fall(bs_table *table, uint32_t slot);
+/* Ends such a sleep with this status. If that is BS_VICTIM, the manager does not know the transaction as condemned.
+ * False if none sleeps. */
+bool bs_inside_end_sleep(bs_table *table, uint32_t slot, bs_status status);
 
 /* As bs_table_lock_path and bs_table_lock_row_path: they sleep, with the latch free meanwhile. */
 bs_reply bs_inside_path(bs_table *table, bs_txn txn, bs_node node, bs_mode mode, const struct timespec *until);
@@ -147,6 +150,13 @@ bs_reply bs_inside_insert(bs_table *table, bs_txn txn, bs_node file, const uint6
 /* As the call of a table that has the name. */
 bs_reply bs_inside_delete(bs_table *table, bs_txn txn, bs_node record);
 bs_reply bs_inside_rekey(bs_table *table, bs_txn txn, bs_node record, bs_node index, uint64_t key);
+bs_reply bs_inside_unlock(bs_table *table, bs_txn txn, bs_node node);
+bs_reply bs_inside_release_since(bs_table *table, bs_txn txn, uint64_t savepoint);
+bs_reply bs_inside_drop(bs_table *table, bs_txn txn, bs_node node);
+bs_reply bs_inside_split(bs_table *table, bs_txn txn, bs_node interval, uint64_t at);
+bs_reply bs_inside_merge(bs_table *table, bs_txn txn, bs_node interval);
+bs_reply bs_inside_index_by(bs_table *table, bs_txn txn, const bs_node *parents, size_t count, bs_node file,
+                            const uint64_t *bounds, size_t bound_count);
 bs_reply bs_inside_unlock_row(bs_table *table, bs_txn txn, bs_node file, uint64_t number);
 bs_reply bs_inside_rekey_row(bs_table *table, bs_txn txn, bs_node file, uint64_t number, bs_node index, uint64_t key);
 bs_reply bs_inside_escalate(bs_table *table, bs_txn txn, bs_node node);

@@ -258,6 +258,10 @@ void bs_call_wait_fell(bs_running *running, uint32_t slot) {
   running_end_untold(running, slot, BS_END_VICTIM);
 }
 
+void bs_call_wait_cut(bs_running *running, uint32_t slot) {
+  running_end_untold(running, slot, BS_END_CANCELLED);
+}
+
 /* Fires the probe of a victim that did not wait: it is the last one of all. */
 static void running_probe_last(const bs_running *running) {
 #ifdef DTRACE_PROBE7

@@ -2464,14 +2464,15 @@ bool bs_inside_any_sleeps(const bs_table *table) {
 }
 
 /* The wait is cancelled as one whose time is over, which wakes others in the same way. */
-bool bs_inside_fall(bs_table *table, uint32_t slot) {
+bool bs_inside_end_sleep(bs_table *table, uint32_t slot, bs_status status) {
   table_waiter *waiter = table->waiters[slot];
   bs_reply end;
   if (waiter == NULL) return false;
   end = table_make_call_time_out(table, bs_call_living(&table->manager, slot).txn, &table->told);
   if (end.status != BS_TIMED_OUT) return false;
-  end.status = BS_VICTIM;
-  bs_call_wait_fell(&table->running, slot);
+  end.status = status;
+  if (status == BS_VICTIM) bs_call_wait_fell(&table->running, slot);
+  else bs_call_wait_cut(&table->running, slot);
   table_end(table, waiter, slot, end);
   table_wake_told(table, &table->told);
   return true;
@@ -2521,6 +2522,32 @@ bs_reply bs_inside_delete(bs_table *table, bs_txn txn, bs_node record) {
 
 bs_reply bs_inside_rekey(bs_table *table, bs_txn txn, bs_node record, bs_node index, uint64_t key) {
   return table_wake_after(table, table_make_rekey(table, txn, record, index, key, &table->told), false);
+}
+
+bs_reply bs_inside_unlock(bs_table *table, bs_txn txn, bs_node node) {
+  return table_wake_after(table, table_make_unlock(table, txn, node, &table->told), false);
+}
+
+bs_reply bs_inside_release_since(bs_table *table, bs_txn txn, uint64_t savepoint) {
+  return table_wake_after(table, table_make_release_since(table, txn, savepoint, &table->told), false);
+}
+
+bs_reply bs_inside_drop(bs_table *table, bs_txn txn, bs_node node) {
+  return table_wake_after(table, table_make_drop(table, txn, node, &table->told), false);
+}
+
+bs_reply bs_inside_split(bs_table *table, bs_txn txn, bs_node interval, uint64_t at) {
+  return table_wake_after(table, table_make_split(table, txn, interval, at, &table->told), false);
+}
+
+bs_reply bs_inside_merge(bs_table *table, bs_txn txn, bs_node interval) {
+  return table_wake_after(table, table_make_merge(table, txn, interval, &table->told), false);
+}
+
+/* It tells nobody. */
+bs_reply bs_inside_index_by(bs_table *table, bs_txn txn, const bs_node *parents, size_t count, bs_node file,
+                            const uint64_t *bounds, size_t bound_count) {
+  return table_make_index_by(table, txn, parents, count, file, bounds, bound_count);
 }
 
 bs_reply bs_inside_unlock_row(bs_table *table, bs_txn txn, bs_node file, uint64_t number) {

@@ -68,6 +68,11 @@ typedef struct bs_table_group bs_table_group;
 /* How many parts a group can have. */
 enum { BS_MOST_PARTS = 63 };
 
+/* A savepoint of a transaction: one in each part, by the part's number. */
+typedef struct bs_group_savepoint {
+  uint64_t at[BS_MOST_PARTS + 1];
+} bs_group_savepoint;
+
 /* The table of a node, by its number: 0 is the main one, which has the inner nodes; the parts are numbered from 1. */
 static inline uint32_t bs_group_table(bs_node node) {
   return (uint32_t)((uint64_t)node.key >> 32);
@@ -97,7 +102,7 @@ bs_reply bs_group_end(bs_table_group *group);
 bs_reply bs_group_free(bs_table_group **group);
 
 /* ------------------------------------------------------------------------------------------------
- * The graph. Its nodes neither move nor are dropped.
+ * The graph. Its nodes do not move, and inner nodes are not dropped.
  */
 
 /* Makes an inner node, in all tables. Costs the latches of all tables at once. Refused as bs_add_inner, and with
@@ -108,7 +113,8 @@ bs_reply bs_group_add_inner(bs_table_group *group, const bs_node *parents, size_
 bs_reply bs_group_add_file(bs_table_group *group, uint32_t part, const bs_node *parents, size_t count);
 bs_reply bs_group_add_row_file(bs_table_group *group, uint32_t part, const bs_node *parents, size_t count);
 
-/* Makes an index in the part of its file. */
+/* Makes an index in the part of its file. If it is made, each call that waits for a row of the file is answered
+ * BS_BAD_KEYS: it has no key for the index. */
 bs_reply bs_group_add_index(bs_table_group *group, const bs_node *parents, size_t count, bs_node file,
                             const uint64_t *bounds, size_t bound_count);
 
@@ -162,10 +168,24 @@ bs_reply bs_group_try_path(bs_table_group *group, bs_txn txn, bs_node node, bs_m
 bs_reply bs_group_try_row_path(bs_table_group *group, bs_txn txn, bs_node file, uint64_t number, const uint64_t *keys,
                                size_t count, bs_mode mode, uint32_t keep);
 
+/* As bs_table_unlock, of a node that is not an inner one. */
+bs_reply bs_group_unlock(bs_table_group *group, bs_txn txn, bs_node node);
 bs_reply bs_group_unlock_row(bs_table_group *group, bs_txn txn, bs_node file, uint64_t number);
 
 /* As bs_table_escalate, of a file, an index or an interval; refused with BS_BAD_PARENTS also for an inner node. */
 bs_reply bs_group_escalate(bs_table_group *group, bs_txn txn, bs_node node);
+
+/* Writes a savepoint of a transaction: for each part that it has joined, what bs_mark answers there. It is valid as long
+ * as bs_mark says. Costs the latches of these parts, one after the other. Refused with BS_NULL_POINTER also if
+ * `savepoint` is null. */
+bs_reply bs_group_mark(bs_table_group *group, bs_txn txn, bs_group_savepoint *savepoint);
+
+/* Rolls back to a savepoint in each part, as bs_release_since. In a part that the transaction has joined since, it
+ * releases everything, also what was taken up there (bs_group_keep). `count` is how many nodes were released. What the
+ * transaction has in the main table stays until it ends: locks of inner nodes, and the intentions that locks in parts
+ * needed. If a part refuses, the others are rolled back all the same. Costs the latches of its parts, one after the
+ * other. Refused with BS_NULL_POINTER also if `savepoint` is null. */
+bs_reply bs_group_release_since(bs_table_group *group, bs_txn txn, const bs_group_savepoint *savepoint);
 
 /* ------------------------------------------------------------------------------------------------
  * Records.
@@ -185,6 +205,25 @@ bs_reply bs_group_adopt(bs_table_group *group, bs_node file, const uint64_t *key
 bs_reply bs_group_forget(bs_table_group *group, bs_node record);
 
 /* ------------------------------------------------------------------------------------------------
+ * Changes of the schema within a part, and intervals that are split and merged (burlapslate_splits.h).
+ */
+
+/* As bs_table_drop, of a file or an index. */
+bs_reply bs_group_drop(bs_table_group *group, bs_txn txn, bs_node node);
+
+/* As bs_table_index_by: the transaction must hold BS_X on the file. If it lacks BS_IX on a parent in the part, the call
+ * tries that, as bs_group_insert does: also in the main table, if the parent or a node above it is locked or requested
+ * there in more than an intention. So the call never sleeps. BS_WOULD_BLOCK: `node` is the one that cannot be had at
+ * once. To wait for it, lock the parent in BS_IX by bs_group_lock_path, and call again. If the call is refused, the
+ * intentions that it acquired stay. If it is done, calls that wait for rows of the file end as by bs_group_add_index. */
+bs_reply bs_group_index_by(bs_table_group *group, bs_txn txn, const bs_node *parents, size_t count, bs_node file,
+                           const uint64_t *bounds, size_t bound_count);
+
+/* As bs_table_split and bs_table_merge. */
+bs_reply bs_group_split(bs_table_group *group, bs_txn txn, bs_node interval, uint64_t at);
+bs_reply bs_group_merge(bs_table_group *group, bs_txn txn, bs_node interval);
+
+/* ------------------------------------------------------------------------------------------------
  * Questions.
  */
 
@@ -193,6 +232,11 @@ bs_reply bs_group_forget(bs_table_group *group, bs_node record);
  * Of an inner node it costs the latches of the main table and of the transaction's parts, one after the other; of
  * another node that of its part. Also of a transaction that fell. Refused with BS_NO_SUCH_TXN, BS_NO_SUCH_NODE. */
 bs_reply bs_group_held(bs_table_group *group, bs_txn txn, bs_node node);
+
+/* What the tables of the group have done since it was made, written into `counts`: the sums of what bs_counters tells
+ * of each; `most_waiting` and `longest_queue` are the greatest of one table. Copies in the main table count too. Costs
+ * the latch of each table, one after the other. Refused with BS_NULL_POINTER also if `counts` is null. */
+bs_reply bs_group_counters(bs_table_group *group, bs_counts *counts);
 
 /* Acquires the latch of a table of the group, by its number, and lends its manager, as bs_table_hold does: for questions
  * of one table. Null also if this thread holds a table already. The manager has names of its own: of nodes, as the two

@@ -390,6 +390,9 @@ group-wakes-nobody-by-what-it-keeps	/^bs_reply bs_inside_commit_and_rest(/,/^}/s
 group-tries-keep-the-way	/ group_tries(/,/^}/s/^  manner.keep = keep;/  manner.keep = BS_KEEP_WAY;/
 group-tries-sleep	/ group_tries(/,/^}/s/NULL, false,/NULL, true,/
 group-refused-requests-leave-marks	/ group_lock_more(/,/^}/s/^  if (reply.status != BS_DONE) group_clear(.*//
+group-new-indexes-end-no-sleep	/ group_indexed(/,/^}/s/^    bs_inside_end_sleep(.*//
+group-rolls-back-and-keeps	/ group_release_in(/,/^}/s/^  if (kept->count > savepoint) .*//
+group-rolls-back-where-it-was	/^bs_reply bs_group_release_since(/,/^}/s/left = own->used;/left = own->used \& -own->used;/
 group-ends-one-who-rests	/^bs_status bs_inside_end_resting(/,/^}/s/  } while (reply.status == BS_DONE);/  } while (false);/
 a-refused-list-of-a-session-tells	/^size_t bs_session_run(/,/^}/s/^    table_list_of(table, commands\[0\].told)->count = 0;//
 FAULTS

@@ -140,6 +140,7 @@ enum { RECORDS = 4, BOUND = 100 };
 static bs_table_group *group;
 static bs_node base, areas[AREAS], quarters[AREAS];
 static bs_node files[PARTS + 1], row_files[PARTS + 1], indexes[PARTS + 1]; /* by part; area (part - 1) % AREAS */
+static uint32_t index_areas[PARTS + 1]; /* by part: the area of its index, changed by who has the file of rows in X */
 static bs_node records[PARTS + 1][RECORDS];
 
 static bs_txn begun(void) {
@@ -161,6 +162,7 @@ static void make_part(uint32_t part) {
   size_t i;
   files[part] = DONE(bs_group_add_file(group, part, &area, 1)).node;
   row_files[part] = DONE(bs_group_add_row_file(group, part, &quarters[(part - 1) % AREAS], 1)).node;
+  index_areas[part] = part % AREAS;
   indexes[part] = DONE(bs_group_add_index(group, &areas[part % AREAS], 1, row_files[part], &bound, 1)).node;
   WANT(bs_group_table(files[part]) == part && bs_group_table(indexes[part]) == part);
   txn = begun();
@@ -204,6 +206,20 @@ static bs_reply lock_for(bs_txn txn, bs_node node, bs_mode mode, uint64_t millis
  * Stories of one thread.
  */
 
+/* Each call of a transaction in a part, and one that marks or counts, is refused so. */
+static void calls_of_parts_are_refused(bs_table_group *of, bs_txn txn, bs_status status) {
+  bs_node file = { (size_t)1 << 32 | 1, 1 };
+  bs_group_savepoint savepoint;
+  memset(&savepoint, 0, sizeof savepoint);
+  ANSWERS(status, bs_group_unlock(of, txn, file));
+  ANSWERS(status, bs_group_drop(of, txn, file));
+  ANSWERS(status, bs_group_split(of, txn, file, 1));
+  ANSWERS(status, bs_group_merge(of, txn, file));
+  ANSWERS(status, bs_group_index_by(of, txn, &base, 1, file, NULL, 0));
+  ANSWERS(status, bs_group_mark(of, txn, &savepoint));
+  ANSWERS(status, bs_group_release_since(of, txn, &savepoint));
+}
+
 static void groups_are_made_and_ended(void) {
   bs_table_group *other = NULL;
   bs_options options;
@@ -229,10 +245,30 @@ static void groups_are_made_and_ended(void) {
   ANSWERS(BS_NO_MANAGER, bs_group_keep(other, 1));
   ANSWERS(BS_NO_MANAGER, bs_group_add_inner(other, NULL, 0));
   WANT(bs_group_hold(other, 0) == NULL);
+  calls_of_parts_are_refused(other, (bs_txn){ 0, 1 }, BS_NO_MANAGER);
   DONE(bs_group_free(&other));
   ANSWERS(BS_NULL_POINTER, bs_group_free(&other));
   ANSWERS(BS_NULL_POINTER, bs_group_free(NULL));
   ANSWERS(BS_NULL_POINTER, bs_group_end(NULL));
+}
+
+/* The same of the calls that change a schema, and of savepoints and counters. */
+static void null_calls_of_parts_are_refused(bs_txn txn) {
+  bs_group_savepoint savepoint;
+  bs_counts counts;
+  ANSWERS(BS_NULL_POINTER, bs_group_unlock(NULL, txn, files[1]));
+  ANSWERS(BS_NULL_POINTER, bs_group_drop(NULL, txn, files[1]));
+  ANSWERS(BS_NULL_POINTER, bs_group_split(NULL, txn, files[1], 1));
+  ANSWERS(BS_NULL_POINTER, bs_group_merge(NULL, txn, files[1]));
+  ANSWERS(BS_NULL_POINTER, bs_group_index_by(NULL, txn, &base, 1, files[1], NULL, 0));
+  ANSWERS(BS_NULL_POINTER, bs_group_index_by(group, txn, NULL, 1, files[1], NULL, 0));
+  ANSWERS(BS_NULL_POINTER, bs_group_index_by(group, txn, &base, 1, files[1], NULL, 1));
+  ANSWERS(BS_NULL_POINTER, bs_group_mark(NULL, txn, &savepoint));
+  ANSWERS(BS_NULL_POINTER, bs_group_mark(group, txn, NULL));
+  ANSWERS(BS_NULL_POINTER, bs_group_release_since(NULL, txn, &savepoint));
+  ANSWERS(BS_NULL_POINTER, bs_group_release_since(group, txn, NULL));
+  ANSWERS(BS_NULL_POINTER, bs_group_counters(NULL, &counts));
+  ANSWERS(BS_NULL_POINTER, bs_group_counters(group, NULL));
 }
 
 static void null_groups_are_refused(void) {
@@ -262,6 +298,7 @@ static void null_groups_are_refused(void) {
   ANSWERS(BS_NULL_POINTER, bs_group_rekey_row(NULL, txn, base, 1, base, 1));
   ANSWERS(BS_NULL_POINTER, bs_group_unlock_row(NULL, txn, base, 1));
   ANSWERS(BS_NULL_POINTER, bs_group_escalate(NULL, txn, base));
+  null_calls_of_parts_are_refused(txn);
   ANSWERS(BS_NULL_POINTER, bs_group_held(NULL, txn, base));
   ANSWERS(BS_NULL_POINTER, bs_group_name_in(NULL, base, 0));
   ANSWERS(BS_NULL_POINTER, bs_group_let_go(NULL, 0));
@@ -334,6 +371,61 @@ static void wrong_requests_are_refused(void) {
   ANSWERS(BS_NO_SUCH_TXN, bs_group_abort(group, gone));
   ANSWERS(BS_NO_SUCH_TXN, bs_group_held(group, gone, base));
   ANSWERS(BS_NO_SUCH_TXN, bs_group_insert(group, gone, files[1], NULL, 0));
+  want_rest(group);
+}
+
+/* Of the calls in a part that change a schema: an inner node, a node of no part, or one of another kind. */
+static void wrong_changes_are_refused(void) {
+  bs_txn txn = begun(), gone = txn;
+  bs_node none = { 77, 3 }, beyond = { (size_t)(PARTS + 1) << 32 | 1, 1 }, nine[9];
+  bs_counts counts;
+  size_t i;
+  for (i = 0; i < 9; i++) nine[i] = base;
+  ANSWERS(BS_BAD_PARENTS, bs_group_unlock(group, txn, base));
+  ANSWERS(BS_BAD_PARENTS, bs_group_drop(group, txn, quarters[0]));
+  ANSWERS(BS_BAD_PARENTS, bs_group_split(group, txn, base, 1));
+  ANSWERS(BS_BAD_PARENTS, bs_group_merge(group, txn, base));
+  ANSWERS(BS_BAD_PARENTS, bs_group_index_by(group, txn, &base, 1, base, NULL, 0));
+  ANSWERS(BS_NO_SUCH_NODE, bs_group_unlock(group, txn, none));
+  ANSWERS(BS_NO_SUCH_NODE, bs_group_drop(group, txn, beyond));
+  ANSWERS(BS_NO_SUCH_NODE, bs_group_split(group, txn, beyond, 1));
+  ANSWERS(BS_NO_SUCH_NODE, bs_group_merge(group, txn, none));
+  ANSWERS(BS_NO_SUCH_NODE, bs_group_index_by(group, txn, &base, 1, beyond, NULL, 0));
+  ANSWERS(BS_BAD_PARENTS, bs_group_split(group, txn, files[1], 1));
+  ANSWERS(BS_BAD_PARENTS, bs_group_merge(group, txn, records[1][0]));
+  ANSWERS(BS_BAD_PARENTS, bs_group_drop(group, txn, records[1][0]));
+  ANSWERS(BS_BAD_NUMBER, bs_group_index_by(group, txn, nine, 9, files[1], NULL, 0));
+  commit(txn);
+  calls_of_parts_are_refused(group, gone, BS_NO_SUCH_TXN);
+  WANT(bs_group_hold(group, 0) != NULL);
+  calls_of_parts_are_refused(group, gone, BS_IN_USE);
+  ANSWERS(BS_IN_USE, bs_group_counters(group, &counts));
+  DONE(bs_group_let_go(group, 0));
+  want_rest(group);
+}
+
+/* What the transaction must hold for them, and what a file and its parents must be. */
+static void changes_need_their_locks(void) {
+  bs_txn txn = begun();
+  const uint64_t falling[2] = { 5, 4 };
+  bs_node two[2];
+  ANSWERS(BS_NOT_HELD, bs_group_unlock(group, txn, files[1]));
+  ANSWERS(BS_NEED_EXCLUSIVE, bs_group_drop(group, txn, files[1]));
+  ANSWERS(BS_NEED_EXCLUSIVE, bs_group_index_by(group, txn, &base, 1, row_files[1], NULL, 0));
+  DONE(lock_path(txn, files[1], BS_X));
+  DONE(lock_path(txn, row_files[1], BS_X));
+  DONE(lock_path(txn, indexes[1], BS_IS));
+  ANSWERS(BS_FILE_IN_USE, bs_group_drop(group, txn, files[1]));
+  ANSWERS(BS_FILE_IN_USE, bs_group_drop(group, txn, row_files[1]));
+  ANSWERS(BS_NEED_EXCLUSIVE, bs_group_drop(group, txn, indexes[1]));
+  ANSWERS(BS_FILE_IN_USE, bs_group_index_by(group, txn, &base, 1, files[1], NULL, 0));
+  two[0] = base;
+  two[1] = files[2];
+  ANSWERS(BS_NO_SUCH_NODE, bs_group_index_by(group, txn, two, 2, row_files[1], NULL, 0));
+  two[1] = base;
+  ANSWERS(BS_BAD_PARENTS, bs_group_index_by(group, txn, two, 2, row_files[1], NULL, 0));
+  ANSWERS(BS_BAD_KEYS, bs_group_index_by(group, txn, &base, 1, row_files[1], falling, 2));
+  commit(txn);
   want_rest(group);
 }
 
@@ -473,6 +565,78 @@ static void rows_have_numbers(void) {
   WANT(held_in(group, 3, reader, area_of(3)) == BS_IS && held_in(group, 3, reader, areas[3 % AREAS]) == BS_NL);
   commit(txn);
   commit(reader);
+  want_rest(group);
+}
+
+/* The name in the group of an interval of an index, by its place. */
+static bs_node interval_of(bs_node index, size_t place) {
+  uint32_t part = bs_group_table(index);
+  bs_node there = DONE(bs_group_name_in(group, index, part)).node;
+  bs_reply interval = bs_interval(bs_group_hold(group, part), there, place);
+  DONE(bs_group_let_go(group, part));
+  return DONE(bs_group_name_of(group, DONE(interval).node, part)).node;
+}
+
+static void nodes_are_unlocked(void) {
+  bs_txn txn = begun(), other = begun();
+  DONE(lock_path(txn, records[2][0], BS_X));
+  ANSWERS(BS_HELD_CHILD, bs_group_unlock(group, txn, files[2]));
+  ANSWERS(BS_TIMED_OUT, lock_for(other, records[2][0], BS_S, 1));
+  DONE(bs_group_unlock(group, txn, records[2][0]));
+  ANSWERS(BS_NOT_HELD, bs_group_unlock(group, txn, records[2][0]));
+  DONE(lock_path(other, records[2][0], BS_X));
+  DONE(bs_group_unlock(group, txn, files[2]));
+  WANT(held_in(group, 2, txn, area_of(2)) == BS_IX && DONE(bs_group_held(group, txn, files[2])).mode == BS_NL);
+  commit(txn);
+  commit(other);
+  want_rest(group);
+}
+
+/* Intervals that are split and merged: the names are the group's. */
+static void intervals_are_split_and_merged(void) {
+  bs_txn txn = begun(), reader = begun();
+  bs_node first = interval_of(indexes[2], 0), made;
+  ANSWERS(BS_NEED_EXCLUSIVE, bs_group_split(group, txn, first, 40));
+  DONE(lock_path(txn, first, BS_X));
+  ANSWERS(BS_BAD_KEYS, bs_group_split(group, txn, first, BOUND));
+  made = DONE(bs_group_split(group, txn, first, 40)).node;
+  WANT(bs_group_table(made) == 2 && group_is_node(made, interval_of(indexes[2], 1)));
+  WANT(DONE(bs_group_held(group, txn, made)).mode == BS_X);
+  ANSWERS(BS_TIMED_OUT, lock_for(reader, made, BS_S, 1));
+  ANSWERS(BS_NEED_EXCLUSIVE, bs_group_merge(group, txn, made));
+  DONE(bs_group_merge(group, txn, first));
+  ANSWERS(BS_NO_SUCH_NODE, bs_group_held(group, txn, made));
+  ANSWERS(BS_BAD_PARENTS, bs_group_merge(group, txn, interval_of(indexes[2], 1)));
+  WANT(held_in(group, 2, txn, areas[2]) == BS_IX && !group_slot_at(group, txn.slot)->is_in_main);
+  commit(txn);
+  commit(reader);
+  want_rest(group);
+}
+
+/* A file and an index are dropped, and another index is made by a transaction. Only in the part, as long as nobody has
+ * more than an intention above. */
+static void schemas_change_in_a_part(void) {
+  bs_txn txn = begun(), other = begun(), strong = begun();
+  bs_node index, file = DONE(bs_group_add_file(group, 3, &areas[0], 1)).node;
+  const uint64_t keys[] = { 10, 20 };
+  DONE(lock_path(txn, row_files[3], BS_X));
+  DONE(lock_path(txn, indexes[3], BS_X));
+  DONE(bs_group_drop(group, txn, indexes[3]));
+  ANSWERS(BS_NO_SUCH_NODE, bs_group_held(group, txn, indexes[3]));
+  index = DONE(bs_group_index_by(group, txn, areas, AREAS, row_files[3], keys, 2)).node;
+  WANT(bs_group_table(index) == 3 && DONE(bs_group_held(group, txn, index)).mode == BS_X);
+  WANT(held_in(group, 3, txn, areas[1]) == BS_IX && !group_slot_at(group, txn.slot)->is_in_main);
+  ANSWERS(BS_TIMED_OUT, lock_for(other, index, BS_IS, 1));
+  DONE(lock_path(txn, file, BS_X));
+  DONE(bs_group_drop(group, txn, file));
+  ANSWERS(BS_NO_SUCH_NODE, lock_path(other, file, BS_S));
+  want_rules(group);
+  commit(txn);
+  DONE(bs_group_lock_row_path(group, other, row_files[3], 1, keys, 1, BS_X, NULL));
+  WANT(held_in(group, 3, other, areas[1]) == BS_IX);
+  ANSWERS(BS_TIMED_OUT, lock_for(strong, areas[1], BS_S, 1));
+  commit(other);
+  commit(strong);
   want_rest(group);
 }
 
@@ -687,6 +851,9 @@ static void step_twins(pcg *dice) {
     answer = bs_group_escalate(group, one, in_group);
     twin = bs_table_escalate(twin_table, other, in_table, NULL);
     WANT(answer.released == twin.released && answer.kept == twin.kept);
+  } else if (what < 27 && node > 2 * AREAS) {
+    answer = bs_group_unlock(group, one, in_group);
+    twin = bs_table_unlock(twin_table, other, in_table, NULL);
   } else {
     answer = bs_group_lock_path(group, one, in_group, mode, &at_once);
     twin = bs_table_lock_path(twin_table, other, in_table, mode, &at_once);
@@ -785,6 +952,42 @@ static void refused_memory_breaks_no_rule(void) {
   DONE(reply);
   for (part = 1; part <= PARTS; part++) commit(readers[part]);
   commit(strong);
+  want_rest(group);
+}
+
+/* The same of an index, below a node that its transaction has in more than an intention, and of splits and savepoints. */
+static void refused_memory_makes_no_index(void) {
+  const uint64_t bound = BOUND;
+  bs_group_savepoint savepoint;
+  bs_txn txn = begun();
+  bs_node first;
+  bs_reply reply;
+  long next;
+  DONE(lock_path(txn, row_files[1], BS_X));
+  DONE(bs_group_mark(group, txn, &savepoint));
+  DONE(lock_path(txn, areas[2], BS_SIX));
+  for (next = 1, reply.status = BS_NO_MEMORY; reply.status == BS_NO_MEMORY; next++) {
+    refused_allocation = next;
+    reply = bs_group_index_by(group, txn, &areas[2], 1, row_files[1], &bound, 1);
+    refused_allocation = 0;
+    want_rules(group);
+  }
+  WANT(held_in(group, 1, txn, areas[2]) == BS_IX);
+  first = interval_of(DONE(reply).node, 0);
+  DONE(lock_path(txn, first, BS_X));
+  for (next = 1, reply.status = BS_NO_MEMORY; reply.status == BS_NO_MEMORY; next++) {
+    refused_allocation = next;
+    reply = bs_group_split(group, txn, first, 40);
+    refused_allocation = 0;
+    want_rules(group);
+  }
+  DONE(reply);
+  refused_allocation = 1;
+  reply = bs_group_release_since(group, txn, &savepoint);
+  refused_allocation = 0;
+  WANT(DONE(reply).count > 0);
+  want_rules(group);
+  commit(txn);
   want_rest(group);
 }
 
@@ -954,13 +1157,189 @@ static void new_indexes_end_paths(void) {
   DONE(lock_path(strong, areas[2], BS_S));
   WANT(marks_in(group, 1) == 1);
   DONE(bs_group_add_index(group, &areas[2], 1, row_files[1], &bound, 1));
-  commit(holder);
   wakes_with(&own, BS_BAD_KEYS);
+  commit(holder);
   WANT(held_in(group, 0, waiter, areas[2]) == BS_NL && held_in(group, 1, waiter, areas[2]) == BS_NL);
   ANSWERS(BS_TIMED_OUT, lock_row_for(waiter, row_files[1], 2));
   WANT(held_in(group, 1, waiter, areas[2]) == BS_NL);
   commit(strong);
   commit(waiter);
+  want_rest(group);
+}
+
+/* An index below inner nodes that others have in more than an intention. */
+static void indexes_need_what_is_above(void) {
+  bs_txn txn = begun(), strong = begun(), late = begun();
+  sleeper own;
+  DONE(lock_path(txn, row_files[1], BS_X));
+  DONE(lock_path(strong, areas[2], BS_S));
+  WANT(held_in(group, 1, txn, areas[2]) == BS_NL);
+  WANT(group_is_node(ANSWERS(BS_WOULD_BLOCK, bs_group_index_by(group, txn, &areas[2], 1, row_files[1], NULL, 0)).node,
+                     areas[2]));
+  WANT(held_in(group, 1, txn, areas[2]) == BS_NL && held_in(group, 0, txn, base) == BS_IX);
+  sleep_in(&own, 0, txn, areas[2], BS_IX);
+  commit(strong);
+  wakes_with(&own, BS_DONE);
+  sleep_in(&own, 0, late, areas[2], BS_S);
+  WANT(marks_in(group, 1) == 1 && held_in(group, 1, txn, areas[2]) == BS_NL);
+  DONE(bs_group_index_by(group, txn, &areas[2], 1, row_files[1], NULL, 0));
+  WANT(held_in(group, 1, txn, areas[2]) == BS_IX && held_in(group, 0, txn, areas[2]) == BS_IX);
+  want_rules(group);
+  commit(txn);
+  wakes_with(&own, BS_DONE);
+  commit(late);
+  want_rest(group);
+}
+
+/* Starts a thread that requests a row of part 1 with this key, and waits until it sleeps in that part. */
+static void sleep_for_row(sleeper *own, bs_txn txn, uint64_t key, bs_mode mode) {
+  memset(own, 0, sizeof *own);
+  own->is_row = true;
+  own->key = key;
+  own->txn = txn;
+  own->node = row_files[1];
+  own->mode = mode;
+  start(&own->thread, sleep_for_it, own);
+  while (!sleeps_in(1, txn)) nap();
+  want_rules(group);
+}
+
+/* A path that waits passes no node more: one index is dropped, and another is made below a marked node, while rows wait
+ * with a key for one. They end as that is made, before the locks that they wait for; waits for other nodes go on. */
+static void other_indexes_end_paths(void) {
+  bs_txn holder = begun(), writer = begun(), reader = begun(), third = begun(), strong = begun();
+  sleeper writes, reads, goes_on, waits;
+  DONE(lock_path(holder, row_files[1], BS_X));
+  DONE(lock_path(holder, indexes[1], BS_X));
+  sleep_for_row(&writes, writer, 200, BS_X);
+  sleep_for_row(&reads, reader, 200, BS_S);
+  sleep_in(&goes_on, 1, third, row_files[1], BS_IX);
+  DONE(lock_path(holder, areas[2], BS_IX));
+  sleep_in(&waits, 0, strong, areas[2], BS_S);
+  WANT(group_is_marked(&group->tables[1], (uint32_t)areas[2].key));
+  DONE(bs_group_drop(group, holder, indexes[1]));
+  want_rules(group);
+  WANT(sleeps_in(1, writer) && sleeps_in(1, reader));
+  DONE(bs_group_index_by(group, holder, &areas[2], 1, row_files[1], NULL, 0));
+  wakes_with(&writes, BS_BAD_KEYS);
+  wakes_with(&reads, BS_BAD_KEYS);
+  WANT(sleeps_in(1, third) && held_in(group, 0, writer, areas[2]) == BS_NL);
+  commit(holder);
+  wakes_with(&goes_on, BS_DONE);
+  wakes_with(&waits, BS_DONE);
+  ANSWERS(BS_TIMED_OUT, lock_row_for(writer, row_files[1], 1));
+  commit(strong);
+  DONE(lock_row_for(writer, row_files[1], 1));
+  WANT(held_in(group, 1, writer, areas[2]) == BS_IX);
+  commit(writer);
+  commit(reader);
+  commit(third);
+  want_rest(group);
+}
+
+/* The same with an index below another root, which is locked already: a request for more below that root visits the
+ * part after the row's wait has ended. */
+static void new_roots_end_paths(void) {
+  bs_txn holder = begun(), waiter = begun(), strong = begun(), more = begun();
+  bs_node root = DONE(bs_group_add_inner(group, NULL, 0)).node, below = DONE(bs_group_add_inner(group, &root, 1)).node;
+  sleeper own;
+  DONE(lock_path(holder, row_files[1], BS_S));
+  sleep_for_row(&own, waiter, 200, BS_X);
+  DONE(lock_path(strong, root, BS_S));
+  DONE(bs_group_add_index(group, &below, 1, row_files[1], NULL, 0));
+  wakes_with(&own, BS_BAD_KEYS);
+  DONE(lock_path(more, below, BS_S));
+  want_rules(group);
+  commit(holder);
+  commit(waiter);
+  commit(strong);
+  commit(more);
+  want_rest(group);
+}
+
+/* An unlock, a split, a merge and a drop end waits in the part, as in a table. After a split, who waits for a row waits
+ * for the interval of its key. */
+static void changes_end_waits(void) {
+  bs_txn txn = begun(), waiter = begun();
+  bs_node first = interval_of(indexes[1], 0), made, file = DONE(bs_group_add_file(group, 1, &areas[0], 1)).node;
+  sleeper own;
+  DONE(lock_path(txn, records[1][0], BS_X));
+  sleep_in(&own, 1, waiter, records[1][0], BS_S);
+  DONE(bs_group_unlock(group, txn, records[1][0]));
+  wakes_with(&own, BS_DONE);
+  DONE(lock_path(txn, first, BS_X));
+  sleep_for_row(&own, waiter, 70, BS_X);
+  made = DONE(bs_group_split(group, txn, first, 40)).node;
+  want_rules(group);
+  WANT(sleeps_in(1, waiter));
+  DONE(bs_group_unlock(group, txn, made));
+  wakes_with(&own, BS_DONE);
+  WANT(DONE(bs_group_held(group, waiter, made)).mode == BS_IX);
+  ANSWERS(BS_NEED_EXCLUSIVE, bs_group_merge(group, txn, first));
+  DONE(bs_group_unlock_row(group, waiter, row_files[1], 0));
+  DONE(bs_group_unlock(group, waiter, made));
+  DONE(lock_path(txn, made, BS_X));
+  sleep_in(&own, 1, waiter, made, BS_S);
+  DONE(bs_group_merge(group, txn, first));
+  wakes_with(&own, BS_GONE);
+  DONE(lock_path(txn, file, BS_X));
+  sleep_in(&own, 1, waiter, file, BS_S);
+  DONE(bs_group_drop(group, txn, file));
+  wakes_with(&own, BS_GONE);
+  commit(txn);
+  commit(waiter);
+  want_rest(group);
+}
+
+/* A savepoint is one in each part. */
+static void savepoints_are_of_parts(void) {
+  bs_txn txn = begun(), waiter = begun();
+  bs_group_savepoint first, second;
+  sleeper own, too;
+  uint32_t part;
+  DONE(bs_group_mark(group, txn, &first));
+  for (part = 0; part <= BS_MOST_PARTS; part++) WANT(first.at[part] == 0);
+  WANT(DONE(bs_group_release_since(group, txn, &first)).count == 0);
+  DONE(lock_path(txn, records[1][0], BS_X));
+  DONE(bs_group_mark(group, txn, &second));
+  WANT(second.at[1] == 4 && second.at[2] == 0);
+  DONE(lock_path(txn, records[1][1], BS_X));
+  DONE(lock_path(txn, records[2][1], BS_X));
+  DONE(lock_path(txn, areas[2], BS_S));
+  sleep_in(&own, 1, waiter, records[1][1], BS_S);
+  WANT(DONE(bs_group_release_since(group, txn, &second)).count == 5);
+  wakes_with(&own, BS_DONE);
+  WANT(DONE(bs_group_held(group, txn, records[1][0])).mode == BS_X);
+  WANT(held_in(group, 2, txn, base) == BS_NL && held_in(group, 1, txn, base) == BS_IX);
+  WANT(held_in(group, 0, txn, areas[2]) == BS_S && held_in(group, 0, txn, area_of(2)) == BS_IX);
+  sleep_in(&too, 1, waiter, records[1][0], BS_S);
+  DONE(lock_path(txn, records[2][1], BS_S));
+  WANT(DONE(bs_group_release_since(group, txn, &first)).count == 8);
+  wakes_with(&too, BS_DONE);
+  WANT(held_in(group, 1, txn, base) == BS_NL && held_in(group, 0, txn, base) == BS_IX);
+  commit(txn);
+  commit(waiter);
+  want_rest(group);
+}
+
+/* What the group counts is what its tables count. */
+static void counters_are_summed(void) {
+  bs_txn txn = begun(), strong = begun(), late = begun();
+  bs_counts before, after;
+  sleeper own, too;
+  DONE(bs_group_counters(group, &before));
+  DONE(lock_path(txn, records[2][0], BS_X));
+  sleep_in(&own, 2, strong, records[2][0], BS_S);
+  sleep_in(&too, 0, late, base, BS_X);
+  commit(txn);
+  wakes_with(&own, BS_DONE);
+  commit(strong);
+  wakes_with(&too, BS_DONE);
+  commit(late);
+  DONE(bs_group_counters(group, &after));
+  WANT(after.waited >= before.waited + 2 && after.granted_later == before.granted_later + after.waited - before.waited);
+  WANT(after.accepted > before.accepted && after.granted > before.granted);
+  WANT(after.most_waiting >= 1 && after.longest_queue >= 1 && after.condemned == before.condemned);
   want_rest(group);
 }
 
@@ -1042,6 +1421,7 @@ static void cycles_over_parts_end(void) {
   ANSWERS(BS_TXN_CONDEMNED, bs_group_commit(group, young));
   ANSWERS(BS_TXN_CONDEMNED, lock_path(young, records[3][0], BS_S));
   ANSWERS(BS_TXN_CONDEMNED, bs_group_insert(group, young, files[1], NULL, 0));
+  calls_of_parts_are_refused(group, young, BS_TXN_CONDEMNED);
   WANT(DONE(bs_group_held(group, young, records[2][0])).mode == BS_X);
   DONE(bs_group_abort(group, young));
   wakes_with(&own, BS_DONE);
@@ -1186,6 +1566,42 @@ static void what_rests_is_taken_up(void) {
   WANT(group->spread == 1);
   commit(txn);
   WANT(rest_in(1, slot) == 3 && rest_in(2, slot) == 3 && group->spread == 0);
+  want_rest(group);
+}
+
+/* What is taken up comes after a savepoint that was made before; and what is released is not kept. */
+static void what_is_released_does_not_rest(void) {
+  bs_group_savepoint first, second;
+  bs_txn txn;
+  uint32_t slot;
+  keep(16);
+  slot = let_rest(1, 2, BS_X);
+  txn = begun();
+  DONE(bs_group_mark(group, txn, &first));
+  DONE(lock_path(txn, records[1][1], BS_S));
+  DONE(bs_group_mark(group, txn, &second));
+  WANT(txn.slot == slot && first.at[1] == 0 && second.at[1] == 4);
+  WANT(DONE(bs_group_release_since(group, txn, &second)).count == 0);
+  WANT(DONE(bs_group_release_since(group, txn, &first)).count == 4);
+  WANT(DONE(bs_group_held(group, txn, base)).mode == BS_NL);
+  commit(txn);
+  WANT(rest_in(1, slot) == 0 && rest_in(2, slot) == 3);
+  txn = begun();
+  DONE(lock_path(txn, records[2][1], BS_S));
+  DONE(bs_group_unlock(group, txn, records[2][1]));
+  DONE(bs_group_unlock(group, txn, files[2]));
+  DONE(bs_group_mark(group, txn, &second));
+  DONE(lock_path(txn, files[2], BS_S));
+  commit(txn);
+  WANT(txn.slot == slot && second.at[2] == 2 && rest_in(2, slot) == 2);
+  want_rules(group);
+  txn = begun();
+  DONE(lock_path(txn, records[2][1], BS_X));
+  DONE(bs_group_release_since(group, txn, &second));
+  WANT(DONE(bs_group_held(group, txn, files[2])).mode == BS_NL);
+  DONE(lock_path(txn, files[2], BS_S));
+  commit(txn);
+  WANT(rest_in(2, slot) == 2);
   want_rest(group);
 }
 
@@ -1466,7 +1882,7 @@ typedef struct crowd_thread {
   uint64_t since;
   size_t claims;
   uint64_t *at[MOST_CLAIMS];
-  uint64_t commits, aborts, victims, times, strong, checks;
+  uint64_t commits, aborts, victims, times, strong, checks, ended, changes, rollbacks;
 } crowd_thread;
 
 static uint64_t crowd_end;     /* the time of the clock */
@@ -1487,8 +1903,9 @@ static uint64_t others(const crowd_thread *own, const uint64_t *count) {
   return all - mine;
 }
 
-static void give_up_claims(crowd_thread *own) {
-  while (own->claims > 0) __atomic_fetch_sub(own->at[--own->claims], 1, __ATOMIC_SEQ_CST);
+/* Gives up all claims but the first, so many. */
+static void give_up_claims(crowd_thread *own, size_t left) {
+  while (own->claims > left) __atomic_fetch_sub(own->at[--own->claims], 1, __ATOMIC_SEQ_CST);
 }
 
 /* This thread has read or written something below a node. */
@@ -1527,6 +1944,13 @@ static bool was_granted(crowd_thread *own, bs_reply reply, bool *fell) {
   if (reply.status == BS_VICTIM) *fell = true;
   else own->times++;
   if (reply.status != BS_VICTIM && reply.status != BS_TIMED_OUT && reply.status != BS_WOULD_BLOCK) DONE(reply);
+  return false;
+}
+
+/* The same of a row, whose file may have got another index. */
+static bool row_was_granted(crowd_thread *own, bs_reply reply, bool *fell) {
+  if (reply.status != BS_BAD_KEYS) return was_granted(own, reply, fell);
+  own->ended++;
   return false;
 }
 
@@ -1595,10 +2019,10 @@ static void touch_row(crowd_thread *own, bool *fell) {
   } else {
     reply = bs_group_lock_row_path(group, own->txn, row_files[part], row, &key, 1, mode, some_time(own, &time));
   }
-  if (!was_granted(own, reply, fell)) return;
+  if (!row_was_granted(own, reply, fell)) return;
   above_part(own, part, writes);
   below(own, &of_quarters[(part - 1) % AREAS], writes);
-  if (writes) below(own, &of_areas[part % AREAS], true);
+  if (writes) below(own, &of_areas[index_areas[part]], true);
   below(own, &of_row_files[part], writes);
   has(own, &of_rows[part][row], writes ? BS_X : BS_S);
 }
@@ -1635,6 +2059,34 @@ static void touch_escalated(crowd_thread *own) {
   has(own, &of_files[part], reply.mode);
 }
 
+/* Has a node of a file of rows in BS_X, or the file, within a millisecond. */
+static bool has_for_change(crowd_thread *own, uint32_t part, bs_node node, bool *fell) {
+  struct timespec time = moment_in(1000);
+  if (!was_granted(own, bs_group_lock_path(group, own->txn, node, BS_X, &time), fell)) return false;
+  above_part(own, part, true);
+  below(own, &of_quarters[(part - 1) % AREAS], true);
+  return true;
+}
+
+/* Puts another index in the place of that of a file of rows, mostly in another area. Rows that wait for the file have
+ * one key, before and after that. */
+static void touch_schema(crowd_thread *own, bool *fell) {
+  const uint64_t bound = BOUND;
+  uint32_t part = 1 + draw(own, PARTS), area = draw(own, AREAS);
+  bs_reply reply;
+  if (!has_for_change(own, part, row_files[part], fell)) return;
+  has(own, &of_row_files[part], BS_X);
+  if (!has_for_change(own, part, indexes[part], fell)) return;
+  below(own, &of_areas[index_areas[part]], true);
+  reply = bs_group_index_by(group, own->txn, &areas[area], 1, row_files[part], &bound, 1);
+  if (reply.status == BS_FILE_IN_USE || !was_granted(own, reply, fell)) return;
+  below(own, &of_areas[area], true);
+  DONE(bs_group_drop(group, own->txn, indexes[part]));
+  indexes[part] = reply.node;
+  index_areas[part] = area;
+  own->changes++;
+}
+
 static void touch_something(crowd_thread *own, bool *fell) {
   uint32_t drawn = draw(own, 1000);
   if (drawn < strong_share) touch_inner(own, fell);
@@ -1642,6 +2094,7 @@ static void touch_something(crowd_thread *own, bool *fell) {
   else if (drawn < strong_share + 100) touch_new(own, fell);
   else if (drawn < strong_share + 200) touch_crossed(own, fell);
   else if (drawn < strong_share + 220) touch_escalated(own);
+  else if (drawn < strong_share + 240) touch_schema(own, fell);
   else if (drawn < 600) touch_record(own, fell);
   else touch_row(own, fell);
 }
@@ -1657,16 +2110,33 @@ static void begin_one(crowd_thread *own) {
   if (own->since == UINT64_MAX) own->since = own->txn.age;
 }
 
+/* Sets a savepoint, of a transaction with so many claims, or rolls back to it. What it has in the main table stays, but
+ * nothing is claimed of that any more. */
+static void use_savepoint(crowd_thread *own, bs_group_savepoint *savepoint, size_t *claims) {
+  if (draw(own, 2) == 0) {
+    DONE(bs_group_mark(group, own->txn, savepoint));
+    *claims = own->claims;
+    return;
+  }
+  give_up_claims(own, *claims);
+  DONE(bs_group_release_since(group, own->txn, savepoint));
+  own->rollbacks++;
+}
+
 /* Makes one transaction. A victim begins again, as old as before. */
 static void make_one(crowd_thread *own) {
   uint32_t left = 1 + draw(own, 6);
   bool fell = false;
+  bs_group_savepoint savepoint;
+  size_t claims = 0;
   begin_one(own);
+  memset(&savepoint, 0, sizeof savepoint);
   while (left-- > 0 && !fell) {
     touch_something(own, &fell);
     if (draw(own, 200) == 0) nap();
+    if (!fell && draw(own, 10) == 0) use_savepoint(own, &savepoint, &claims);
   }
-  give_up_claims(own);
+  give_up_claims(own, 0);
   if (fell || draw(own, 10) == 0) {
     DONE(bs_group_abort(group, own->txn));
     if (fell) own->victims++;
@@ -1725,12 +2195,16 @@ static void crowd(uint32_t threads, uint32_t slots, uint32_t strong, bool keeps,
     sum.times += all[i].times;
     sum.strong += all[i].strong;
     sum.checks += all[i].checks;
+    sum.ended += all[i].ended;
+    sum.changes += all[i].changes;
+    sum.rollbacks += all[i].rollbacks;
   }
   printf("crowd of %u, %u slots, %u in 1000 strong%s: %llu commits, %llu aborts, %llu victims, ", threads, slots, strong,
          keeps ? ", kept" : "", (unsigned long long)sum.commits, (unsigned long long)sum.aborts,
          (unsigned long long)sum.victims);
-  printf("%llu late, %llu inner, %llu checks\n", (unsigned long long)sum.times, (unsigned long long)sum.strong,
-         (unsigned long long)sum.checks);
+  printf("%llu late, %llu inner, %llu checks, %llu indexes, ", (unsigned long long)sum.times,
+         (unsigned long long)sum.strong, (unsigned long long)sum.checks, (unsigned long long)sum.changes);
+  printf("%llu ended by them, %llu rolled back\n", (unsigned long long)sum.ended, (unsigned long long)sum.rollbacks);
   end_world();
   world_keeps = 0;
 }
@@ -1750,16 +2224,22 @@ static const struct {
   bool is_played_again;
 } stories[] = {
   STORY(null_groups_are_refused), STORY(wrong_graphs_are_refused), STORY(wrong_requests_are_refused),
+  STORY(wrong_changes_are_refused), STORY(changes_need_their_locks), STORY(nodes_are_unlocked), STORY(intervals_are_split_and_merged),
+  STORY(schemas_change_in_a_part),
   STORY(who_holds_a_table_is_refused), STORY(names_are_translated), STORY(one_part_needs_no_other),
   STORY(begins_have_ages), STORY_ALONE(records_come_and_go), STORY(rows_have_numbers), STORY(strong_locks_are_in_main),
   STORY(inserts_are_tried), STORY(paths_are_tried), STORY(row_paths_are_tried), STORY(nodes_are_made_at_any_time), STORY(many_marks_are_reached),
   STORY_ALONE(answers_are_those_of_a_table),
   STORY(refused_memory_makes_no_group), STORY(refused_memory_breaks_no_rule),
+  STORY(refused_memory_makes_no_index),
   STORY(strong_waits_for_records_of_any_part), STORY(records_wait_for_strong), STORY(sleepers_are_visited),
   STORY(rows_that_wait_are_visited), STORY(new_indexes_end_paths), STORY(readers_that_wait_are_visited),
+  STORY(indexes_need_what_is_above), STORY(other_indexes_end_paths), STORY(new_roots_end_paths),
+  STORY(changes_end_waits), STORY_ALONE(savepoints_are_of_parts), STORY(counters_are_summed),
   STORY(marks_stay_for_requests_above),
   STORY(times_leave_no_marks), STORY(cycles_over_parts_end), STORY(cycles_over_main_end), STORY(one_of_a_cycle_falls),
   STORY(cycles_of_one_table_end), STORY_ALONE(what_rests_is_taken_up),
+  STORY_ALONE(what_is_released_does_not_rest),
   STORY_ALONE(each_part_has_what_rests), STORY_ALONE(only_intentions_rest),
   STORY_ALONE(strong_locks_end_what_rests), STORY_ALONE(who_rests_is_in_nobodys_way), STORY_ALONE(aborts_keep_nothing),
   STORY_ALONE(what_rests_is_as_young_as_the_next), STORY_ALONE(work_that_is_tried_again_joins),

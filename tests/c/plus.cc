@@ -135,6 +135,23 @@ static bool keeps() {
   return bs_table_end(table).status == BS_DONE && bs_table_free(&table).status == BS_DONE;
 }
 
+static bool changes(bs_table_group *group, bs_node base) {
+  bs_group_savepoint savepoint = {};
+  bs_counts counts;
+  bs_txn txn = bs_group_begin(group).txn;
+  bs_node file = bs_group_add_file(group, 1, &base, 1).node;
+  if (bs_group_lock_path(group, txn, file, BS_X, NULL).status != BS_DONE) return false;
+  if (bs_group_mark(group, txn, &savepoint).status != BS_DONE || savepoint.at[1] != 2) return false;
+  bs_node index = bs_group_index_by(group, txn, &base, 1, file, NULL, 0).node;
+  if (bs_group_split(group, txn, index, 7).status != BS_BAD_PARENTS) return false;
+  if (bs_group_merge(group, txn, index).status != BS_BAD_PARENTS) return false;
+  if (bs_group_drop(group, txn, index).status != BS_DONE) return false;
+  if (bs_group_release_since(group, txn, &savepoint).count != 0) return false;
+  if (bs_group_unlock(group, txn, file).status != BS_DONE) return false;
+  if (bs_group_counters(group, &counts).status != BS_DONE || counts.accepted == 0) return false;
+  return bs_group_commit(group, txn).status == BS_DONE;
+}
+
 static bool groups() {
   bs_table_group *group = NULL;
   if (bs_group_make(&group, NULL, 2).status != BS_DONE) return false;
@@ -146,7 +163,8 @@ static bool groups() {
   if (bs_group_table(base) != 0 || bs_group_table(record) != 2) return false;
   if (bs_group_lock_path(group, txn, base, BS_S, NULL).mode != BS_SIX) return false;
   if (bs_group_held(group, txn, record).mode != BS_X) return false;
-  if (bs_group_commit(group, txn).status != BS_DONE || bs_group_end(group).status != BS_DONE) return false;
+  if (bs_group_commit(group, txn).status != BS_DONE || !changes(group, base)) return false;
+  if (bs_group_end(group).status != BS_DONE) return false;
   return bs_group_free(&group).status == BS_DONE && group == NULL;
 }
 
