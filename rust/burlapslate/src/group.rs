@@ -1,12 +1,13 @@
 //! A group of tables that work as one.
 
 use crate::clock::Clock;
+use crate::listing::Counters;
 use crate::manager::{Escalated, Manager, Options};
 use crate::mode::{Detect, Mode};
 use crate::names::{Node, Row, Txn};
 use crate::refusal::{accepted, done, Refusal};
 use crate::session::{deadline, ended, Handle, Keep, RowLocked, Stop, Tried};
-use crate::sys::group::{self, Transaction};
+use crate::sys::group::{self, Savepoint, Transaction};
 use crate::sys::shared::Time;
 use crate::table::node_of;
 use crate::MOST_PARTS;
@@ -52,7 +53,7 @@ use std::time::{Duration, Instant};
 ///   holds `S` or more on another.
 /// - `IS` or `IX` on an inner node is locked in the main table. No transaction needs to request it: the locks below
 ///   acquire their own intentions.
-/// - Nodes are neither moved nor dropped. Records are rekeyed and deleted.
+/// - No node is moved, and no inner node is dropped. Records are rekeyed and deleted, files and indexes dropped.
 ///
 /// More than an intention on an inner node (`S`, `SIX`, `X`) costs a visit of each part. As long as it lasts, each
 /// transaction that locks below that node needs one more call of the main table. Use it for rare work, such as a backup.
@@ -163,7 +164,8 @@ impl Group {
         node_of(self.group.add_row_file(self.part(part)?, parents))
     }
 
-    /// As [`Manager::add_index`], in the part of the file.
+    /// As [`Manager::add_index`], in the part of the file. If it is made, each call that waits for a row of the file is
+    /// refused with [`BadKeys`](Refusal::BadKeys): it has no key for the index.
     pub fn add_index(&self, parents: &[Node], file: Node, bounds: &[u64]) -> Result<Node, Refusal> {
         node_of(self.group.add_index(parents, file, bounds))
     }
@@ -308,6 +310,23 @@ impl Group {
         asked.ok_or(Refusal::InUse)
     }
 
+    /// What the tables of the group have been doing since it was made: the sums of [`Manager::counters`] of each.
+    /// [`most_waiting`](Counters::most_waiting) and [`longest_queue`](Counters::longest_queue) are the greatest of one
+    /// table. Copies in the main table count too. Costs the latch of each table, one after the other.
+    ///
+    /// ```
+    /// # use burlapslate::{Group, Mode, Stop};
+    /// # let group = Group::new(2)?;
+    /// # let db = group.add_inner(&[])?;
+    /// # let file = group.add_file(&[db])?;
+    /// group.begin()?.lock_path(file, Mode::X)?; // It also acquires IX on `db`.
+    /// assert_eq!(group.counters()?.granted, 2);
+    /// # Ok::<(), Stop>(())
+    /// ```
+    pub fn counters(&self) -> Result<Counters, Refusal> {
+        self.group.counters()
+    }
+
     /// The name of a node of the group in one of its tables, by the table's number. A name of a node that is not an inner
     /// one is translated whether it names a node or not.
     ///
@@ -371,6 +390,20 @@ impl fmt::Debug for Group {
     fn fmt(&self, f: &mut fmt::Formatter<'_>) -> fmt::Result {
         let mut shown = f.debug_struct("Group");
         shown.field("parts", &self.parts).finish_non_exhaustive()
+    }
+}
+
+/// A savepoint of a transaction of a [`Group`]: how many nodes it held in each part. Another transaction of the group
+/// cannot use it. Use it with no other group.
+#[derive(Clone, Copy, PartialEq, Eq, Hash)]
+pub struct GroupMark {
+    txn: Txn,
+    savepoint: Savepoint,
+}
+
+impl fmt::Debug for GroupMark {
+    fn fmt(&self, f: &mut fmt::Formatter<'_>) -> fmt::Result {
+        f.debug_tuple("GroupMark").field(&self.txn).finish()
     }
 }
 
@@ -511,7 +544,8 @@ impl<'g> GroupSession<'g> {
     }
 
     /// Locks a row with what must be held above it, as [`Session::lock_row_path`](crate::Session::lock_row_path). The end
-    /// of the session lets its rows go.
+    /// of the session lets its rows go. If the file gets an index while the call sleeps, the call is refused with
+    /// [`BadKeys`](Refusal::BadKeys).
     ///
     /// ```
     /// # use burlapslate::{Group, Mode, Row, RowLocked, Stop};
@@ -630,6 +664,13 @@ impl<'g> GroupSession<'g> {
         Tried::of(&self.transaction.try_row_path(row, keys, mode, keep))
     }
 
+    /// As [`Manager::unlock`], of any node but an inner one.
+    ///
+    /// Refused as that call, and with [`BadParents`](Refusal::BadParents) for an inner node.
+    pub fn unlock(&mut self, node: Node) -> Result<(), Refusal> {
+        done(self.transaction.unlock(node))
+    }
+
     /// As [`Manager::unlock_row`].
     pub fn unlock_row(&mut self, row: Row) -> Result<(), Refusal> {
         done(self.transaction.unlock_row(row))
@@ -641,6 +682,49 @@ impl<'g> GroupSession<'g> {
     pub fn escalate(&mut self, node: Node) -> Result<Escalated, Refusal> {
         let reply = accepted(self.transaction.escalate(node))?;
         Ok(Escalated::of(&reply))
+    }
+
+    /// A savepoint of the transaction for [`release_since`](GroupSession::release_since), as [`Manager::mark`] in each
+    /// part that the transaction has joined. It is exact as long as those are. Costs the latches of these parts, one after
+    /// the other.
+    pub fn mark(&self) -> Result<GroupMark, Refusal> {
+        Ok(GroupMark {
+            txn: self.txn(),
+            savepoint: self.transaction.mark()?,
+        })
+    }
+
+    /// Rolls the locks back to a savepoint, as [`Manager::release_since`] in each part, and answers how many nodes it
+    /// released. In a part that the transaction has joined since, it releases everything, also what the transaction took
+    /// up there ([`Group::keep`]). Waiters that are granted by it are woken.
+    ///
+    /// What the transaction holds in the main table stays until it ends: locks of inner nodes, and the intentions that
+    /// locks in parts needed. Undo what it wrote since the savepoint before this call.
+    ///
+    /// Refused as that call, and with [`NoSuchTxn`](Refusal::NoSuchTxn) if the savepoint is another transaction's. If one
+    /// part refuses, the others are rolled back all the same. Costs the latches of the transaction's parts, one after the
+    /// other.
+    ///
+    /// ```
+    /// # use burlapslate::{Group, Mode, Stop};
+    /// # let group = Group::new(2)?;
+    /// # let db = group.add_inner(&[])?;
+    /// # let [orders, prices] = [group.add_file_in(1, &[db])?, group.add_file_in(2, &[db])?];
+    /// let mut session = group.begin()?;
+    /// session.lock_path(orders, Mode::X)?;
+    /// let mark = session.mark()?;
+    /// session.lock_path(prices, Mode::X)?;
+    /// assert_eq!(session.release_since(mark), Ok(2)); // `prices`, and `db` in that part.
+    /// assert_eq!(session.held(prices), Ok(Mode::NL));
+    /// assert_eq!(session.held(orders), Ok(Mode::X));
+    /// # Ok::<(), Stop>(())
+    /// ```
+    pub fn release_since(&mut self, mark: GroupMark) -> Result<usize, Refusal> {
+        if mark.txn != self.txn() {
+            return Err(Refusal::NoSuchTxn);
+        }
+        let reply = accepted(self.transaction.release_since(&mark.savepoint))?;
+        Ok(reply.count as usize)
     }
 
     /// Makes a record with what must be held above it, as [`Session::insert_path`](crate::Session::insert_path): each
@@ -660,11 +744,7 @@ impl<'g> GroupSession<'g> {
     /// # Ok::<(), Refusal>(())
     /// ```
     pub fn insert(&mut self, file: Node, keys: &[u64]) -> Result<Tried<Node>, Refusal> {
-        let reply = self.transaction.insert(file, keys);
-        Ok(match Tried::of(&reply)? {
-            Tried::Locked(_) => Tried::Locked(reply.node),
-            Tried::WouldBlock(node) => Tried::WouldBlock(node),
-        })
+        Tried::of_made(&self.transaction.insert(file, keys))
     }
 
     /// As [`Manager::delete`]. Threads that sleep for the record are woken. What the call needs must be held.
@@ -680,6 +760,60 @@ impl<'g> GroupSession<'g> {
     /// As [`Manager::rekey_row`]. What the call needs must be held.
     pub fn rekey_row(&mut self, row: Row, index: Node, key: u64) -> Result<(), Refusal> {
         done(self.transaction.rekey_row(row, index, key))
+    }
+
+    /// As [`Manager::drop_node`], of a file or an index. Threads that sleep for the node are woken and answered
+    /// [`Stop::Gone`].
+    ///
+    /// Refused as that call, and with [`BadParents`](Refusal::BadParents) for an inner node.
+    pub fn drop_node(&mut self, node: Node) -> Result<(), Refusal> {
+        done(self.transaction.drop_node(node))
+    }
+
+    /// As [`Manager::split`]: the new interval. If a thread sleeps for the interval, its path starts again; on the way to a
+    /// record or a row it continues by the interval that has the key.
+    pub fn split(&mut self, interval: Node, at: u64) -> Result<Node, Refusal> {
+        node_of(self.transaction.split(interval, at))
+    }
+
+    /// As [`Manager::merge`]. Threads that sleep for the next interval are woken and answered [`Stop::Gone`].
+    pub fn merge(&mut self, interval: Node) -> Result<(), Refusal> {
+        done(self.transaction.merge(interval))
+    }
+
+    /// A new index of a file that has no record, as [`Manager::index_by`], in the part of the file. The transaction must
+    /// hold [`X`](Mode::X) on the file. If it lacks [`IX`](Mode::IX) on a parent, the call acquires it by a try, also in
+    /// the main table. The call never sleeps: it answers the index, which the transaction holds in `X`, or the inner node
+    /// for which the transaction would have to wait. To wait for it, lock the parent in `IX` by
+    /// [`lock_path`](GroupSession::lock_path), and call again. If the call fails, the intentions that it acquired stay.
+    ///
+    /// If the index is made, calls that wait for rows of the file end as by [`Group::add_index`].
+    ///
+    /// Refused as that call, but never with [`NeedParents`](Refusal::NeedParents).
+    ///
+    /// ```
+    /// # use burlapslate::{Group, Mode, Stop, Tried};
+    /// # let group = Group::new(2)?;
+    /// # let [db, days] = [group.add_inner(&[])?, group.add_inner(&[])?];
+    /// # let orders = group.add_row_file(&[db])?;
+    /// let (mut backup, mut session) = (group.begin()?, group.begin()?);
+    /// backup.lock_path(days, Mode::S)?;
+    /// session.lock_path(orders, Mode::X)?;
+    /// let tried = session.index_by(&[days], orders, &[100, 200])?;
+    /// assert_eq!(tried, Tried::WouldBlock(days));
+    /// backup.commit()?;
+    /// session.lock_path(days, Mode::IX)?; // It could sleep for that.
+    /// let tried = session.index_by(&[days], orders, &[100, 200])?;
+    /// assert!(matches!(tried, Tried::Locked(index) if session.held(index) == Ok(Mode::X)));
+    /// # Ok::<(), Stop>(())
+    /// ```
+    pub fn index_by(
+        &mut self,
+        parents: &[Node],
+        file: Node,
+        bounds: &[u64],
+    ) -> Result<Tried<Node>, Refusal> {
+        Tried::of_made(&self.transaction.index_by(parents, file, bounds))
     }
 
     /// The mode in which the transaction holds a node; of an inner node the supremum of what it holds in all tables, with

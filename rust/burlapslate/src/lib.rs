@@ -123,7 +123,7 @@ mod watcher;
 pub use answers::Answers;
 pub use board::{Board, SlotIter, Slots};
 #[cfg(target_pointer_width = "64")]
-pub use group::{Group, GroupSession};
+pub use group::{Group, GroupMark, GroupSession};
 pub use list::{Do, Done, Halt, Named, NamedRow};
 pub use listing::{Counters, Deadlock, Doing, Listing, LockRow, Stuck, TxnRow, Waiter};
 pub use manager::{Asked, Escalated, Manager, Mark, Options, Reached, RowAsked, Wait};

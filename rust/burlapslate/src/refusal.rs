@@ -15,7 +15,8 @@ pub enum Refusal {
     NoMemory,
     /// A name names no node.
     NoSuchNode,
-    /// The name names no living transaction.
+    /// The name names no living transaction. Of
+    /// [`GroupSession::release_since`](crate::GroupSession::release_since): or the savepoint is another transaction's.
     NoSuchTxn,
     /// The transaction waits for a lock.
     TxnWaiting,

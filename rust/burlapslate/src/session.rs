@@ -145,6 +145,16 @@ impl Tried<Mode> {
     }
 }
 
+impl Tried<Node> {
+    /// The same of a call that makes a node.
+    pub(crate) fn of_made(reply: &Reply) -> Result<Tried<Node>, Refusal> {
+        Ok(match Tried::of(reply)? {
+            Tried::Locked(_) => Tried::Locked(reply.node),
+            Tried::WouldBlock(node) => Tried::WouldBlock(node),
+        })
+    }
+}
+
 /// What a failed try of a path keeps of the locks that it acquired.
 #[derive(Clone, Copy, PartialEq, Eq, Hash, Debug)]
 pub enum Keep {
@@ -887,10 +897,7 @@ impl<'t> Session<'t> {
         keep: Keep,
     ) -> Result<Tried<Node>, Refusal> {
         let reply = shared::insert_path(&self.call(), self.txn, file, keys, keep.as_number());
-        Ok(match Tried::of(&reply)? {
-            Tried::Locked(_) => Tried::Locked(reply.node),
-            Tried::WouldBlock(node) => Tried::WouldBlock(node),
-        })
+        Tried::of_made(&reply)
     }
 
     /// As [`Manager::delete`](crate::Manager::delete). Threads that sleep for the record are woken.

@@ -4,8 +4,8 @@
 #![cfg(target_pointer_width = "64")]
 
 use burlapslate::{
-    Detect, Doing, Escalated, Group, GroupSession, Keep, Kind, Mode, Node, Options, Refusal, Row,
-    RowLocked, Stop, Table, Tried, Txn, MOST_PARTS, SLOTS,
+    Counters, Detect, Doing, Escalated, Group, GroupMark, GroupSession, Keep, Kind, Mode, Node,
+    Options, Refusal, Row, RowLocked, Stop, Table, Tried, Txn, MOST_PARTS, SLOTS,
 };
 use std::future::Future;
 use std::panic::{catch_unwind, AssertUnwindSafe, RefUnwindSafe, UnwindSafe};
@@ -128,8 +128,13 @@ impl Drop for World {
 }
 
 fn inserted(session: &mut GroupSession<'_>, file: Node, key: u64) -> Node {
-    match session.insert(file, &[key]).unwrap() {
-        Tried::Locked(record) => record,
+    made(session.insert(file, &[key]))
+}
+
+/// The node that a call has made.
+fn made(tried: Result<Tried<Node>, Refusal>) -> Node {
+    match tried.unwrap() {
+        Tried::Locked(node) => node,
         Tried::WouldBlock(node) => panic!("{node} would block"),
     }
 }
@@ -139,10 +144,10 @@ fn inserted(session: &mut GroupSession<'_>, file: Node, key: u64) -> Node {
 fn what_threads_may_do() {
     fn goes<T: Send>() {}
     fn is_shared<T: Sync>() {}
-    goes::<(Group, GroupSession<'_>, GroupSession<'static>)>();
-    is_shared::<Group>();
+    goes::<(Group, GroupSession<'_>, GroupSession<'static>, GroupMark)>();
+    is_shared::<(Group, GroupMark)>();
     fn is_unwound<T: UnwindSafe + RefUnwindSafe>() {}
-    is_unwound::<(Group, GroupSession<'_>, GroupSession<'static>)>();
+    is_unwound::<(Group, GroupSession<'_>, GroupSession<'static>, GroupMark)>();
 }
 
 #[test]
@@ -553,6 +558,313 @@ fn locks_are_escalated() {
 }
 
 #[test]
+fn nodes_are_unlocked() {
+    let w = World::new();
+    let (mut session, mut other) = (w.begin(), w.begin());
+    let (record, file) = (w.records[1][0], w.files[1]);
+    session.lock_path(record, Mode::X).unwrap();
+    assert_eq!(session.unlock(file), Err(Refusal::HeldChild(record)));
+    session.unlock(record).unwrap();
+    assert_eq!(session.unlock(record), Err(Refusal::NotHeld));
+    assert_eq!(other.lock_path(record, Mode::X), Ok(Mode::X));
+    session.unlock(file).unwrap();
+    assert_eq!(session.held(file), Ok(Mode::NL));
+    assert_eq!(session.held(w.area), Ok(Mode::IX));
+    session.commit().unwrap();
+    other.commit().unwrap();
+}
+
+/// A rollback releases what was acquired since in each part, and keeps the rest, in the mode to which it was raised.
+#[test]
+fn savepoints_are_rolled_back_to() {
+    let w = World::new();
+    let mut session = w.begin();
+    let first = session.mark().unwrap();
+    assert_eq!(session.release_since(first), Ok(0));
+    session.lock_path(w.records[0][0], Mode::S).unwrap();
+    let second = session.mark().unwrap();
+    assert_eq!(second, session.mark().unwrap());
+    assert_ne!(first, second);
+    session.lock_path(w.records[0][1], Mode::X).unwrap();
+    let own = session.lock_row_path(w.row(2), &[50], Mode::X);
+    assert_eq!(own, Ok(RowLocked::Own(Mode::X)));
+    let rows = |part| {
+        let file = w.group.name_in(w.row(part).file, part).unwrap();
+        let row = Row { file, number: 7 };
+        w.group.with_table(part, |m| m.row_node(row).is_some())
+    };
+    assert_eq!(rows(2), Ok(true));
+    let other_way = w.interval(1, w.indexes[0], 1);
+    assert_eq!(session.held(other_way), Ok(Mode::IX));
+    // In part 1 the record with its interval and index; in part 2 these of the row, and the file, the area, the base.
+    assert_eq!(session.release_since(second), Ok(3 + 6));
+    assert_eq!(rows(2), Ok(false));
+    assert_eq!(w.living(2), 1);
+    assert_eq!(session.held(w.row_files[1]), Ok(Mode::NL));
+    assert_eq!(session.held(w.records[0][1]), Ok(Mode::NL));
+    assert_eq!(session.held(w.records[0][0]), Ok(Mode::S));
+    for node in [w.base, w.area, w.files[0]] {
+        assert_eq!(session.held(node), Ok(Mode::IX)); // It was raised.
+    }
+    assert_eq!(session.release_since(second), Ok(0));
+    // What the main table has stays.
+    session.lock_path(w.area, Mode::S).unwrap();
+    session.release_since(first).unwrap();
+    assert_eq!(session.held(w.files[0]), Ok(Mode::NL));
+    assert!(matches!(session.held(w.area), Ok(Mode::S | Mode::SIX)));
+    session.commit().unwrap();
+}
+
+/// No other transaction can use a savepoint, neither one beside its own nor one after it.
+#[test]
+fn a_savepoint_is_of_its_transaction() {
+    let w = World::with(2);
+    let (first, mut second) = (w.begin(), w.begin());
+    let mark = first.mark().unwrap();
+    let shown = format!("GroupMark({:?})", first.txn());
+    assert_eq!(format!("{mark:?}"), shown);
+    second.lock_path(w.records[0][0], Mode::X).unwrap();
+    assert_eq!(second.release_since(mark), Err(Refusal::NoSuchTxn));
+    assert_eq!(second.held(w.records[0][0]), Ok(Mode::X));
+    let slot = first.txn().slot();
+    first.commit().unwrap();
+    let mut third = w.begin();
+    assert_eq!(third.txn().slot(), slot);
+    assert_eq!(third.release_since(mark), Err(Refusal::NoSuchTxn));
+    third.commit().unwrap();
+    second.commit().unwrap();
+}
+
+/// A rollback wakes those who wait for what it releases, in parts that the transaction joined before and after.
+#[test]
+fn a_rollback_wakes() {
+    let w = World::new();
+    let mut session = w.begin();
+    session.lock_path(w.records[0][0], Mode::X).unwrap();
+    let mark = session.mark().unwrap();
+    let waits_for = [w.records[0][1], w.records[2][0]];
+    for node in waits_for {
+        session.lock_path(node, Mode::X).unwrap();
+    }
+    thread::scope(|scope| {
+        let sleepers = waits_for.map(|node| {
+            let mut waiter = w.begin();
+            let name = waiter.txn();
+            let sleeper = scope.spawn(move || waiter.lock_path(node, Mode::S));
+            w.await_wait(Group::table_of(node), name);
+            sleeper
+        });
+        assert!(session.release_since(mark).unwrap() > 0);
+        for sleeper in sleepers {
+            assert_eq!(sleeper.join().unwrap(), Ok(Mode::S));
+        }
+    });
+    assert_eq!(session.held(w.records[0][0]), Ok(Mode::X));
+    session.commit().unwrap();
+}
+
+/// A transaction puts another index in the place of that of a file, and drops a file.
+#[test]
+fn schemas_change() {
+    let w = World::new();
+    let (mut session, mut other) = (w.begin(), w.begin());
+    let (file, index) = (w.row_files[2], w.row_indexes[2]);
+    for node in [file, index] {
+        session.lock_path(node, Mode::X).unwrap();
+    }
+    session.drop_node(index).unwrap();
+    assert_eq!(session.held(index), Err(Refusal::NoSuchNode));
+    let finer = made(session.index_by(&[w.area], file, &[10, 20]));
+    assert_eq!(Group::table_of(finer), 3);
+    assert_eq!(session.held(finer), Ok(Mode::X));
+    let tried = other.try_lock_path(finer, Mode::IS, Keep::Nothing);
+    assert_eq!(tried, Ok(Tried::WouldBlock(finer)));
+    let empty = w.group.add_file_in(3, &[w.base]).unwrap();
+    session.lock_path(empty, Mode::X).unwrap();
+    session.drop_node(empty).unwrap();
+    let end = other.lock_path(empty, Mode::S);
+    assert_eq!(end, Err(Stop::Refused(Refusal::NoSuchNode)));
+    session.commit().unwrap();
+    let own = other.lock_row_path(w.row(3), &[15], Mode::X);
+    assert_eq!(own, Ok(RowLocked::Own(Mode::X)));
+    assert_eq!(other.held(w.interval(3, finer, 1)), Ok(Mode::IX));
+    other.commit().unwrap();
+}
+
+/// An index tries what the transaction lacks on the parents, and what it got of that stays.
+#[test]
+fn indexes_are_tried() {
+    let w = World::new();
+    let (mut session, mut backup) = (w.begin(), w.begin());
+    let (file, root) = (w.row_files[1], w.group.add_inner(&[]).unwrap());
+    let leaf = w.group.add_inner(&[root]).unwrap();
+    session.lock_path(file, Mode::X).unwrap();
+    backup.lock_path(leaf, Mode::S).unwrap();
+    let tried = session.index_by(&[w.area, leaf], file, &[]);
+    assert_eq!(tried, Ok(Tried::WouldBlock(leaf)));
+    assert_eq!(session.held(root), Ok(Mode::IX));
+    assert_eq!(session.held(leaf), Ok(Mode::NL));
+    backup.commit().unwrap();
+    let index = made(session.index_by(&[w.area, leaf], file, &[]));
+    assert_eq!(session.held(leaf), Ok(Mode::IX));
+    assert_eq!(session.held(index), Ok(Mode::X));
+    session.commit().unwrap();
+}
+
+/// A row that waits has no key for an index that is made meanwhile.
+#[test]
+fn an_index_ends_a_sleep_for_a_row() {
+    for is_by_transaction in [false, true] {
+        let w = World::new();
+        let (mut holder, mut waiter) = (w.begin(), w.begin());
+        let (name, file) = (waiter.txn(), w.row_files[1]);
+        let mode = if is_by_transaction { Mode::X } else { Mode::S };
+        holder.lock_path(file, mode).unwrap();
+        let index = thread::scope(|scope| {
+            let sleeper = scope.spawn(|| waiter.lock_row_path(w.row(2), &[50], Mode::X));
+            w.await_wait(2, name);
+            let index = match is_by_transaction {
+                true => made(holder.index_by(&[w.area], file, &[10])),
+                false => w.group.add_index(&[w.area], file, &[10]).unwrap(),
+            };
+            let end = sleeper.join().unwrap(); // The holder still has the file.
+            assert_eq!(end, Err(Stop::Refused(Refusal::BadKeys)));
+            index
+        });
+        holder.commit().unwrap();
+        let own = waiter.lock_row_path(w.row(2), &[50, 5], Mode::X);
+        assert_eq!(own, Ok(RowLocked::Own(Mode::X)));
+        assert_eq!(waiter.held(w.interval(2, index, 0)), Ok(Mode::IX));
+        waiter.commit().unwrap();
+    }
+}
+
+#[test]
+fn intervals_are_split_and_merged() {
+    let w = World::new();
+    let (mut session, mut waiter) = (w.begin(), w.begin());
+    let (name, index) = (waiter.txn(), w.indexes[1]);
+    let low = w.interval(2, index, 0);
+    session.lock_path(low, Mode::X).unwrap();
+    let high = session.split(low, 40).unwrap();
+    assert_eq!(high, w.interval(2, index, 1));
+    assert_eq!(session.held(high), Ok(Mode::X));
+    thread::scope(|scope| {
+        let sleeper = scope.spawn(|| waiter.lock_path(high, Mode::S));
+        w.await_wait(2, name);
+        session.merge(low).unwrap();
+        assert_eq!(sleeper.join().unwrap(), Err(Stop::Gone));
+    });
+    assert_eq!(session.held(high), Err(Refusal::NoSuchNode));
+    // The path of a row continues by the interval that has its key.
+    let low = w.interval(2, w.row_indexes[1], 0);
+    session.lock_path(low, Mode::X).unwrap();
+    let high = thread::scope(|scope| {
+        let sleeper = scope.spawn(|| waiter.lock_row_path(w.row(2), &[70], Mode::X));
+        w.await_wait(2, name);
+        let high = session.split(low, 40).unwrap();
+        session.unlock(high).unwrap();
+        assert_eq!(sleeper.join().unwrap(), Ok(RowLocked::Own(Mode::X)));
+        high
+    });
+    assert_eq!(waiter.held(high), Ok(Mode::IX));
+    session.commit().unwrap();
+    waiter.commit().unwrap();
+}
+
+/// Of a change: a node of the wrong kind or place, or one that is not held as it must be. None changes anything.
+#[test]
+fn wrong_changes_are_refused() {
+    let w = World::new();
+    let (none, beyond) = foreign();
+    let (mut session, file, rows) = (w.begin(), w.files[0], w.row_files[0]);
+    let s = &mut session;
+    for (node, refusal) in [
+        (w.base, Refusal::BadParents),
+        (none, Refusal::NoSuchNode),
+        (beyond, Refusal::NoSuchNode),
+        (Node::NONE, Refusal::NoSuchNode),
+    ] {
+        assert_eq!(s.unlock(node), Err(refusal));
+        assert_eq!(s.drop_node(node), Err(refusal));
+        assert_eq!(s.split(node, 1), Err(refusal));
+        assert_eq!(s.merge(node), Err(refusal));
+        assert_eq!(s.index_by(&[w.base], node, &[]), Err(refusal));
+    }
+    assert_eq!(s.unlock(file), Err(Refusal::NotHeld));
+    assert_eq!(s.drop_node(w.records[0][0]), Err(Refusal::BadParents));
+    assert_eq!(s.drop_node(file), Err(Refusal::NeedExclusive));
+    assert_eq!(s.split(file, 1), Err(Refusal::BadParents));
+    assert_eq!(s.merge(file), Err(Refusal::BadParents));
+    let [low, high] = [0, 1].map(|place| w.interval(1, w.indexes[0], place));
+    assert_eq!(s.split(low, 50), Err(Refusal::NeedExclusive));
+    assert_eq!(s.merge(low), Err(Refusal::NeedExclusive));
+    let by = |s: &mut GroupSession<'_>, parents: &[Node], file, bounds: &[u64]| {
+        s.index_by(parents, file, bounds).unwrap_err()
+    };
+    assert_eq!(by(s, &[w.base; 9], rows, &[]), Refusal::BadNumber);
+    assert_eq!(by(s, &[w.base], rows, &[]), Refusal::NeedExclusive);
+    s.lock_path(rows, Mode::X).unwrap();
+    assert_eq!(by(s, &[w.base], rows, &[5, 4]), Refusal::BadKeys);
+    assert_eq!(by(s, &[w.base; 2], rows, &[]), Refusal::BadParents);
+    assert_eq!(by(s, &w.files[1..2], rows, &[]), Refusal::NoSuchNode);
+    assert_eq!(s.drop_node(rows), Err(Refusal::FileInUse)); // It has an index.
+    s.lock_path(low, Mode::X).unwrap();
+    s.lock_path(high, Mode::X).unwrap();
+    assert_eq!(s.split(low, 100), Err(Refusal::BadKeys));
+    assert_eq!(s.merge(high), Err(Refusal::BadParents)); // It is the last.
+    s.lock_path(file, Mode::X).unwrap();
+    s.lock_path(w.indexes[0], Mode::X).unwrap();
+    assert_eq!(by(s, &[w.base], file, &[]), Refusal::FileInUse);
+    for node in [file, w.indexes[0]] {
+        assert_eq!(s.drop_node(node), Err(Refusal::FileInUse));
+    }
+    session.commit().unwrap();
+}
+
+/// They are the sums of all tables, but of two the greatest.
+#[test]
+fn counters_are_summed() {
+    let w = World::new();
+    let before = w.group.counters().unwrap();
+    let (mut session, mut backup) = (w.begin(), w.begin());
+    for records in w.records {
+        session.lock_path(records[0], Mode::X).unwrap();
+    }
+    let soon = Duration::from_millis(2);
+    let end = backup.lock_path_timeout(w.area, Mode::S, soon);
+    assert_eq!(end, Err(Stop::TimedOut));
+    session.commit().unwrap();
+    backup.commit().unwrap();
+    let after = w.group.counters().unwrap();
+    assert!(after.granted >= before.granted + 5 * PARTS as u64);
+    assert_eq!(after.waited, before.waited + 1);
+    assert_eq!((after.most_waiting, after.longest_queue), (1, 1));
+    let mut sums = Counters::default();
+    for table in 0..=PARTS {
+        let one = w.group.with_table(table, |m| m.counters()).unwrap();
+        for (sum, count) in [
+            (&mut sums.accepted, one.accepted),
+            (&mut sums.granted, one.granted),
+            (&mut sums.waited, one.waited),
+            (&mut sums.conversions, one.conversions),
+            (&mut sums.granted_later, one.granted_later),
+            (&mut sums.condemned, one.condemned),
+            (&mut sums.moved, one.moved),
+            (&mut sums.gone, one.gone),
+            (&mut sums.escalations, one.escalations),
+            (&mut sums.released_children, one.released_children),
+            (&mut sums.passed, one.passed),
+        ] {
+            *sum += count;
+        }
+        sums.most_waiting = sums.most_waiting.max(one.most_waiting);
+        sums.longest_queue = sums.longest_queue.max(one.longest_queue);
+    }
+    assert_eq!(after, sums);
+}
+
+#[test]
 fn strong_locks_are_held_in_all_tables() {
     let w = World::new();
     let mut session = w.begin();
@@ -738,7 +1050,7 @@ fn names_are_translated() {
 }
 
 /// Each call is refused with `InUse`.
-fn refuses_all(w: &World, session: &mut GroupSession<'_>) {
+fn refuses_all(w: &World, session: &mut GroupSession<'_>, mark: GroupMark) {
     let (group, in_use) = (&w.group, Refusal::InUse);
     let asleep = Stop::Refused(in_use);
     let (record, file, index) = (w.records[1][0], w.files[1], w.indexes[1]);
@@ -762,22 +1074,31 @@ fn refuses_all(w: &World, session: &mut GroupSession<'_>) {
     assert_eq!(session.lock_path_timeout(record, Mode::S, far), Err(asleep));
     let end = session.lock_row_path(w.row(2), &[50], Mode::S);
     assert_eq!(end, Err(asleep));
+    assert_eq!(session.unlock(record), Err(in_use));
     assert_eq!(session.unlock_row(w.row(2)), Err(in_use));
     assert_eq!(session.escalate(file), Err(in_use));
     assert_eq!(session.insert(file, &[50]), Err(in_use));
     assert_eq!(session.delete(record), Err(in_use));
     assert_eq!(session.rekey(record, index, 50), Err(in_use));
     assert_eq!(session.rekey_row(w.row(2), index, 50), Err(in_use));
+    assert_eq!(session.mark(), Err(in_use));
+    assert_eq!(session.release_since(mark), Err(in_use));
+    assert_eq!(session.drop_node(file), Err(in_use));
+    assert_eq!(session.split(record, 5), Err(in_use));
+    assert_eq!(session.merge(record), Err(in_use));
+    assert_eq!(session.index_by(&[w.base], file, &[]), Err(in_use));
     assert_eq!(session.held(record), Err(in_use));
+    assert_eq!(group.counters(), Err(in_use));
 }
 
 #[test]
 fn who_holds_a_table_is_refused() {
     let w = World::new();
     let mut session = w.begin();
+    let mark = session.mark().unwrap();
     for table in 0..=PARTS {
         let asked = w.group.with_table(table, |_| {
-            refuses_all(&w, &mut session);
+            refuses_all(&w, &mut session, mark);
             assert!(w.group.name_in(w.base, table).is_ok());
             let other = (table + 1) % (PARTS + 1);
             assert_eq!(w.group.name_in(w.base, other), Err(Refusal::InUse));
@@ -787,7 +1108,7 @@ fn who_holds_a_table_is_refused() {
     }
     let table = Table::new(Detect::AtBlock, 1).unwrap();
     table.with(|_| {
-        refuses_all(&w, &mut session);
+        refuses_all(&w, &mut session, mark);
         assert_eq!(w.group.name_in(w.base, 1), Err(Refusal::InUse));
     });
     let db = table.add_inner(&[]).unwrap();
@@ -1006,6 +1327,7 @@ fn a_deadlock_over_two_parts_ends() {
         };
         older.lock_path(w.records[0][0], Mode::X).unwrap();
         younger.lock_path(w.records[1][0], Mode::X).unwrap();
+        let mark = younger.mark().unwrap();
         thread::scope(|scope| {
             let name = older.txn();
             let waits = scope.spawn(|| older.lock_path(w.records[1][0], Mode::X));
@@ -1022,6 +1344,14 @@ fn a_deadlock_over_two_parts_ends() {
             let tried = younger.try_lock_row_path(w.row(3), &[1], Mode::S, Keep::Way);
             assert_eq!(tried, Err(Refusal::TxnCondemned));
             assert_eq!(younger.delete(w.records[1][0]), condemned);
+            assert_eq!(younger.unlock(w.records[1][0]), condemned);
+            assert_eq!(younger.mark().map(drop), condemned);
+            assert_eq!(younger.release_since(mark).map(drop), condemned);
+            assert_eq!(younger.drop_node(w.files[1]), condemned);
+            assert_eq!(younger.split(w.indexes[1], 5).map(drop), condemned);
+            assert_eq!(younger.merge(w.indexes[1]), condemned);
+            let tried = younger.index_by(&[w.area], w.files[1], &[]);
+            assert_eq!(tried, Err(Refusal::TxnCondemned));
             assert_eq!(younger.held(w.records[1][0]), Ok(Mode::X));
             assert_eq!(younger.commit(), condemned); // It is dropped, and so aborted.
             assert_eq!(waits.join().unwrap(), Ok(Mode::X));

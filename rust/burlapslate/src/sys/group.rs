@@ -7,10 +7,12 @@
 use super::shared::{Time, Until};
 use super::{assert_fits, nodes, numbers, Options, Pinned, Place, Reply, IN_USE};
 use crate::group::Group as Owner;
+use crate::listing::Counters;
 use crate::manager::Manager;
 use crate::names::{Node, Row, Txn};
 use crate::refusal::{accepted, Refusal};
 use crate::session::Handle;
+use crate::MOST_PARTS;
 use std::cell::{Cell, UnsafeCell};
 use std::marker::PhantomData;
 use std::mem::ManuallyDrop;
@@ -22,6 +24,13 @@ use std::thread;
 #[repr(C)]
 struct Shared {
     _own: UnsafeCell<[u8; 0]>,
+}
+
+/// `bs_group_savepoint`: a savepoint in each table, by the table's number.
+#[repr(C)]
+#[derive(Clone, Copy, PartialEq, Eq, Hash)]
+pub(crate) struct Savepoint {
+    at: [u64; MOST_PARTS + 1],
 }
 
 // SAFETY: these are the calls of the header, and their types have the layout of its types. Those that are safe have no
@@ -88,8 +97,11 @@ unsafe extern "C" {
         mode: u32,
         keep: u32,
     ) -> Reply;
+    fn bs_group_unlock(group: &Shared, txn: Txn, node: Node) -> Reply;
     fn bs_group_unlock_row(group: &Shared, txn: Txn, file: Node, number: u64) -> Reply;
     fn bs_group_escalate(group: &Shared, txn: Txn, node: Node) -> Reply;
+    fn bs_group_mark(group: &Shared, txn: Txn, savepoint: &mut Savepoint) -> Reply;
+    fn bs_group_release_since(group: &Shared, txn: Txn, savepoint: &Savepoint) -> Reply;
     fn bs_group_insert(
         group: &Shared,
         txn: Txn,
@@ -107,8 +119,21 @@ unsafe extern "C" {
         index: Node,
         key: u64,
     ) -> Reply;
+    fn bs_group_drop(group: &Shared, txn: Txn, node: Node) -> Reply;
+    fn bs_group_index_by(
+        group: &Shared,
+        txn: Txn,
+        parents: *const Node,
+        count: usize,
+        file: Node,
+        bounds: *const u64,
+        bound_count: usize,
+    ) -> Reply;
+    fn bs_group_split(group: &Shared, txn: Txn, interval: Node, at: u64) -> Reply;
+    fn bs_group_merge(group: &Shared, txn: Txn, interval: Node) -> Reply;
     fn bs_group_held(group: &Shared, txn: Txn, node: Node) -> Reply;
 
+    safe fn bs_group_counters(group: &Shared, counts: &mut Counters) -> Reply;
     safe fn bs_group_hold(group: &Shared, table: u32) -> Option<NonNull<Place>>;
     safe fn bs_group_let_go(group: &Shared, table: u32) -> Reply;
     safe fn bs_group_name_in(group: &Shared, node: Node, table: u32) -> Reply;
@@ -179,6 +204,11 @@ impl Group {
 
     pub(crate) fn keep(&self, most: u32) -> Reply {
         bs_group_keep(self.shared(), most)
+    }
+
+    pub(crate) fn counters(&self) -> Result<Counters, Refusal> {
+        let mut counters = Counters::default();
+        accepted(bs_group_counters(self.shared(), &mut counters)).map(|_| counters)
     }
 
     pub(crate) fn name_in(&self, node: Node, table: u32) -> Reply {
@@ -303,6 +333,11 @@ impl<'g> Transaction<'g> {
         unsafe { bs_group_try_row_path(group, txn, file, number, start, count, mode, keep) }
     }
 
+    pub(crate) fn unlock(&mut self, node: Node) -> Reply {
+        // SAFETY: no other thread is in a call of this transaction.
+        unsafe { bs_group_unlock(self.shared(), self.name, node) }
+    }
+
     pub(crate) fn unlock_row(&mut self, row: Row) -> Reply {
         // SAFETY: no other thread is in a call of this transaction.
         unsafe { bs_group_unlock_row(self.shared(), self.name, row.file, row.number) }
@@ -311,6 +346,20 @@ impl<'g> Transaction<'g> {
     pub(crate) fn escalate(&mut self, node: Node) -> Reply {
         // SAFETY: no other thread is in a call of this transaction.
         unsafe { bs_group_escalate(self.shared(), self.name, node) }
+    }
+
+    pub(crate) fn mark(&self) -> Result<Savepoint, Refusal> {
+        let mut savepoint = Savepoint {
+            at: [0; MOST_PARTS + 1],
+        };
+        // SAFETY: no other thread is in a call of this transaction.
+        let reply = unsafe { bs_group_mark(self.shared(), self.name, &mut savepoint) };
+        accepted(reply).map(|_| savepoint)
+    }
+
+    pub(crate) fn release_since(&mut self, savepoint: &Savepoint) -> Reply {
+        // SAFETY: no other thread is in a call of this transaction.
+        unsafe { bs_group_release_since(self.shared(), self.name, savepoint) }
     }
 
     pub(crate) fn insert(&mut self, file: Node, keys: &[u64]) -> Reply {
@@ -334,8 +383,41 @@ impl<'g> Transaction<'g> {
         unsafe { bs_group_rekey_row(group, txn, file, number, index, key) }
     }
 
+    pub(crate) fn drop_node(&mut self, node: Node) -> Reply {
+        // SAFETY: no other thread is in a call of this transaction.
+        unsafe { bs_group_drop(self.shared(), self.name, node) }
+    }
+
+    pub(crate) fn split(&mut self, interval: Node, at: u64) -> Reply {
+        // SAFETY: no other thread is in a call of this transaction.
+        unsafe { bs_group_split(self.shared(), self.name, interval, at) }
+    }
+
+    pub(crate) fn merge(&mut self, interval: Node) -> Reply {
+        // SAFETY: no other thread is in a call of this transaction.
+        unsafe { bs_group_merge(self.shared(), self.name, interval) }
+    }
+
+    pub(crate) fn index_by(&mut self, parents: &[Node], file: Node, bounds: &[u64]) -> Reply {
+        let (group, txn) = (self.shared(), self.name);
+        let (above, count, start) = (nodes(parents), parents.len(), numbers(bounds));
+        // SAFETY: no other thread is in a call of this transaction, and the counts are the lists' own.
+        unsafe { bs_group_index_by(group, txn, above, count, file, start, bounds.len()) }
+    }
+
     pub(crate) fn held(&self, node: Node) -> Reply {
         // SAFETY: no other thread is in a call of this transaction.
         unsafe { bs_group_held(self.shared(), self.name, node) }
+    }
+}
+
+/// The layouts of the header's types, by a C compiler for machines of 64 bits.
+#[cfg(test)]
+mod layouts {
+    use super::*;
+
+    #[test]
+    fn savepoints() {
+        assert_eq!((size_of::<Savepoint>(), align_of::<Savepoint>()), (512, 8));
     }
 }
