@@ -857,7 +857,7 @@ static inline bool group_reach(group_way *way, bs_reply *why) {
  * Copies and visits. The main table's latch is held.
  */
 
-/* Counts a copy that is refused other than for want of memory or of numbers. By the laws none is. */
+/* Counts a copy that is refused for another reason than that memory or numbers are used up. By the laws none is. */
 static void group_note_fault(bs_table_group *group, bs_status status) {
   if (status != BS_DONE && status != BS_NO_MEMORY && status != BS_WORN_OUT) group->faults++;
 }
@@ -1232,28 +1232,46 @@ static bs_target group_in_file(const group_table *t, bs_node file, bs_mode mode)
   return target;
 }
 
+/* A call of a transaction in a part. */
+typedef struct group_call {
+  group_slot *own;
+  group_table *at;
+  bs_table *table;
+  bs_txn txn; /* its name in the part */
+} group_call;
+
+/* Reaches the part of a file for a request of a record or a row of it; an inner node is refused so. If that is done, the
+ * part's latch is held, and the request lacks nothing in the main table; else the answer is in `why`. */
+static inline bool group_reach_in(bs_table_group *group, bs_txn txn, bs_node file, bs_status inner, bs_mode mode,
+                                  const group_manner *manner, group_call *call, bs_reply *why) {
+  bs_target target;
+  group_way way;
+  *why = group_only(group_finds_both(group, txn, file, inner, &call->own, &call->at));
+  if (why->status != BS_DONE) return false;
+  target = group_in_file(call->at, file, mode);
+  way = group_way_to(group, call->own, call->at, &target, manner);
+  if (!group_reach(&way, why)) return false;
+  call->table = call->at->table;
+  call->txn = call->own->in[call->at->number];
+  return true;
+}
+
 /* Locks a row with what must be held above it. */
 static inline bs_reply group_row_path(bs_table_group *group, bs_txn txn, bs_node file, uint64_t number,
                                       const uint64_t *keys, size_t count, bs_mode mode, const group_manner *manner) {
   bs_status status = group_bad_call(group, mode, manner);
-  bs_target target;
-  group_table *t;
-  group_slot *own;
-  group_way way;
+  group_call call;
   bs_reply reply;
   if (keys == NULL && count != 0) status = BS_NULL_POINTER;
-  if (status == BS_DONE) status = group_finds_both(group, txn, file, BS_NOT_ROWS, &own, &t);
   if (status != BS_DONE) return group_only(status);
-  target = group_in_file(t, file, mode);
-  way = group_way_to(group, own, t, &target, manner);
-  if (!group_reach(&way, &reply)) return reply;
-  txn = own->in[t->number];
+  if (!group_reach_in(group, txn, file, BS_NOT_ROWS, mode, manner, &call, &reply)) return reply;
+  file = group_name_there(call.at, file);
   if (manner->may_sleep) {
-    reply = bs_inside_row_path(t->table, txn, target.node, number, keys, count, mode, manner->until);
+    reply = bs_inside_row_path(call.table, call.txn, file, number, keys, count, mode, manner->until);
   } else {
-    reply = bs_inside_try_row_path(t->table, txn, target.node, number, keys, count, mode, manner->keep);
+    reply = bs_inside_try_row_path(call.table, call.txn, file, number, keys, count, mode, manner->keep);
   }
-  return group_requested(own, t, reply);
+  return group_requested(call.own, call.at, reply);
 }
 
 bs_reply bs_group_lock_row_path(bs_table_group *group, bs_txn txn, bs_node file, uint64_t number, const uint64_t *keys,
@@ -1271,29 +1289,16 @@ bs_reply bs_group_try_row_path(bs_table_group *group, bs_txn txn, bs_node file, 
 bs_reply bs_group_insert(bs_table_group *group, bs_txn txn, bs_node file, const uint64_t *keys, size_t count) {
   group_manner manner = group_tries(BS_KEEP_NOTHING);
   bs_status status = group_bad_call(group, BS_X, &manner);
-  bs_target target;
-  group_table *t;
-  group_slot *own;
-  group_way way;
+  group_call call;
   bs_reply reply;
   if (keys == NULL && count != 0) status = BS_NULL_POINTER;
-  if (status == BS_DONE) status = group_finds_both(group, txn, file, BS_BAD_PARENTS, &own, &t);
   if (status != BS_DONE) return group_only(status);
-  target = group_in_file(t, file, BS_X);
-  way = group_way_to(group, own, t, &target, &manner);
-  if (!group_reach(&way, &reply)) return reply;
-  return group_leave(t, bs_inside_insert(t->table, own->in[t->number], target.node, keys, count));
+  if (!group_reach_in(group, txn, file, BS_BAD_PARENTS, BS_X, &manner, &call, &reply)) return reply;
+  return group_leave(call.at, bs_inside_insert(call.table, call.txn, group_name_there(call.at, file), keys, count));
 }
 
-/* A call of a transaction in a part that requests nothing on an inner node. */
-typedef struct group_call {
-  group_slot *own;
-  group_table *at;
-  bs_table *table;
-  bs_txn txn; /* its name in the part */
-} group_call;
-
-/* Enters the part of a node for such a call; an inner node is refused so. The part's latch is held if that is done. */
+/* Enters the part of a node for a call that requests nothing on an inner node; such a node is refused so. The part's
+ * latch is held if that is done. */
 static bs_status group_enter(bs_table_group *group, bs_txn txn, bs_node node, bs_status inner, group_call *call) {
   bs_status status = group_finds_both(group, txn, node, inner, &call->own, &call->at);
   if (status != BS_DONE) return status;

@@ -1207,7 +1207,7 @@ fn a_waker_calls_no_group() {
     in_a_waker(move || drop(last)); // Another thread ends it.
 }
 
-/// Who waits for a record that is deleted is told so, and a path follows one that moves.
+/// A waiter for a record that is deleted is told so, and a path follows one that moves.
 #[test]
 fn records_go_and_move_under_waiters() {
     let w = World::new();
@@ -1379,7 +1379,7 @@ fn a_deadlock_within_a_part_ends() {
     older.commit().unwrap();
 }
 
-/// Who reads an area waits for the writers below it in all parts, and later writers wait for the reader.
+/// A reader of an area waits for the writers below it in all parts, and later writers wait for the reader.
 #[test]
 fn an_area_is_read_against_writers_below() {
     let w = World::new();
