@@ -763,6 +763,7 @@ typedef struct group_manner {
   const struct timespec *until;
   bool may_sleep;
   uint32_t keep;
+  bs_mode instant; /* BS_INSTANT if it is a lock for an instant, else 0 */
 } group_manner;
 
 /* A request in a part, while it is found out what it lacks in the main table. */
@@ -790,13 +791,14 @@ static bs_status group_copy_own(bs_table_group *group, group_slot *own, bs_txn m
 /* Requests a node of a table in this manner, with the latch held before and after. */
 static bs_reply group_request(const group_table *t, bs_txn txn, bs_node node, bs_mode mode, const group_manner *manner) {
   if (!manner->may_sleep) return bs_inside_try_path(t->table, txn, node, mode, manner->keep);
-  return bs_inside_path(t->table, txn, node, mode, manner->until);
+  return bs_inside_path(t->table, txn, node, mode | manner->instant, manner->until);
 }
 
 /* Acquires in the main table, whose latch is held before and after, what the request lacks there, which stays. */
 static bs_reply group_acquire(const group_way *way, bs_reply lacks) {
   group_manner manner = way->manner;
   manner.keep = BS_KEEP_WAY;
+  manner.instant = 0;
   return group_request(&way->group->tables[0], way->main_txn, lacks.node, lacks.mode, &manner);
 }
 
@@ -1158,13 +1160,13 @@ static inline group_way group_way_to(bs_table_group *group, group_slot *own, gro
 
 /* The manner of a request that may sleep until this time; and of a try. */
 static inline group_manner group_until(const struct timespec *until) {
-  group_manner manner = { NULL, true, BS_KEEP_WAY };
+  group_manner manner = { NULL, true, BS_KEEP_WAY, 0 };
   manner.until = until;
   return manner;
 }
 
 static inline group_manner group_tries(uint32_t keep) {
-  group_manner manner = { NULL, false, BS_KEEP_NOTHING };
+  group_manner manner = { NULL, false, BS_KEEP_NOTHING, 0 };
   manner.keep = keep;
   return manner;
 }
@@ -1192,6 +1194,7 @@ static inline bs_reply group_path(bs_table_group *group, bs_txn txn, bs_node nod
   group_slot *own;
   group_way way;
   bs_reply reply;
+  if (status == BS_DONE && part == 0 && manner->instant != 0) status = BS_BAD_NUMBER;
   if (status == BS_DONE) status = group_finds(group, txn, &own);
   if (status == BS_DONE && part > group->parts) status = BS_NO_SUCH_NODE;
   if (status != BS_DONE) return group_only(status);
@@ -1208,7 +1211,8 @@ static inline bs_reply group_path(bs_table_group *group, bs_txn txn, bs_node nod
 bs_reply bs_group_lock_path(bs_table_group *group, bs_txn txn, bs_node node, bs_mode mode,
                             const struct timespec *until) {
   group_manner manner = group_until(until);
-  return group_path(group, txn, node, mode, &manner);
+  manner.instant = mode & BS_INSTANT;
+  return group_path(group, txn, node, mode & ~(bs_mode)BS_INSTANT, &manner);
 }
 
 bs_reply bs_group_try_path(bs_table_group *group, bs_txn txn, bs_node node, bs_mode mode, uint32_t keep) {

@@ -23,8 +23,8 @@
  * WHAT A CALL ANSWERS. A call answers as the call of a table that has its name (`bs_table_` for `bs_group_`), and is
  * refused as that, after these:
  *   - BS_NULL_POINTER;
- *   - BS_BAD_NUMBER: a mode that is none of enum bs_modes, BS_INSTANT among them, a time that is not valid, or a `keep`
- *     that is none of enum bs_keeps;
+ *   - BS_BAD_NUMBER: a mode that is none of enum bs_modes, BS_INSTANT among them if the call does not take it, a time
+ *     that is not valid, or a `keep` that is none of enum bs_keeps;
  *   - BS_IN_USE: this thread holds a table, of the group or another, or is in a callback of a table;
  *   - BS_NO_MANAGER: the group was ended;
  *   - BS_NO_SUCH_TXN, of a call with a transaction;
@@ -153,7 +153,8 @@ bs_reply bs_group_keep(bs_table_group *group, uint32_t most);
 
 /* As bs_table_lock_path, of any node. If it is a file or below one, and an inner node above it is locked in more than an
  * intention, or somebody waits for that, it may sleep in the main table first. A mode of more than an intention on an
- * inner node is the one that the main table grants: what the transaction has there alone, it keeps until it ends. */
+ * inner node is the one that the main table grants: what the transaction has there alone, it keeps until it ends. A node
+ * that is no inner one is also locked for an instant (BS_INSTANT). */
 bs_reply bs_group_lock_path(bs_table_group *group, bs_txn txn, bs_node node, bs_mode mode,
                             const struct timespec *until);
 

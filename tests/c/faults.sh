@@ -393,6 +393,7 @@ group-refused-requests-leave-marks	/ group_lock_more(/,/^}/s/^  if (reply.status
 group-new-indexes-end-no-sleep	/ group_indexed(/,/^}/s/^    bs_inside_end_sleep(.*//
 group-rolls-back-and-keeps	/ group_release_in(/,/^}/s/^  if (kept->count > savepoint) .*//
 group-rolls-back-where-it-was	/^bs_reply bs_group_release_since(/,/^}/s/left = own->used;/left = own->used \& -own->used;/
+group-keeps-what-was-for-an-instant	s/mode | manner->instant, manner->until/mode, manner->until/
 group-ends-one-who-rests	/^bs_status bs_inside_end_resting(/,/^}/s/  } while (reply.status == BS_DONE);/  } while (false);/
 a-refused-list-of-a-session-tells	/^size_t bs_session_run(/,/^}/s/^    table_list_of(table, commands\[0\].told)->count = 0;//
 FAULTS

@@ -340,7 +340,9 @@ static void wrong_requests_are_refused(void) {
   struct timespec bad = { 0, 1000000000 };
   uint64_t key = 5;
   ANSWERS(BS_BAD_NUMBER, lock_path(txn, base, BS_X + 1));
-  ANSWERS(BS_BAD_NUMBER, lock_path(txn, records[1][0], BS_X | BS_INSTANT));
+  ANSWERS(BS_BAD_NUMBER, lock_path(txn, areas[1], BS_S | BS_INSTANT));
+  ANSWERS(BS_BAD_NUMBER, lock_path(txn, records[1][0], (BS_X + 1) | BS_INSTANT));
+  ANSWERS(BS_BAD_NUMBER, bs_group_try_path(group, txn, records[1][0], BS_X | BS_INSTANT, BS_KEEP_WAY));
   ANSWERS(BS_BAD_NUMBER, bs_group_lock_path(group, txn, base, BS_S, &bad));
   ANSWERS(BS_BAD_NUMBER, bs_group_lock_row_path(group, txn, row_files[1], 1, &key, 1, BS_S, &bad));
   ANSWERS(BS_BAD_MODE, lock_path(txn, base, BS_NL));
@@ -691,6 +693,24 @@ static void paths_are_tried(void) {
   WANT(held_in(group, 0, other, areas[1]) == BS_S && marks_in(group, 1) == 1);
   WANT(group_is_node(ANSWERS(BS_WOULD_BLOCK, bs_group_try_path(group, txn, files[2], BS_IX, BS_KEEP_WAY)).node, areas[1]));
   ANSWERS(BS_BAD_NUMBER, bs_group_try_path(group, txn, record, BS_S, BS_KEEP_WAY + 1));
+  want_rules(group);
+  commit(txn);
+  commit(other);
+  want_rest(group);
+}
+
+/* A lock for an instant says that it could be had, and leaves what is above its node. */
+static void instants_are_released(void) {
+  bs_txn txn = begun(), other = begun();
+  bs_node record = records[1][0];
+  DONE(lock_path(txn, record, BS_S));
+  DONE(lock_path(other, record, BS_S | BS_INSTANT));
+  WANT(held_in(group, 1, other, record) == BS_NL && held_in(group, 1, other, files[1]) == BS_IS);
+  ANSWERS(BS_TIMED_OUT, bs_group_lock_path(group, other, record, BS_X | BS_INSTANT, &at_once));
+  WANT(DONE(lock_path(txn, record, BS_X | BS_INSTANT)).mode == BS_X && held_in(group, 1, txn, record) == BS_X);
+  DONE(lock_path(txn, areas[1], BS_S));
+  DONE(lock_path(other, records[2][0], BS_S | BS_INSTANT));
+  WANT(held_in(group, 0, other, areas[1]) == BS_IS && held_in(group, 2, other, records[2][0]) == BS_NL);
   want_rules(group);
   commit(txn);
   commit(other);
@@ -1050,6 +1070,18 @@ static void wakes_with(sleeper *own, bs_status status) {
   join(own->thread);
   ANSWERS(status, own->reply);
   want_rules(group);
+}
+
+static void instants_are_awaited(void) {
+  bs_txn holder = begun(), other = begun();
+  sleeper own;
+  DONE(lock_path(holder, records[1][0], BS_S));
+  sleep_in(&own, 1, other, records[1][0], BS_X | BS_INSTANT);
+  commit(holder);
+  wakes_with(&own, BS_DONE);
+  WANT(held_in(group, 1, other, records[1][0]) == BS_NL && held_in(group, 1, other, files[1]) == BS_IX);
+  commit(other);
+  want_rest(group);
 }
 
 static void strong_waits_for_records_of_any_part(void) {
@@ -2228,11 +2260,12 @@ static const struct {
   STORY(schemas_change_in_a_part),
   STORY(who_holds_a_table_is_refused), STORY(names_are_translated), STORY(one_part_needs_no_other),
   STORY(begins_have_ages), STORY_ALONE(records_come_and_go), STORY(rows_have_numbers), STORY(strong_locks_are_in_main),
-  STORY(inserts_are_tried), STORY(paths_are_tried), STORY(row_paths_are_tried), STORY(nodes_are_made_at_any_time), STORY(many_marks_are_reached),
+  STORY(inserts_are_tried), STORY(paths_are_tried), STORY(row_paths_are_tried), STORY(instants_are_released), STORY(nodes_are_made_at_any_time), STORY(many_marks_are_reached),
   STORY_ALONE(answers_are_those_of_a_table),
   STORY(refused_memory_makes_no_group), STORY(refused_memory_breaks_no_rule),
   STORY(refused_memory_makes_no_index),
-  STORY(strong_waits_for_records_of_any_part), STORY(records_wait_for_strong), STORY(sleepers_are_visited),
+  STORY(instants_are_awaited), STORY(strong_waits_for_records_of_any_part), STORY(records_wait_for_strong),
+  STORY(sleepers_are_visited),
   STORY(rows_that_wait_are_visited), STORY(new_indexes_end_paths), STORY(readers_that_wait_are_visited),
   STORY(indexes_need_what_is_above), STORY(other_indexes_end_paths), STORY(new_roots_end_paths),
   STORY(changes_end_waits), STORY_ALONE(savepoints_are_of_parts), STORY(counters_are_summed),
