@@ -7,7 +7,8 @@
  * (bs_path_lacks), where each request of a path that lacks nothing is such a step; what a visit copies (bs_next_copy),
  * and what a transaction copies of its own (bs_own_copy); when marks may be cleared (bs_may_clear); who waits for whom
  * in all tables (bs_join_board), and who falls (bs_suspects, bs_youngest). This source keeps the latches, the sleeps,
- * the marks and the counts of requests in progress, and asks all that at its time: that is written in C, and tested.
+ * the marks and the counts of requests in progress, asks all that at its time, ends sleeps as an index is made, and says
+ * in which parts nobody rests: that is written in C, and tested.
  *
  * LATCHES are acquired by rising number: nobody acquires the main table's while holding a part's.
  *

@@ -64,11 +64,9 @@ void bs_call_condemned(bs_running *running);
  * ended by their name. */
 void bs_call_waits_ended(bs_running *running, const bs_slots *ended, const bs_notices *told);
 
-/* The wait of a slot was cancelled since its time is over; since its transaction fell in a group; or since a group has
- * ended it for another reason. */
-void bs_call_wait_late(bs_running *running, uint32_t slot);
-void bs_call_wait_fell(bs_running *running, uint32_t slot);
-void bs_call_wait_cut(bs_running *running, uint32_t slot);
+/* The wait of a slot was cancelled by the table or its group, and counts as one that has ended so: BS_END_TIMED_OUT if
+ * its time is over, BS_END_VICTIM if its transaction fell in a group, BS_END_CANCELLED for another reason. */
+void bs_call_wait_cut(bs_running *running, uint32_t slot, enum bs_wait_ends end);
 
 /* The table ends: wakes the thread that tells. Then, without the latch, awaits its end. */
 void bs_call_run_out(bs_running *running);

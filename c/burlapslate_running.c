@@ -244,22 +244,9 @@ void bs_call_waits_ended(bs_running *running, const bs_slots *ended, const bs_no
   if (has_victims) running_note_deadlock(running);
 }
 
-/* The wait of a slot, if it waits, has ended so, and nobody was told. */
-static void running_end_untold(bs_running *running, uint32_t slot, enum bs_wait_ends end) {
+void bs_call_wait_cut(bs_running *running, uint32_t slot, enum bs_wait_ends end) {
   if (!running_waits(running, slot)) return;
   running_end(running, bs_call_living(running->manager, slot).txn, end, bs_call_now());
-}
-
-void bs_call_wait_late(bs_running *running, uint32_t slot) {
-  running_end_untold(running, slot, BS_END_TIMED_OUT);
-}
-
-void bs_call_wait_fell(bs_running *running, uint32_t slot) {
-  running_end_untold(running, slot, BS_END_VICTIM);
-}
-
-void bs_call_wait_cut(bs_running *running, uint32_t slot) {
-  running_end_untold(running, slot, BS_END_CANCELLED);
 }
 
 /* Fires the probe of a victim that did not wait: it is the last one of all. */

@@ -581,7 +581,7 @@ static void table_woken(bs_table *table) {
 static bs_reply table_time_out(bs_table *table, bs_txn txn, table_waiter *waiter) {
   bs_reply end = table_make_call_time_out(table, txn, &table->told);
   if (end.status != BS_TIMED_OUT) return bs_call_only(BS_WORN_OUT);
-  bs_call_wait_late(&table->running, txn.slot);
+  bs_call_wait_cut(&table->running, txn.slot, BS_END_TIMED_OUT);
   table_end(table, waiter, txn.slot, end);
   table_wake_told(table, &table->told);
   return end;
@@ -2471,8 +2471,7 @@ bool bs_inside_end_sleep(bs_table *table, uint32_t slot, bs_status status) {
   end = table_make_call_time_out(table, bs_call_living(&table->manager, slot).txn, &table->told);
   if (end.status != BS_TIMED_OUT) return false;
   end.status = status;
-  if (status == BS_VICTIM) bs_call_wait_fell(&table->running, slot);
-  else bs_call_wait_cut(&table->running, slot);
+  bs_call_wait_cut(&table->running, slot, status == BS_VICTIM ? BS_END_VICTIM : BS_END_CANCELLED);
   table_end(table, waiter, slot, end);
   table_wake_told(table, &table->told);
   return true;

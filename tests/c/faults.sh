@@ -274,7 +274,7 @@ times-within-a-second-are-one	/^static uint64_t table_time_of(/,/^}/s/ + (uint64
 time-before-the-clock-is-none	/^static uint64_t table_time_of(/,/^}/s/  if (until->tv_sec < 0) return 0;//
 time-after-all-wraps	/^static uint64_t table_time_of(/,/^}/s/^  if ((uint64_t)until->tv_sec >= .*//
 late-forgets-to-wake	/^static bs_reply table_time_out(/,/^}/s/^  table_wake_told(table, &table->told);//
-late-wait-is-cancelled	/^static bs_reply table_time_out(/,/^}/s/^  bs_call_wait_late(.*//
+late-wait-is-cancelled	/^static bs_reply table_time_out(/,/^}/s/^  bs_call_wait_cut(.*//
 time-leaves-the-ask	/^static bs_reply table_time_out(/,/^}/s/^  table_end(table, waiter, txn.slot, end);//
 a-sleeper-tells-behind-its-sleep	/ table_sleep(bs_table/,/^}/s/^  if (!own->has_ended) table_tell_between(table);//
 early-return	/ table_sleep(bs_table/,/^}/s/  while (!own->has_ended \&\& late != ETIMEDOUT) {/  if (!own->has_ended) {/
