@@ -82,7 +82,7 @@ module _ {limits : Limits} {old mid : Slab Stored} {births : ℕ} {g : Graph} (h
 
     pub plain_kept : AreKept (λ children. children + 1 < 2 ^ 64) mid ps
     plain_kept =
-        are_kept added law' ps inner'.inner inner'.distinct (λ children. children + 1 < 2 ^ 64)
+        are_kept added law'.keys_differ ps inner'.inner inner'.distinct (λ children. children + 1 < 2 ^ 64)
         (λ n listed is. let was = all_at (λ q. is_inner_shape (shape_of g q)) ps n listed inner.inner in
         subst (λ b. counted_in b + 1 < 2 ^ 64)
         (sym (put_other id (beside_in_body x.body) (due g) n (other n (plain_live g n (inner_plain _ was))) ∙ inner_due g n was)) (children_fit g law n))
@@ -106,7 +106,7 @@ module _ {limits : Limits} {old mid : Slab Stored} {births : ℕ} {g : Graph} (h
 
     module _ (new : Slab Stored) (re : AreRecounted (λ children. children + 1) mid new ps (length ps)) where
       counted : Holds limits new (births + 1) after (λ n. recounted (more n) (put id (beside_in_body x.body) (due g) n))
-      counted = counts_written added law' ps inner'.inner inner'.distinct
+      counted = counts_written added law'.keys_differ ps inner'.inner inner'.distinct
           (λ children. children + 1) new re
 
       pub plain_sound : AreSound limits new (births + 1)

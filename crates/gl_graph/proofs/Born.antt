@@ -5,7 +5,7 @@ use Rattle.gl_graph.proofs.Words.{length, List, list_any, no, Node, node_at, nod
 use Rattle.gl_graph.proofs.Words.{parents_in, range_with_len, refl, rules, same_node, same_number, shape_in, shape_of, Some, split, subst, suc, sym, true}
 use Rattle.gl_graph.proofs.Words.{with_key, with_node, zero, ℕ, ◌==◌, ⊎_elim, ◌++◌, ◌+◌, ◌-◌, ◌<◌, ◌^◌, ◌∙◌, ◌∷◌, ◌≡◌, ◌≢◌, ◌≤◌, ◌⊎◌}
 use Rattle.gl_graph.proofs.Look.{found_at, finds, live_node, there_is, child_node}
-use Rattle.gl_graph.proofs.KindRules.{Frames, well_formed_kept, plain_live, one_shape}
+use Rattle.gl_graph.proofs.KindRules.{Frames, PlainFrames, well_formed_kept, plain_live, one_shape}
 use Rattle.gl_graph.proofs.Listings.{kept, index_born, indexes_are, range_append, map_same}
 use Rattle.gl_graph.proofs.Routes.{acyclic_beside}
 
@@ -131,6 +131,37 @@ module _ (g : Graph) (law : IsLawfulGraph g) (ns : List Node) where
   abbrev pub IsFresh : NodeId → Type 0
   IsFresh p = (is_live g p ≡ true) ⊎ ((is_live grown p ≡ true) × ((q : NodeId) → is_child grown q p ≡ true → is_live g q ≡ true))
 
+  pub born_plain : PlainFrames g grown
+  born_plain = record {
+    shapes = λ q plain. one_shape (shape_of grown q) (shape_of g q) (ap shape_in (old_same q (plain_live g q plain)));
+    intervals = λ q node e interval. old_same q (ap is_some e) ∙ e;
+    bounds = most_bounds_is g ns;
+  }
+
+  module _ (free : (k : ℕ) (node : Node) → place_in ns k ≡ Some node → IsFreeKey g node.key)
+      (differ : (j k : ℕ) (a b : Node) → place_in ns j ≡ Some a → place_in ns k ≡ Some b → a.key ≡ b.key → j ≡ k) where
+    pub born_apart : (a b : NodeId) → is_live grown a ≡ true → is_live grown b ≡ true → a.key ≡ b.key → a ≡ b
+    born_apart a b h k e =
+        let x = live_node (node_at grown a) h in
+        let y = live_node (node_at grown b) k in
+        old_or_new a x.0 x.1
+        (λ was_a. old_or_new b y.0 y.1 (λ was_b. law.keys_differ a b (ap is_some was_a) (ap is_some was_b) e)
+        (λ j at same. absurd (free j y.0 at a (ap is_some was_a) (e ∙ ap (λ q. q.key) same))))
+        (λ i at_a same_a. old_or_new b y.0 y.1 (λ was_b. absurd (free i x.0 at_a b (ap is_some was_b) (sym e ∙ ap (λ q. q.key) same_a)))
+        (λ j at_b same_b.
+        let keys : x.0.key ≡ y.0.key = sym (ap (λ q. q.key) same_a) ∙ e ∙ ap (λ q. q.key) same_b in
+        let place : i ≡ j = differ i j x.0 y.0 at_a at_b keys in
+        same_a ∙ (λ l. record { key = keys l; birth = g.births + 1 + place l }) ∙ sym same_b))
+
+  pub born_counted : (b : ℕ) → is_some (grown.at b) ≡ true → (1 ≤ b) × (b ≤ grown.births)
+  born_counted b h =
+      let x = live_node (grown.at b) h in
+      let id : NodeId = record { key = x.0.key; birth = b } in
+      let births = births_are g ns in
+      old_or_new id x.0 (finds x.0.key (grown.at b) x.0 x.1 refl)
+      (λ was. let old = law.born b (there_is (g.at b) x.0 (found_at g id x.0 was).0) in (old.0, omega arith))
+      (λ k at same. let low = place_below ns k x.0 at in let birth : b ≡ g.births + 1 + k = ap (λ q. q.birth) same in (omega arith, omega arith))
+
   module _ (indexes : (f r : NodeId) → is_record_shape (shape_of g r) ≡ true → is_child g f r ≡ true → indexes_of grown f ≡ indexes_of g f) where
     pub born_frames : Frames g grown
     born_frames = grind (arith, one_shape, old_same, plain_live, most_bounds_is)
@@ -161,24 +192,8 @@ module _ (g : Graph) (law : IsLawfulGraph g) (ns : List Node) where
         acyclic = acyclic_beside g grown (λ p n h. law.parents_live n p h) old_child
             (λ p n h k. ⊎_elim inl (λ (both : (is_live grown p ≡ true)
             × ((q : NodeId) → is_child grown q p ≡ true → is_live g q ≡ true)). inr both.1) (new_child p n h k)) law.acyclic;
-        keys_differ = λ a b h k e.
-            let x = live_node (node_at grown a) h in
-            let y = live_node (node_at grown b) k in
-            old_or_new a x.0 x.1
-            (λ was_a. old_or_new b y.0 y.1 (λ was_b. law.keys_differ a b (ap is_some was_a) (ap is_some was_b) e)
-            (λ j at same. absurd (free j y.0 at a (ap is_some was_a) (e ∙ ap (λ q. q.key) same))))
-            (λ i at_a same_a. old_or_new b y.0 y.1 (λ was_b. absurd (free i x.0 at_a b (ap is_some was_b) (sym e ∙ ap (λ q. q.key) same_a)))
-            (λ j at_b same_b.
-            let keys : x.0.key ≡ y.0.key = sym (ap (λ q. q.key) same_a) ∙ e ∙ ap (λ q. q.key) same_b in
-            let place : i ≡ j = differ i j x.0 y.0 at_a at_b keys in
-            same_a ∙ (λ l. record { key = keys l; birth = g.births + 1 + place l }) ∙ sym same_b));
-        born = λ b h.
-            let x = live_node (grown.at b) h in
-            let id : NodeId = record { key = x.0.key; birth = b } in
-            let births = births_are g ns in
-            old_or_new id x.0 (finds x.0.key (grown.at b) x.0 x.1 refl)
-            (λ was. let old = law.born b (there_is (g.at b) x.0 (found_at g id x.0 was).0) in (old.0, omega arith))
-            (λ k at same. let low = place_below ns k x.0 at in let birth : b ≡ g.births + 1 + k = ap (λ q. q.birth) same in (omega arith, omega arith));
+        keys_differ = born_apart free differ;
+        born = born_counted;
         seven_indexes = seven;
         limit = subst (λ m. m ≤ 2 ^ 31) (sym (most_is g ns)) law.limit;
         room = let same : grown.most ≡ g.most = most_is g ns in omega arith;

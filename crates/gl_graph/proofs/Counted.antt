@@ -1,7 +1,7 @@
 -- Different inner nodes store another number of children each, and nothing else changes.
 use Rattle.gl_graph.proofs.Words.{ap, are_distinct, are_inner, AreBornApart, AreRecounted, AreStored, arith, Beside, beside_in_body, Body}
 use Rattle.gl_graph.proofs.Words.{body_with_children, Bool, cases_of, children_in_body, Counts, EachKeeps, false, get, Graph, Holds}
-use Rattle.gl_graph.proofs.Words.{if◌then◌else◌, is_inner_shape, is_live, is_some, IsLawfulGraph, length, Limits, List, list_any, no, node_of, NodeId}
+use Rattle.gl_graph.proofs.Words.{if◌then◌else◌, is_inner_shape, is_live, is_some, length, Limits, List, list_any, no, node_of, NodeId}
 use Rattle.gl_graph.proofs.Words.{none_some, other_number, refl, same_node, shape_of, Slab}
 use Rattle.gl_graph.proofs.Words.{slab_len, slice_get, slice_get_within, Some, some_is, split, Stored, subst, sym, true, Updates, vertex_of, ℕ, ◌+◌}
 use Rattle.gl_graph.proofs.Words.{◌==◌, ◌∙◌, ◌≡◌}
@@ -48,14 +48,15 @@ pub record AreKept (Such : ℕ → Type 0) (nodes : Slab Stored) (ids : List Nod
   pub each : EachKeeps Such nodes ids
 
 module _ {limits : Limits} {mid : Slab Stored} {births : ℕ} {g : Graph} {beside : NodeId → Beside} (h : Holds limits mid births g beside)
-    (law : IsLawfulGraph g) (ids : List NodeId) (inner : are_inner g ids ≡ true) (distinct : are_distinct ids ≡ true) where
+    (keys : (m n : NodeId) → is_live g m ≡ true → is_live g n ≡ true → m.key ≡ n.key → m ≡ n) (ids : List NodeId) (inner : are_inner g ids ≡ true)
+    (distinct : are_distinct ids ≡ true) where
   live_at : (place : ℕ) (n : NodeId) → slice_get ids place ≡ Some n → is_live g n ≡ true
   live_at place n at = plain_live g n (inner_plain _ (all_at (λ q. is_inner_shape (shape_of g q)) ids n (listed_at ids place n at) inner))
 
   are_stored : AreStored mid ids
   are_stored = record {
     there = λ place n at. ap is_some (live_held h n (live_at place n at)).there;
-    apart = keys_apart g law ids distinct (λ n listed. plain_live g n (inner_plain _ (all_at (λ q. is_inner_shape (shape_of g q)) ids n listed inner)));
+    apart = keys_apart g keys ids distinct (λ n listed. plain_live g n (inner_plain _ (all_at (λ q. is_inner_shape (shape_of g q)) ids n listed inner)));
   }
 
   pub are_kept : (Such : ℕ → Type 0)

@@ -57,11 +57,12 @@ one_place (x ∷ xs) (suc i) zero d h low high e = grind (arith, no, any_at, and
 one_place (x ∷ xs) (suc i) (suc j) d h low high e = grind (arith, one_place xs i j d)
 
 -- different living nodes have different keys
-pub keys_apart : (g : Graph) → IsLawfulGraph g → (ids : List NodeId) → are_distinct ids ≡ true
+pub keys_apart : (g : Graph) → ((m n : NodeId) → is_live g m ≡ true → is_live g n ≡ true → m.key ≡ n.key → m ≡ n) → (ids : List NodeId)
+    → are_distinct ids ≡ true
     → ((n : NodeId) → list_any (same_node n) ids ≡ true → is_live g n ≡ true) → (place other : ℕ) (m n : NodeId)
     → slice_get ids place ≡ Some m → slice_get ids other ≡ Some n → m.key ≡ n.key → place ≡ other
-keys_apart g law ids distinct live place other m n at at' same =
-    let equal = law.keys_differ m n (live m (listed_at ids place m at)) (live n (listed_at ids other n at')) same in
+keys_apart g keys ids distinct live place other m n at at' same =
+    let equal = keys m n (live m (listed_at ids place m at)) (live n (listed_at ids other n at')) same in
     one_place ids place other no_node distinct (slice_get_within ids place m at) (slice_get_within ids other n at')
     (get_or_from_slice_get ids place m no_node at ∙ equal ∙ sym (get_or_from_slice_get ids other n no_node at'))
 

@@ -4,25 +4,33 @@ use Rattle.gl_graph.proofs.Words.{beside_in_body, Body, body_with_indexes, body_
 use Rattle.gl_graph.proofs.Words.{children_of, ContainsKey, count_by, due, due_as, false, fun_ext, get, Global, Graph, graph_of, Holds, ids_of, if◌then◌else◌}
 use Rattle.gl_graph.proofs.Words.{Index, indexes_of, Inside, Interval, interval_nodes, is_inner_shape, is_live, is_some, IsFreeKey, IsIndexBorn, IsLawfulGraph}
 use Rattle.gl_graph.proofs.Words.{IsSound, length, Limits, limits_of, List, list_any, Lists, new_index, no, Node, node_at, node_count, node_of, NodeId, None}
-use Rattle.gl_graph.proofs.Words.{none_some, not_true, Nothing, Option, or_elim, parents_in_body, record_count, refl, reindex_refusal, same_node}
+use Rattle.gl_graph.proofs.Words.{none_some, not_true, Nothing, Option, or_elim, parents_in_body, record_count, refl, same_node}
 use Rattle.gl_graph.proofs.Words.{same_node-equal, same_number, seen, shape_in, shape_in_body, shape_of, Slab, slab_len, SmallVec, Some, some_is, split, Stored}
 use Rattle.gl_graph.proofs.Words.{subst, suc, sym, true, Updates, Vec, vertex_of, View, view_of, with_node, zero, ℕ, ⊎_elim, ◌++◌, ◌+◌, ◌<◌, ◌==◌, ◌^◌, ◌||◌}
 use Rattle.gl_graph.proofs.Words.{◌∙◌, ◌∷◌, ◌≡◌, ◌≢◌}
+use Rattle.gl_graph.proofs.Words.{bounds_in, count_by-le-length, interval_of, interval_place}
+use Rattle.gl_graph.proofs.Words.{intervals_in, is_index_of_shape, is_record_shape, IsRising, nat_le}
+use Rattle.gl_graph.proofs.Words.{no_node, same_node-refl, slice_index_or}
 use Rattle.gl_graph.specs.declared.node.Body.TheVariants as body
-use Rattle.gl_graph.proofs.Born.{first_written, old_below, old_same, old_or_new, place_in, new_id, new_not_old}
+use Rattle.gl_graph.proofs.Born.{born_apart, born_plain, first_written, old_below, old_same, old_or_new, place_in, new_id, new_not_old}
 use Rattle.gl_graph.proofs.Counted.{AreKept, are_kept, counted_in, counts_written}
-use Rattle.gl_graph.proofs.Counts.{count_cons, count_grown}
+use Rattle.gl_graph.proofs.Counts.{count_cons, count_grown, count_ids}
 use Rattle.gl_graph.proofs.Dues.{child_test, record_test, inner_due, file_due, due_stays, children_fit, one_more}
 use Rattle.gl_graph.proofs.Grow.{count_intervals}
 use Rattle.gl_graph.proofs.Held.{put, put_here, put_other, IsStored, live_held, births_held, within_held, beside_written, node_added, node_written, key_free}
 use Rattle.gl_graph.proofs.Held.{recounted, sound_held}
-use Rattle.gl_graph.proofs.KindRules.{parents_kept, plain_live, inner_plain, file_plain}
-use Rattle.gl_graph.proofs.Look.{all_at, live_node}
-use Rattle.gl_graph.proofs.NewIndex.{keys_of_intervals, interval_node, others, file_index, frames, index_lawful}
+use Rattle.gl_graph.proofs.KindRules.{PlainFrames, parents_same, plain_live, inner_plain, file_plain}
+use Rattle.gl_graph.proofs.Look.{all_at, listed_at, live_node}
+use Rattle.gl_graph.proofs.NewIndex.{keys_of_intervals, interval_node, others, file_index, free_born, index_there, keys_are}
+use Rattle.gl_graph.proofs.NewNodes.{places_apart}
 use Rattle.gl_graph.proofs.SameParents.{indexes_shown}
 use Rattle.gl_graph.proofs.Slots.{inserted_apart, inserted_within}
 use Rattle.gl_graph.proofs.Tally.{ones, count_borns}
-use Rattle.gl_graph.proofs.Unrefused.{IsRoomyIndex}
+use Rattle.gl_graph.specs.Keying.{AreBodiesFor, AreKeyed, CanBeKeyed, interval_in_body}
+use Rattle.gl_graph.specs.Over.{IsIndexOver, keyed, over_refusal}
+use Rattle.gl_graph.proofs.OverGraph.{IsRoomyOver, keys_many, lawful_after, live_after, over_unrefused, seen_after}
+use Rattle.gl_graph.proofs.OverStored.{bodies_still, named_live, named_record, records_ready}
+use Rattle.gl_graph.proofs.OverSound.{due_keyed, keyed_held}
 
 -- an index without intervals gets some
 record HasIntervals (b was : Body) (f : NodeId) (bs : List ℕ) (is : List NodeId) : Type 0 where
@@ -63,8 +71,10 @@ roomy i sound v view s e = grind arith
 
 -- an index that no test refuses can be numbered, with its intervals
 pub births_left : {limits : Limits} {s : Slab Stored} {births : ℕ} {g : Graph} {beside : NodeId → Beside} → Holds limits s births g beside
-    → IsLawfulGraph g → (ps : List NodeId) (f : NodeId) (bs : List ℕ) → reindex_refusal g ps f bs ≡ None → births + 1 + (length bs + 1) < 2 ^ 64
-births_left {g = g} h law ps f bs free = grind arith
+    → IsLawfulGraph g → (ps : List NodeId) (f : NodeId) (bs : List ℕ) (rs : List NodeId) (ks : List ℕ) → over_refusal g ps f bs rs ks ≡ None
+    → births + 1 + (length bs + 1) < 2 ^ 64
+births_left {g = g} h law ps f bs rs ks free =
+    let may = over_unrefused g ps f bs rs ks free in let low = may.births in let room = may.room in let same = births_held h in omega arith
 
 module _ {limits : Limits} {old mid : Slab Stored} {births : ℕ} {g : Graph} (h : Holds limits old births g (due g)) (law : IsLawfulGraph g)
     (key : ℕ) (x : Stored) (free : get old key ≡ None) (u : Updates old mid key (Some x)) (next : x.birth ≡ births + 1)
@@ -82,7 +92,7 @@ module _ {limits : Limits} {old mid : Slab Stored} {births : ℕ} {g : Graph} (h
   index_apart = inserted_apart limits old mid births key x h.apart (within_held h law) free u next
 
   module _ (file : NodeId) (ps : List NodeId) (bounds : List ℕ) (shape : shape_in_body x.body ≡ Index file bounds []) (under : parents_in_body x.body ≡ ps)
-      (may : IsRoomyIndex g ps file bounds) (grown : Slab Stored) (ids : List NodeId)
+      (rs : List NodeId) (ks : List ℕ) (may : IsRoomyOver g ps file bounds rs ks) (grown : Slab Stored) (ids : List NodeId)
       (born : AreIntervalsBorn mid grown (record { key = key; birth = births + 1 }) (length bounds + 1) ids) where
     born' : AreIntervalsBorn mid grown id (length bounds + 1) ids
     born' = subst (λ b. AreIntervalsBorn mid grown (record { key = key; birth = b + 1 }) (length bounds + 1) ids) (sym births_are) born
@@ -147,8 +157,13 @@ module _ {limits : Limits} {old mid : Slab Stored} {births : ℕ} {g : Graph} (h
     apart_keys : are_apart (key ∷ keys) ≡ true
     apart_keys = grind (arith, both, none_some, keys_of_intervals)
 
-    lawful : IsLawfulGraph after
-    lawful = index_lawful g law key ps file bounds keys may.inner may.file may.few may.rise may.unused may.indexes born'.many apart_keys free_keys may.room
+    -- no two nodes have one key
+    keys_differ : (a b : NodeId) → is_live after a ≡ true → is_live after b ≡ true → a.key ≡ b.key → a ≡ b
+    keys_differ = born_apart g law ns (free_born g law key ps file bounds keys free_keys)
+        (places_apart ns (ap are_apart (keys_are g law key ps file bounds keys) ∙ apart_keys))
+
+    same_frames : PlainFrames g after
+    same_frames = born_plain g law ns
 
     held_born : Holds limits grown total unlisted (due g)
     held_born = record {
@@ -234,18 +249,15 @@ module _ {limits : Limits} {old mid : Slab Stored} {births : ℕ} {g : Graph} (h
         still : (m : NodeId) → is_live g m ≡ true → same_node m file ≡ false → now m ≡ due g m
         still m live other = grind arith
 
-        same_frames : Rattle.gl_graph.proofs.KindRules.Frames g after
-        same_frames = frames g law key ps file bounds keys may.inner may.file may.few may.rise may.unused may.indexes born'.many apart_keys free_keys may.room
-
         inner : AreInnerParents after 1 ps
-        inner = parents_kept g after law same_frames 1 ps may.inner
+        inner = parents_same g after same_frames 1 ps may.inner
 
         inner_other : (m : NodeId) → is_inner_shape (shape_of g m) ≡ true → same_node m file ≡ false
         inner_other m i = grind arith
 
         pub index_parents : AreKept (λ children. children + 1 < 2 ^ 64) fourth ps
         index_parents =
-            are_kept listed lawful ps inner.inner inner.distinct (λ children. children + 1 < 2 ^ 64)
+            are_kept listed keys_differ ps inner.inner inner.distinct (λ children. children + 1 < 2 ^ 64)
             (λ m listed' i. let was = all_at (λ q. is_inner_shape (shape_of g q)) ps m listed' may.inner.inner in
             subst (λ b. counted_in b + 1 < 2 ^ 64) (sym (still m (plain_live g m (inner_plain _ was)) (inner_other m was) ∙ inner_due g m was))
             (children_fit g law m))
@@ -278,27 +290,28 @@ module _ {limits : Limits} {old mid : Slab Stored} {births : ℕ} {g : Graph} (h
 
         module _ (last : Slab Stored) (re : AreRecounted (λ children. children + 1) fourth last ps (length ps)) where
           settled : Holds limits last total after (λ m. recounted (more m) (now m))
-          settled = counts_written listed lawful ps inner.inner inner.distinct (λ children. children + 1) last re
+          settled = counts_written listed keys_differ ps inner.inner inner.distinct (λ children. children + 1) last re
 
-          pub index_made : IsIndexBorn g (graph_of (seen limits last total)) (record { key = key; birth = births + 1 }) ps file bounds
-          index_made = record {
+          index_born : IsIndexBorn g after (record { key = key; birth = births + 1 }) ps file bounds
+          index_born = record {
             interval_keys = keys;
             intervals = born'.many;
             keys_apart = apart_keys;
             keys_free = free_keys;
             birth = ap (λ b. b + 1) (sym births_are);
-            after = settled.graph;
+            after = refl;
           }
 
-          pub index_sound : AreSound limits last total
-          index_sound =
-              sound_held settled lawful (λ m live. split (same_node m file) (λ t.
+          -- what is due beside each node before records are keyed
+          due_grown : (m : NodeId) → is_live after m ≡ true → recounted (more m) (now m) ≡ due after m
+          due_grown m live =
+              split (same_node m file) (λ t.
               let same = same_node-equal m file t in
               let lists = indexes_written slot.stored.body list (indexes_of g file) (record_count g file) (slot.kept ∙ file_due g file may.file) in
               ap (λ q. recounted (more q) (now q)) same
               ∙ ap (recounted (more file)) (put_here file (beside_in_body (body_with_indexes slot.stored.body list)) (due g) ∙ lists) ∙ sym lists
               ∙ due_file ∙ ap (due after) (sym same)) (λ t. let y = live_node (node_at after m) live in
-              old_or_new g law ns m y.0 y.1 (λ was. old_due m t (ap is_some was)) (λ k at is. new_due m t y.0 y.1 k at is)))
+              old_or_new g law ns m y.0 y.1 (λ was. old_due m t (ap is_some was)) (λ k at is. new_due m t y.0 y.1 k at is))
             where
               old_due : (m : NodeId) → same_node m file ≡ false → is_live g m ≡ true → recounted (more m) (now m) ≡ due after m
               old_due m other live =
@@ -317,3 +330,73 @@ module _ {limits : Limits} {old mid : Slab Stored} {births : ℕ} {g : Graph} (h
                   let dead : is_live g m ≡ false = not_true _ (λ t. new_not_old g law ns k y (ap (is_live g) (sym is) ∙ t)) in
                   ap (recounted (more m)) (put_other file (beside_in_body (body_with_indexes slot.stored.body list)) (due g) m other ∙ dead_due g m dead)
                   ∙ sym (ap (λ o. due_as after m (shape_in o)) there ∙ none_due m y k at)
+
+          is_id : record { key = key; birth = births + 1 } ≡ id
+          is_id = λ i. record { key = key; birth = (sym births_are) i + 1 }
+
+          there_index : node_at after id ≡ Some index
+          there_index = index_there g law key ps file bounds keys
+
+          abbrev beside_now : NodeId → Beside
+          beside_now m = recounted (more m) (now m)
+
+          index_stored : IsStored last after beside_now id
+          index_stored = live_held settled id (ap is_some there_index)
+
+          index_shape : shape_in_body index_stored.stored.body ≡ Index file bounds (ids_of (g.births + 1 + 1) keys)
+          index_shape = some_is (sym (ap shape_in index_stored.node) ∙ ap shape_in there_index)
+
+          same_named : (r : NodeId) → list_any (same_node r) rs ≡ true → node_at after r ≡ node_at g r
+          same_named r named = old_same g law ns r (named_live g law file rs ks may.named r named)
+
+          -- the records can be keyed by the bodies that were made of them
+          pub can_be_keyed : {before : Slab Stored} {births' : ℕ} → Holds limits before births' g (due g) → (bodies : List Body)
+              → AreBodiesFor before rs ks bodies (length rs) → CanBeKeyed last key rs ks bodies
+          can_be_keyed held bodies are = record {
+            index = record {
+              x = index_stored.stored;
+              there = index_stored.there;
+              rising = subst (λ sh. IsRising (bounds_in (Some sh))) (sym index_shape) may.rise.1;
+              each = λ k. subst (λ sh. interval_place (bounds_in (Some sh)) k < length (intervals_in (Some sh))) (sym index_shape) (fits k);
+            };
+            apart = λ place r at. key_free h law key x free u next len r (named_live g law file rs ks may.named r (listed_at rs place r at));
+            stored = records_ready g law file rs ks may.named settled same_named may.file may.indexes;
+            bodies_are = bodies_still g law file rs ks may.named held (λ r named. refl) settled same_named bodies (length rs) are;
+            a_key_each = keys_many g file rs ks may.named;
+          }
+            where
+              fits : (k : ℕ) → interval_place bounds k < length (ids_of (g.births + 1 + 1) keys)
+              fits k =
+                  let low = count_by-le-length (λ b. nat_le b k) bounds in
+                  let many = ap (λ xs. length (ids_of (g.births + 1 + 1) xs)) (sym (keys_of_intervals id keys)) ∙ count_ids (g.births + 1 + 1)
+                  (interval_nodes id keys) in
+                  let intervals = count_intervals id keys in
+                  let all = born'.many in
+                  omega arith
+
+          module _ (final : Slab Stored) (are : (y : Stored) → get last key ≡ Some y → AreKeyed last final (interval_in_body y.body) rs ks (length rs)) where
+            intervals_are : (k : ℕ) → interval_in_body index_stored.stored.body k ≡ interval_of after id k
+            intervals_are k =
+                ap (λ sh. slice_index_or (intervals_in (Some sh)) (interval_place (bounds_in (Some sh)) k) no_node) index_shape
+                ∙ sym (ap (λ o. slice_index_or (intervals_in (shape_in o)) (interval_place (bounds_in (shape_in o)) k) no_node) there_index)
+
+            held_keyed : Holds limits final total (keyed after id rs ks) beside_now
+            held_keyed =
+                keyed_held settled id rs ks (keys_many g file rs ks may.named)
+                (λ r named. (
+                  ap is_some (same_named r named) ∙ named_live g law file rs ks may.named r named,
+                  ap (λ o. is_record_shape (shape_in o)) (same_named r named) ∙ named_record g law file rs ks may.named r named,
+                ))
+                (interval_in_body index_stored.stored.body) intervals_are final (are index_stored.stored index_stored.there)
+
+            lawful : IsLawfulGraph (keyed after id rs ks)
+            lawful = lawful_after g law key ps file bounds keys rs ks may.file may.named may.inner may.few may.rise born'.many
+                may.indexes apart_keys free_keys may.room
+
+            pub over_sound : AreSound limits final total
+            over_sound = sound_held held_keyed lawful (λ m live. due_grown m (sym (live_after after id rs ks m) ∙ live)
+                ∙ due_keyed after id file rs ks lawful (seen_after after id rs ks (is_index_of_shape file) (λ xs ys. refl) id
+                ∙ ap (λ o. is_index_of_shape file (shape_in o)) there_index ∙ same_node-refl file) m)
+
+            pub over_made : IsIndexOver g (graph_of (seen limits final total)) (record { key = key; birth = births + 1 }) ps file bounds rs ks
+            over_made = record { born = after; index = index_born; after = held_keyed.graph ∙ ap (λ i. keyed after i rs ks) (sym is_id) }

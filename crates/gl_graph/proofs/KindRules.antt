@@ -3,7 +3,8 @@ use Rattle.gl_graph.proofs.Words.{[], and_both, ap, ap₂, are_inner, AreInnerPa
 use Rattle.gl_graph.proofs.Words.{HasShape, Index, indexes_of, Inner, Interval, interval, interval_at, interval_of, interval_place, intervals_in, intervals_of}
 use Rattle.gl_graph.proofs.Words.{is_child, is_file_shape, is_index_of_shape, is_index_shape, is_inner_shape, is_interval_shape, is_live, is_record_shape}
 use Rattle.gl_graph.proofs.Words.{IsIndexNode, IsLawfulGraph, IsWellFormed, length, List, list_all, list_any, list_any_at, no, no_node, Node, node_at, NodeId}
-use Rattle.gl_graph.proofs.Words.{nodes, None, Option, or_elim, or_left, or_right, Rec, record_parents, refl, rules, same_node, same_node-equal, same_node-refl}
+use Rattle.gl_graph.proofs.Words.{nodes, None, Option, or_elim, or_left, or_right, parents_in}
+use Rattle.gl_graph.proofs.Words.{Rec, record_parents, refl, rules, same_node, same_node-equal, same_node-refl}
 use Rattle.gl_graph.proofs.Words.{Shape, shape_in, shape_of, slice_get-get_or, slice_index_or, Some, subst, sym, true, ℕ, ◌||◌, ◌∙◌, ◌∷◌, ◌≡◌, ◌≤◌}
 use Rattle.gl_graph.proofs.Look.{all_at, all_filter, shaped_node, child_node, there_is}
 
@@ -75,6 +76,12 @@ one_shape o' o e = record {
   bounds = ap bounds_in e;
   intervals = ap intervals_in e;
 }
+
+-- what the kinds of nodes that are no records read stays as it was
+pub record PlainFrames (g g' : Graph) : Type 0 where
+  pub shapes : (q : NodeId) → is_plain (shape_of g q) ≡ true → AreAlike (shape_of g' q) (shape_of g q)
+  pub intervals : (q : NodeId) (node : Node) → node_at g q ≡ Some node → node.shape ≡ Interval → node_at g' q ≡ Some node
+  pub bounds : g'.most_bounds ≡ g.most_bounds
 
 -- what the kinds of the old nodes read stays as it was
 pub record Frames (g g' : Graph) : Type 0 where
@@ -155,16 +162,17 @@ module _ (g : Graph) (law : IsLawfulGraph g) where
   pub parent_plain : (n p : NodeId) → is_child g p n ≡ true → is_plain (shape_of g p) ≡ true
   parent_plain n p h = let k = parent_is n p h in kind_plain k.0 (shape_of g p) k.2
 
-module _ (g g' : Graph) (law : IsLawfulGraph g) (same : Frames g g') where
-  inner_kept : (ps : List NodeId) → are_inner g ps ≡ true → are_inner g' ps ≡ true
-  inner_kept [] h = refl
-  inner_kept (p ∷ ps) h = grind (arith, inner_kept ps)
+-- what its kind requires of a node is kept, of a record if its file keeps its indexes
+module _ (g g' : Graph) (same : PlainFrames g g') where
+  inner_same : (ps : List NodeId) → are_inner g ps ≡ true → are_inner g' ps ≡ true
+  inner_same [] h = refl
+  inner_same (p ∷ ps) h = grind (arith, inner_same ps)
 
-  pub parents_kept : (least : ℕ) (ps : List NodeId) → AreInnerParents g least ps → AreInnerParents g' least ps
-  parents_kept least ps a = record { enough = a.enough; few = a.few; inner = inner_kept ps a.inner; distinct = a.distinct }
+  pub parents_same : (least : ℕ) (ps : List NodeId) → AreInnerParents g least ps → AreInnerParents g' least ps
+  parents_same least ps a = record { enough = a.enough; few = a.few; inner = inner_same ps a.inner; distinct = a.distinct }
 
-  pub index_kept : (n f : NodeId) (bs : List ℕ) (is : List NodeId) → IsIndexNode g n f bs is → IsIndexNode g' n f bs is
-  index_kept n f bs is h = record {
+  pub index_same : (n f : NodeId) (bs : List ℕ) (is : List NodeId) → IsIndexNode g n f bs is → IsIndexNode g' n f bs is
+  index_same n f bs is h = record {
     file = (same.shapes f (file_plain _ h.file)).file ∙ h.file;
     few = subst (λ m. length bs ≤ m) (sym same.bounds) h.few;
     rising = h.rising;
@@ -173,32 +181,53 @@ module _ (g g' : Graph) (law : IsLawfulGraph g) (same : Frames g g') where
     intervals = λ i listed. same.intervals i _ (h.intervals i listed) refl;
   }
 
-  pub intervals_kept : (f : NodeId) (is : List NodeId) (keys : List ℕ) → list_all (λ i. is_index_of_shape f (shape_of g i)) is ≡ true
+  pub intervals_same : (f : NodeId) (is : List NodeId) (keys : List ℕ) → list_all (λ i. is_index_of_shape f (shape_of g i)) is ≡ true
       → intervals_of g' is keys ≡ intervals_of g is keys
-  intervals_kept f [] keys h = refl
-  intervals_kept f (i ∷ is) [] h = refl
-  intervals_kept f (i ∷ is) (key ∷ keys) h =
+  intervals_same f [] keys h = refl
+  intervals_same f (i ∷ is) [] h = refl
+  intervals_same f (i ∷ is) (key ∷ keys) h =
       let t = and_both _ _ h in
       let shape = same.shapes i (ap is_plain (index_of f (shape_of g i) t.0).3) in
-      ap₂ (λ x xs. x ∷ xs) (ap₂ (λ bs is'. slice_index_or is' (interval_place bs key) no_node) shape.bounds shape.intervals) (intervals_kept f is keys t.1)
+      ap₂ (λ x xs. x ∷ xs) (ap₂ (λ bs is'. slice_index_or is' (interval_place bs key) no_node) shape.bounds shape.intervals) (intervals_same f is keys t.1)
+
+  pub record_parents_same : (f : NodeId) (keys : List ℕ) → indexes_of g' f ≡ indexes_of g f → record_parents g' f keys ≡ record_parents g f keys
+  record_parents_same f keys e =
+      ap (λ xs. f ∷ xs) (ap (λ is. intervals_of g' is keys) e
+      ∙ intervals_same f (indexes_of g f) keys (all_filter (λ i. is_index_of_shape f (shape_of g i)) (nodes g)))
+
+  pub shape_same : (sh : Shape) (ps : List NodeId) (n : NodeId)
+      → ((f : NodeId) → is_record_shape (Some sh) ≡ true → list_any (same_node f) ps ≡ true → indexes_of g' f ≡ indexes_of g f)
+      → HasShape g n sh ps → HasShape g' n sh ps
+  shape_same Inner ps n indexes h = parents_same 0 ps h
+  shape_same (File adopted) ps n indexes h = parents_same 1 ps h
+  shape_same (Index f bs is) ps n indexes h = (parents_same 1 ps h.0, index_same n f bs is h.1)
+  shape_same Interval ps n indexes h =
+      let like = same.shapes h.0 (index_plain _ h.2) in (h.0, h.1, like.index ∙ h.2, ap (list_any (same_node n)) like.intervals ∙ h.3)
+  shape_same (Rec keys) ps n indexes h =
+      let all = indexes h.0 refl (ap (list_any (same_node h.0)) h.1.parents ∙ or_left (same_node h.0 h.0) _ (same_node-refl h.0)) in (
+        h.0,
+        record {
+          file_is = (same.shapes h.0 (file_plain _ h.1.file_is)).file ∙ h.1.file_is;
+          a_key_each = h.1.a_key_each ∙ sym (ap length all);
+          parents = h.1.parents ∙ sym (record_parents_same h.0 keys all);
+        },
+      )
+
+pub plain_of : (g g' : Graph) → Frames g g' → PlainFrames g g'
+plain_of g g' same = record { shapes = same.shapes; intervals = same.intervals; bounds = same.bounds }
+
+module _ (g g' : Graph) (law : IsLawfulGraph g) (same : Frames g g') where
+  pub parents_kept : (least : ℕ) (ps : List NodeId) → AreInnerParents g least ps → AreInnerParents g' least ps
+  parents_kept least ps a = parents_same g g' (plain_of g g' same) least ps a
+
+  pub index_kept : (n f : NodeId) (bs : List ℕ) (is : List NodeId) → IsIndexNode g n f bs is → IsIndexNode g' n f bs is
+  index_kept n f bs is h = index_same g g' (plain_of g g' same) n f bs is h
 
   pub record_parents_kept : (f : NodeId) (keys : List ℕ) → indexes_of g' f ≡ indexes_of g f → record_parents g' f keys ≡ record_parents g f keys
-  record_parents_kept f keys e =
-      ap (λ xs. f ∷ xs) (ap (λ is. intervals_of g' is keys) e
-      ∙ intervals_kept f (indexes_of g f) keys (all_filter (λ i. is_index_of_shape f (shape_of g i)) (nodes g)))
-
-  -- what its kind requires of a node is kept
-  pub shape_kept : (sh : Shape) (ps : List NodeId) (n : NodeId) (node : Node) → node_at g n ≡ Some node → node.shape ≡ sh → node.parents ≡ ps
-      → HasShape g n sh ps → HasShape g' n sh ps
-  shape_kept Inner ps n node e es ep h = parents_kept 0 ps h
-  shape_kept (File adopted) ps n node e es ep h = parents_kept 1 ps h
-  shape_kept (Index f bs is) ps n node e es ep h = (parents_kept 1 ps h.0, index_kept n f bs is h.1)
-  shape_kept Interval ps n node e es ep h =
-      let like = same.shapes h.0 (index_plain _ h.2) in (h.0, h.1, like.index ∙ h.2, ap (list_any (same_node n)) like.intervals ∙ h.3)
-  shape_kept (Rec keys) ps n node e es ep h =
-      let child : is_child g h.0 n ≡ true = grind arith in
-      let rec : is_record_shape (shape_of g n) ≡ true = ap (λ o. is_record_shape (shape_in o)) e ∙ ap (λ x. is_record_shape (Some x)) es in
-      (grind (arith, file_plain, record_parents_kept))
+  record_parents_kept f keys e = record_parents_same g g' (plain_of g g' same) f keys e
 
   pub well_formed_kept : (n : NodeId) (node : Node) → node_at g n ≡ Some node → IsWellFormed g' n node
-  well_formed_kept n node e = shape_kept node.shape node.parents n node e refl refl (law.well_formed n node e)
+  well_formed_kept n node e =
+      shape_same g g' (plain_of g g' same) node.shape node.parents n
+      (λ f rec up. same.indexes f n (ap (λ o. is_record_shape (shape_in o)) e ∙ rec) (ap (λ o. list_any (same_node f) (parents_in o)) e ∙ up))
+      (law.well_formed n node e)

@@ -10,6 +10,12 @@ pub mod Removed
 pub mod Changed
 pub mod Moved
 pub mod Unrefused
+pub mod Over
+mod Cover
+pub mod OverGraph
+pub mod OverSound
+pub mod OverStored
+pub mod KeyedBodies
 pub mod FirstOf
 pub mod Slots
 pub mod Beside

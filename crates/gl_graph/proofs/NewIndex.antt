@@ -7,10 +7,10 @@ use Rattle.gl_graph.proofs.Words.{none_some, or_elim, or_left, or_right, refl, s
 use Rattle.gl_graph.proofs.Words.{shape_of, Some, some_is, split, subst, suc, sym, true, zero, ℕ, ◌&&◌, ◌++◌, ◌+◌, ◌<◌, ◌==◌, ◌∙◌, ◌∷◌, ◌≡◌, ◌≤◌}
 use Rattle.gl_graph.proofs.Tally.{list_born, list_borns}
 use Rattle.gl_graph.proofs.Look.{all_at}
-use Rattle.gl_graph.proofs.KindRules.{Frames, inner_plain, file_plain, plain_live, parents_kept}
+use Rattle.gl_graph.proofs.KindRules.{Frames, inner_plain, file_plain, plain_live, parents_same}
 use Rattle.gl_graph.proofs.Moved.{some_at}
 use Rattle.gl_graph.proofs.RouteLengths.{listed}
-use Rattle.gl_graph.proofs.Born.{place_in, new_id, new_node, born_frames, born_lawful, IsFresh}
+use Rattle.gl_graph.proofs.Born.{place_in, new_id, new_node, born_frames, born_lawful, born_plain, IsFresh}
 use Rattle.gl_graph.proofs.Counts.{count_grown, count_ids}
 use Rattle.gl_graph.proofs.Grow.{count_intervals}
 use Rattle.gl_graph.proofs.Removed.{rec_live}
@@ -90,9 +90,54 @@ module _ (g : Graph) (law : IsLawfulGraph g) (key : ℕ) (ps : List NodeId) (fil
       ∙ list_born (λ n o. is_index_of_shape file (shape_in o)) g index
       ∙ ap (λ b. indexes_of g file ++ cons_option (if b then Some id else None) []) (same_node-refl file)
 
+  pub keys_are : keys_of ns ≡ key ∷ keys
+  keys_are = ap (λ xs. key ∷ xs) (keys_of_intervals id keys)
+
+  pub free_born : ((k : ℕ) → list_any (λ x. x == k) (key ∷ keys) ≡ true → IsFreeKey g k) → (k : ℕ) (node : Node) → place_in ns k ≡ Some node
+      → IsFreeKey g node.key
+  free_born free k node e = free node.key (ap (list_any (λ x. x == node.key)) (sym keys_are) ∙ key_listed ns k node e)
+
   pub no_record_born : (k : ℕ) (node : Node) → place_in ns k ≡ Some node → is_record_shape (Some node.shape) ≡ false
   no_record_born zero node e = ap (λ x. is_record_shape (Some x.shape)) (sym (some_is e))
   no_record_born (suc k) node e = ap (λ x. is_record_shape (Some x.shape)) (interval_node id keys k node e)
+
+  module _ (inner : AreInnerParents g 1 ps) (is_file : is_file_shape (shape_of g file) ≡ true) (few : length bounds ≤ g.most_bounds)
+      (rising : IsRising (0 ∷ bounds)) (each : length keys ≡ length bounds + 1) where
+    intervals_there : (i : NodeId) → list_any (same_node i) (ids_of (g.births + 1 + 1) keys) ≡ true
+        → node_at grown i ≡ Some (record { key = i.key; shape = Interval; parents = id ∷ [] })
+    intervals_there i listed =
+        let it = id_there id (g.births + 1 + 1) keys i listed in
+        let node : Node = record { key = i.key; shape = Interval; parents = id ∷ [] } in
+        let birth = it.2 in
+        ap (node_at grown) (node_is i (new_id g law ns node (suc it.0)) refl (omega arith)) ∙ new_node g law ns (suc it.0) node it.1
+
+    index_well : HasShape grown id index.shape ps
+    index_well = (
+      parents_same g grown (born_plain g law ns) 1 ps inner,
+      record {
+        file = ((born_plain g law ns).shapes file (file_plain _ is_file)).file ∙ is_file;
+        few = subst (λ m. length bounds ≤ m) (sym (born_plain g law ns).bounds) few;
+        rising = rising;
+        count = ap (λ ks. length (ids_of (g.births + 1 + 1) ks)) (sym (keys_of_intervals id keys))
+            ∙ count_ids (g.births + 1 + 1) (interval_nodes id keys) ∙ count_intervals id keys ∙ each;
+        distinct = ids_distinct (g.births + 1 + 1) keys;
+        intervals = intervals_there;
+      },
+    )
+
+    pub well_born : (k : ℕ) (node : Node) → place_in ns k ≡ Some node → IsWellFormed grown (new_id g law ns node k) node
+    well_born zero node e =
+        let birth : g.births + 1 ≡ g.births + 1 + 0 = omega arith in
+        subst (λ y. IsWellFormed grown (new_id g law ns y 0) y) (some_is e)
+        (subst (λ b. HasShape grown (record { key = key; birth = b }) index.shape ps) birth index_well)
+    well_born (suc k) node e =
+        subst (λ (y : Node). HasShape grown (new_id g law ns node (suc k)) y.shape y.parents) (sym (interval_node id keys k node e)) (
+          id,
+          refl,
+          ap (λ o. is_index_shape (shape_in o)) index_there,
+          ap (λ o. list_any (same_node (new_id g law ns node (suc k))) (intervals_in (shape_in o))) index_there
+              ∙ id_listed id (g.births + 1 + 1) keys k (g.births + 1 + suc k) node (omega arith) e,
+        )
 
   module _ (inner : AreInnerParents g 1 ps) (is_file : is_file_shape (shape_of g file) ≡ true) (few : length bounds ≤ g.most_bounds)
       (rising : IsRising (0 ∷ bounds)) (no_records : list_any (λ r. is_record_shape (shape_of g r) && is_child g file r) (nodes g) ≡ false)
@@ -107,42 +152,6 @@ module _ (g : Graph) (law : IsLawfulGraph g) (key : ℕ) (ps : List NodeId) (fil
     pub frames : Frames g grown
     frames = born_frames g law ns unused
 
-    intervals_there : (i : NodeId) → list_any (same_node i) (ids_of (g.births + 1 + 1) keys) ≡ true
-        → node_at grown i ≡ Some (record { key = i.key; shape = Interval; parents = id ∷ [] })
-    intervals_there i listed =
-        let it = id_there id (g.births + 1 + 1) keys i listed in
-        let node : Node = record { key = i.key; shape = Interval; parents = id ∷ [] } in
-        let birth = it.2 in
-        ap (node_at grown) (node_is i (new_id g law ns node (suc it.0)) refl (omega arith)) ∙ new_node g law ns (suc it.0) node it.1
-
-    index_well : HasShape grown id index.shape ps
-    index_well = (
-      parents_kept g grown law frames 1 ps inner,
-      record {
-        file = (frames.shapes file (file_plain _ is_file)).file ∙ is_file;
-        few = subst (λ m. length bounds ≤ m) (sym frames.bounds) few;
-        rising = rising;
-        count = ap (λ ks. length (ids_of (g.births + 1 + 1) ks)) (sym (keys_of_intervals id keys))
-            ∙ count_ids (g.births + 1 + 1) (interval_nodes id keys) ∙ count_intervals id keys ∙ each;
-        distinct = ids_distinct (g.births + 1 + 1) keys;
-        intervals = intervals_there;
-      },
-    )
-
-    well : (k : ℕ) (node : Node) → place_in ns k ≡ Some node → IsWellFormed grown (new_id g law ns node k) node
-    well zero node e =
-        let birth : g.births + 1 ≡ g.births + 1 + 0 = omega arith in
-        subst (λ y. IsWellFormed grown (new_id g law ns y 0) y) (some_is e)
-        (subst (λ b. HasShape grown (record { key = key; birth = b }) index.shape ps) birth index_well)
-    well (suc k) node e =
-        subst (λ (y : Node). HasShape grown (new_id g law ns node (suc k)) y.shape y.parents) (sym (interval_node id keys k node e)) (
-          id,
-          refl,
-          ap (λ o. is_index_shape (shape_in o)) index_there,
-          ap (λ o. list_any (same_node (new_id g law ns node (suc k))) (intervals_in (shape_in o))) index_there
-              ∙ id_listed id (g.births + 1 + 1) keys k (g.births + 1 + suc k) node (omega arith) e,
-        )
-
     inner_live : (p : NodeId) → list_any (same_node p) ps ≡ true → is_live g p ≡ true
     inner_live p h = plain_live g p (inner_plain _ (all_at (λ q. is_inner_shape (shape_of g q)) ps p h inner.inner))
 
@@ -153,12 +162,9 @@ module _ (g : Graph) (law : IsLawfulGraph g) (key : ℕ) (ps : List NodeId) (fil
         or_elim (same_node p id) false (ap (λ (y : Node). list_any (same_node p) y.parents) (sym is) ∙ h)
         (λ here. grind (arith, index_there, inner_live)) (λ none. absurd (no none))
 
-    keys_are : keys_of ns ≡ key ∷ keys
-    keys_are = ap (λ xs. key ∷ xs) (keys_of_intervals id keys)
-
     pub index_lawful : IsLawfulGraph (born_index g key ps file bounds keys)
     index_lawful =
-        born_lawful g law ns unused well up (λ k node e. free node.key (ap (list_any (λ x. x == node.key)) (sym keys_are) ∙ key_listed ns k node e))
+        born_lawful g law ns unused (well_born inner is_file few rising each) up (free_born free)
         (places_apart ns (ap are_apart keys_are ∙ apart))
         (λ f. grind (arith, file_index, length-append, others)) (let all = count_grown g law ns in
         let many = count_intervals id keys in omega arith)

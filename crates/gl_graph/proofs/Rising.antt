@@ -6,7 +6,7 @@ all_above : (a b : ℕ) (bs : List ℕ) → a < b → list_all (λ c. nat_lt b c
 all_above a b [] low h = refl
 all_above a b (c ∷ bs) low h = grind (arith, all_above a b bs low)
 
-rising_skip : (a b : ℕ) (bs : List ℕ) → a < b → is_rising (a ∷ b ∷ bs) ≡ is_rising (b ∷ bs)
+pub rising_skip : (a b : ℕ) (bs : List ℕ) → a < b → is_rising (a ∷ b ∷ bs) ≡ is_rising (b ∷ bs)
 rising_skip a b bs low = grind (arith, all_above, and-false)
 
 pub rising_step : (last : ℕ) (bs : List ℕ) (i : ℕ) → i < length bs → last < slice_index_or bs i 0

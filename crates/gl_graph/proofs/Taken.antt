@@ -176,7 +176,7 @@ module _ {limits : Limits} {old : Slab Stored} {births : ℕ} {g : Graph} (h : H
 
     parents_kept : AreKept (λ children. 1 ≤ children) s ps
     parents_kept =
-        are_kept now (left_lawful g law n movable free) ps inner distinct (λ children. 1 ≤ children)
+        are_kept now (left_lawful g law n movable free).keys_differ ps inner distinct (λ children. 1 ≤ children)
         (λ m listed i. grind (arith, counted_in, was_inner, inner_due, some_child, parents_are))
 
     abbrev down : NodeId → ℕ → ℕ
@@ -184,7 +184,7 @@ module _ {limits : Limits} {old : Slab Stored} {births : ℕ} {g : Graph} (h : H
 
     module _ (new : Slab Stored) (re : AreRecounted (λ children. children - 1) s new ps (length ps)) where
       settled : Holds limits new births (left g n) (λ m. recounted (down m) (beside m))
-      settled = counts_written now (left_lawful g law n movable free) ps inner distinct (λ children. children - 1) new re
+      settled = counts_written now (left_lawful g law n movable free).keys_differ ps inner distinct (λ children. children - 1) new re
 
       left_graph : graph_of (seen limits new births) ≡ without_branch g n
       left_graph = settled.graph
@@ -281,7 +281,7 @@ module _ {limits : Limits} {old : Slab Stored} {births : ℕ} {g : Graph} (h : H
       there = λ place m e.
           let listed = listed_at ids place m e in
           ap is_some (u.others m.key (key_apart m listed) ∙ (live_held h m (interval_is m listed).0).there);
-      apart = keys_apart g law ids its_rule.distinct (λ m listed. (interval_is m listed).0);
+      apart = keys_apart g law.keys_differ ids its_rule.distinct (λ m listed. (interval_is m listed).0);
     }
 
     module _ (third : Slab Stored) (taken : AreGone mid third ids (length ids)) where

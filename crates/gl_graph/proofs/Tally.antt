@@ -34,7 +34,7 @@ module _ (t : Option Node → Bool) (none : t None ≡ false) where
   abbrev pub count_where : Graph → ℕ
   count_where g = count_by (λ n. t (node_at g n)) (nodes g)
 
-  counted_births : (g : Graph) → count_where g ≡ count_by (λ b. t (g.at b)) (range_with_len 1 g.births)
+  pub counted_births : (g : Graph) → count_where g ≡ count_by (λ b. t (g.at b)) (range_with_len 1 g.births)
   counted_births g = all (range_with_len 1 g.births)
     where
       one : (b : ℕ) (bs : List ℕ) (o : Option Node) → g.at b ≡ o

@@ -193,7 +193,7 @@ module _ {limits : Limits} {old : Slab Stored} {births : ℕ} {g : Graph} (h : H
 
     pub olds_kept : AreKept (λ children. 1 ≤ children) mid olds
     olds_kept =
-        are_kept held' law' olds old_inner.inner old_inner.distinct (λ children. 1 ≤ children)
+        are_kept held' law'.keys_differ olds old_inner.inner old_inner.distinct (λ children. 1 ≤ children)
         (λ m listed i. subst (λ b. 1 ≤ counted_in b) (sym (inner_due g m (was_inner m i))) (some_old m listed))
 
     module _ (less : Slab Stored) (re : AreRecounted (λ children. children - 1) mid less olds (length olds)) where
@@ -204,11 +204,11 @@ module _ {limits : Limits} {old : Slab Stored} {births : ℕ} {g : Graph} (h : H
       up m c = if list_any (same_node m) ps then c + 1 else c
 
       lessened : Holds limits less births there' (λ m. recounted (down m) (due g m))
-      lessened = counts_written held' law' olds old_inner.inner old_inner.distinct (λ children. children - 1) less re
+      lessened = counts_written held' law'.keys_differ olds old_inner.inner old_inner.distinct (λ children. children - 1) less re
 
       pub news_kept : AreKept (λ children. children + 1 < 2 ^ 64) less ps
       news_kept =
-          are_kept lessened law' ps new_inner.inner new_inner.distinct (λ children. children + 1 < 2 ^ 64)
+          are_kept lessened law'.keys_differ ps new_inner.inner new_inner.distinct (λ children. children + 1 < 2 ^ 64)
           (λ m listed i. subst (λ b. counted_in (recounted (down m) b) + 1 < 2 ^ 64) (sym (inner_due g m (was_inner m i)))
           (fits (list_any (same_node m) olds) (children_of g m) (children_fit g law m)))
         where
@@ -218,7 +218,7 @@ module _ {limits : Limits} {old : Slab Stored} {births : ℕ} {g : Graph} (h : H
 
       module _ (new : Slab Stored) (re' : AreRecounted (λ children. children + 1) less new ps (length ps)) where
         settled : Holds limits new births there' (λ m. recounted (up m) (recounted (down m) (due g m)))
-        settled = counts_written lessened law' ps new_inner.inner new_inner.distinct
+        settled = counts_written lessened law'.keys_differ ps new_inner.inner new_inner.distinct
             (λ children. children + 1) new re'
 
         pub moved_graph : graph_of (seen limits new births) ≡ with_parents g n ps

@@ -1,11 +1,12 @@
 -- The laws of lawful graphs, as statements.
-use Rattle.std.specs.Prelude.{◌≡◌, ℕ, true, List, ◌∷◌, Some}
+use Rattle.std.specs.Prelude.{◌≡◌, ℕ, true, List, ◌∷◌, Some, None}
 use Rattle.gl_modes.specs.declared.node.NodeId.{NodeId}
 use Rattle.gl_graph.specs.Graph.{Graph, interval_at, interval_of, is_live, is_child, shape_of}
 use Rattle.gl_graph.specs.Intervals.{HoldsKey}
 use Rattle.gl_graph.specs.Routes.{IsRootPath}
 use Rattle.gl_graph.specs.Shapes.{bounds_in, is_index_shape}
 use Rattle.gl_graph.specs.Lawful.{IsLawfulGraph}
+use Rattle.gl_graph.specs.Over.{IsIndexOver, over_refusal}
 
 -- every node of a lawful graph has a path to the root
 abbrev pub NodesHaveRootPaths : Type 0
@@ -31,3 +32,9 @@ IntervalsHoldKeys =
     (g : Graph) → IsLawfulGraph g → (index n : NodeId) (place key : ℕ) → interval_at g index place ≡ Some n
     → (n ≡ interval_of g index key → HoldsKey (bounds_in (shape_of g index)) place key)
     × (HoldsKey (bounds_in (shape_of g index)) place key → n ≡ interval_of g index key)
+
+-- an index that is made over records leaves the graph lawful
+abbrev pub IndexesKeepGraphs : Type 0
+IndexesKeepGraphs =
+    (g g' : Graph) (n : NodeId) (ps : List NodeId) (f : NodeId) (bs : List ℕ) (rs : List NodeId) (ks : List ℕ) → IsLawfulGraph g
+    → over_refusal g ps f bs rs ks ≡ None → IsIndexOver g g' n ps f bs rs ks → IsLawfulGraph g'

@@ -13,3 +13,5 @@ pub mod Sound
 pub mod Laws
 pub mod Splits
 pub mod SplitLaws
+pub mod Over
+pub mod Keying

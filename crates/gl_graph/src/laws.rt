@@ -1,6 +1,6 @@
 //! The laws of lawful graphs, each the contract of a call that does nothing.
 
-ghost use Rattle.gl_graph.specs.Laws.{IntervalsHoldKeys, KeysHaveIntervals, NodesHaveRootPaths, RootPathsGrow, RootPathsShrink};
+ghost use Rattle.gl_graph.specs.Laws.{IndexesKeepGraphs, IntervalsHoldKeys, KeysHaveIntervals, NodesHaveRootPaths, RootPathsGrow, RootPathsShrink};
 ghost use Rattle.gl_graph.specs.SplitLaws.{
   MergesKeepGraphs,
   MergesMoveKeys,
@@ -42,4 +42,10 @@ pub fn split_graphs()
     ensures split { SplitsKeepGraphs }
     ensures merge { MergesKeepGraphs }
     ensures undone { MergesUndoSplits }
+{}
+
+/// An index that is made over the records of a file, with a key for each, and not refused, leaves the
+/// graph lawful: each record is then also under the interval of its key for the index.
+pub fn index_graphs()
+    ensures { IndexesKeepGraphs }
 {}

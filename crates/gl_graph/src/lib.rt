@@ -5,6 +5,7 @@
 mod bounds;
 mod found;
 mod graph;
+mod keying;
 mod kind;
 pub mod laws;
 mod node;

@@ -1,6 +1,9 @@
 //! A node as stored.
 
+ghost use Rattle.std.specs.Prelude.{◌≡◌, ◌<◌, ◌++◌, ◌∷◌, [], length};
+
 use crate::kind::Kind;
+use arrayvec::ArrayVec;
 use gl_modes::NodeId;
 use smallvec::SmallVec;
 use std::alloc::{AllocError, Global};
@@ -75,8 +78,39 @@ pub(crate) struct Node {
     pub(crate) body: Body,
 }
 
+/// The id that names no node, where a parent is yet to be set.
+const NO_NODE: NodeId = NodeId { key: 0, birth: 0 };
+
+/// These keys, and one more.
+fn keys_with(keys: &[u64], key: u64) -> ArrayVec<u64, 7>
+    requires { length keys.now < 7 }
+    ensures { result.items ≡ keys.now ++ key ∷ [] }
+{
+    let mut all = ArrayVec::new();
+    for one in keys {
+        all.push(*one);
+    }
+    all.push(key);
+    all
+}
+
+/// These parents, and one more.
+fn parents_with(parents: &[NodeId], parent: NodeId) -> ArrayVec<NodeId, 8>
+    requires { length parents.now < 8 }
+    ensures { result.items ≡ parents.now ++ parent ∷ [] }
+{
+    let mut all = ArrayVec::new();
+    for one in parents {
+        all.push(*one);
+    }
+    all.push(parent);
+    all
+}
+
 impl Body {
     ghost use Rattle.std.specs.Prelude.{◌+◌, ◌<◌, ◌^◌, ◌≡◌, IfOk, Some, false, length, true};
+    ghost use Rattle.gl_graph.specs.Graph.{no_node};
+    ghost use Rattle.gl_graph.specs.Keying.{HasOneMore};
     ghost use Rattle.gl_graph.specs.Splits.{merged_shape};
     ghost use Rattle.gl_graph.specs.Shapes.{
       File,
@@ -176,6 +210,18 @@ impl Body {
                 Ok(Body::ManyKeys { keys, parents })
             }
         }
+    }
+
+    /// The body of this record with one more key. Its last parent, the interval of the key, is yet
+    /// to be set.
+    pub(crate) fn with_key(&self, alloc: Global, key: u64) -> Result<Self, AllocError>
+        requires keys { length (keys_in (Some (shape_in_body self.now))) < 7 }
+        requires parents { length (parents_in_body self.now) < 8 }
+        ensures { IfOk result (λ body. HasOneMore self.now body key no_node) }
+    {
+        let keys = keys_with(self.keys(), key);
+        let parents = parents_with(self.parents(), NO_NODE);
+        Body::of_record(alloc, keys.as_slice(), parents.as_slice())
     }
 
     pub(crate) fn kind(&self) -> Kind

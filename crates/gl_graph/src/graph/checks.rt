@@ -1,11 +1,13 @@
 //! The tests that a call makes before it changes anything, each with its refusal.
 
-ghost use Rattle.std.specs.Prelude.{◌≡◌, ◌+◌, ◌∷◌, ◌++◌, [], ◌&&◌, ◌||◌, length, nat_lt};
+ghost use Rattle.std.specs.Prelude.{◌≡◌, ◌+◌, ◌∷◌, ◌++◌, [], ◌&&◌, ◌||◌, length, map, nat_lt, not, true};
 ghost use Rattle.std.specs.List.{list_all, list_any};
 ghost use Rattle.gl_modes.specs.Nodes.{same_node};
 ghost use Rattle.gl_graph.specs.Shapes.{is_adopted, is_file_shape, is_inner_shape};
-ghost use Rattle.gl_graph.specs.Graph.{is_live, node_count, shape_of};
+ghost use Rattle.gl_graph.specs.Shapes.{is_record_shape};
+ghost use Rattle.gl_graph.specs.Graph.{is_live, is_record_of, node_count, shape_of};
 ghost use Rattle.gl_graph.specs.Lawful.{are_distinct, are_inner};
+ghost use Rattle.gl_graph.specs.Over.{are_keyed};
 ghost use Rattle.gl_graph.specs.Refusals.{
   bad_bounds,
   bad_index_place,
@@ -59,6 +61,20 @@ fn are_rising(bounds: &[u64]) -> bool
             return false;
         }
         last = *bound;
+    }
+    true
+}
+
+/// Whether these were born one after the other.
+fn are_in_order(ids: &[NodeId]) -> bool
+    ensures { result ≡ is_rising (0 ∷ map (λ (id : NodeId). id.birth) ids.now) }
+{
+    let mut last = 0;
+    for id in ids {
+        if id.birth <= last {
+            return false;
+        }
+        last = id.birth;
     }
     true
 }
@@ -201,6 +217,59 @@ impl Graph {
             Err(Refusal::NoSuchNode)
         } else if self.is_bad_index_place(parents, file) {
             Err(Refusal::BadParents)
+        } else {
+            Ok(())
+        }
+    }
+
+    fn is_record(&self, n: NodeId) -> bool
+        ensures { result ≡ is_record_shape (shape_of (graph_of self.now) n) }
+    {
+        matches!(self.kind(n), Some(Kind::Rec))
+    }
+
+    fn is_record_of(&self, file: NodeId, n: NodeId) -> bool
+        ensures { result ≡ is_record_of (graph_of self.now) file n }
+    {
+        self.is_record(n) && is_among(self.parents(n), file)
+    }
+
+    fn are_records_of(&self, file: NodeId, records: &[NodeId]) -> bool
+        ensures { result ≡ list_all (is_record_of (graph_of self.now) file) records.now }
+    {
+        records.iter().all(|r| self.is_record_of(file, *r))
+    }
+
+    /// Whether these are all records of a file, in order of birth, with a key for each.
+    fn are_keyed(&self, file: NodeId, records: &[NodeId], keys: &[u64]) -> bool
+        requires { is_file_shape (shape_of (graph_of self.now) file) ≡ true }
+        ensures { result ≡ are_keyed (graph_of self.now) file records.now keys.now }
+    {
+        self.are_records_of(file, records)
+            && are_in_order(records)
+            && records.len() == self.records(file)
+            && keys.len() == records.len()
+    }
+
+    /// Tests whether an index of this file can have these bounds, and these keys for all records of
+    /// the file, in order of birth, and whether its nodes are within the limit. Refused, in this
+    /// order, with `BadKeys` and `TooManyNodes`.
+    pub fn check_index_over(
+        &self,
+        file: NodeId,
+        bounds: &[u64],
+        records: &[NodeId],
+        keys: &[u64],
+    ) -> Result<(), Refusal>
+        requires { is_file_shape (shape_of (graph_of self.now) file) ≡ true }
+        ensures { result ≡ verdict (first_refusal (where_true (bad_bounds (graph_of self.now) bounds.now
+            || not (are_keyed (graph_of self.now) file records.now keys.now)) ARefusal.BadKeys
+            ∷ too_many_nodes (graph_of self.now) (2 + length bounds.now) ∷ [])) }
+    {
+        if self.are_bad_bounds(bounds) || !self.are_keyed(file, records, keys) {
+            Err(Refusal::BadKeys)
+        } else if self.too_many(bounds.len() + 2) {
+            Err(Refusal::TooManyNodes)
         } else {
             Ok(())
         }

@@ -7,10 +7,12 @@ ghost use Rattle.gl_graph.specs.Graph.{IsFreeKey, indexes_of, record_parents, sh
 ghost use Rattle.gl_graph.specs.Lawful.{AreInnerParents, IsLawfulGraph};
 ghost use Rattle.gl_graph.specs.Changes.{born_node, IsAdopted, IsBorn, IsIndexBorn};
 ghost use Rattle.gl_graph.specs.Refusals.{file_refusal, index_refusal, inner_refusal, record_refusal, reindex_refusal, Refuses};
+ghost use Rattle.gl_graph.specs.Over.{IsIndexOver, over_refusal};
 ghost use Rattle.gl_graph.specs.View.{graph_of};
 ghost use Rattle.gl_graph.specs.Seen.{parents_in_body, shape_in_body, IsPlainBody};
 
 use super::Graph;
+use crate::keying::{key_records, keyed_bodies};
 use crate::node::{Body, IndexBody, Node};
 use crate::store::{count_up, insert_intervals, write_indexes, write_intervals, write_records};
 use arrayvec::ArrayVec;
@@ -115,25 +117,32 @@ impl Graph {
         ensures err { OnErr result (self.new ≡ self.old) }
     {
         self.check_index(parents, file, bounds)?;
-        self.add_index_unrefused(parents, file, bounds)
+        self.add_index_unrefused(parents, file, bounds, &[], &[])
     }
 
-    /// As `add_index`, also for a file of which rows were adopted, which stays one. No refusal but
-    /// `NoMemory` may apply, and that is the only one answered.
+    /// As `add_index`, also of a file of which rows were adopted, which stays one, and also over
+    /// records: all records of the file, in order of birth, each with its key for the index. No
+    /// refusal but `NoMemory` may apply, and that is the only one answered. Needs a step for each
+    /// record.
     pub fn add_index_unrefused(
         &mut self,
         parents: &[NodeId],
         file: NodeId,
         bounds: &[u64],
+        records: &[NodeId],
+        keys: &[u64],
     ) -> Result<NodeId, Refusal>
-        requires { reindex_refusal (graph_of self.old) parents.now file bounds.now ≡ None }
-        ensures made { IfOk result (λ n. IsIndexBorn (graph_of self.old) (graph_of self.new) n parents.now file bounds.now) }
+        requires { over_refusal (graph_of self.old) parents.now file bounds.now records.now keys.now ≡ None }
+        ensures made { IfOk result (λ n. IsIndexOver (graph_of self.old) (graph_of self.new) n parents.now file bounds.now records.now keys.now) }
         ensures key { IfOk result (λ n. n.key ≡ self.old.next_key) }
         ensures memory { IfErr result (λ r. r ≡ Refusal.NoMemory) }
         ensures err { OnErr result (self.new ≡ self.old) }
     {
         let count = bounds.len() + 1;
         let Ok(()) = self.nodes.reserve(count + 1) else {
+            return Err(Refusal::NoMemory);
+        };
+        let Ok(mut bodies) = keyed_bodies(self.alloc, &self.nodes, records, keys) else {
             return Err(Refusal::NoMemory);
         };
         let listed = self.indexes(file);
@@ -158,6 +167,7 @@ impl Graph {
         write_intervals(&mut self.nodes, key, intervals);
         write_indexes(&mut self.nodes, file.key, indexes);
         count_up(&mut self.nodes, parents);
+        key_records(&mut self.nodes, key, records, keys, &mut bodies);
         self.births = birth + count as u64;
         Ok(index)
     }
