@@ -12,6 +12,7 @@ use Rattle.gl_modes.specs.declared.refusal.Refusal.{Refusal}
 use Rattle.gl_graph.specs.Graph.{is_child, nodes, parents_of, Graph, is_live, shape_of, first_parent, indexes_of, record_parents}
 use Rattle.gl_graph.specs.Changes.{rekeyed_parents, without_branch, without_node}
 use Rattle.gl_graph.specs.Lawful.{AreInnerParents}
+use Rattle.gl_graph.specs.Over.{are_keyed}
 use Rattle.gl_graph.specs.Refusals.{bad_bounds, bad_index_place, has_records, is_in_use, max_count, some_no_node, too_many_nodes, where_true, worn_births}
 use Rattle.gl_graph.specs.Refusals.{Refuses, first_cycle, first_refusal, record_refusal}
 use Rattle.gl_graph.specs.Shapes.{Index, Inner, Shape, is_file_shape, is_index_of_shape, is_movable_shape, is_record_shape, least_parents}
@@ -391,12 +392,18 @@ drop_tests s t n =
     ∷ where_true (not (holds_x_on_all s t.slot (locked_to_drop n (shape_of s.graph n)))) no.NeedExclusive
     ∷ where_true (is_in_use s.graph n) (use_reason (shape_of s.graph n)) ∷ []
 
--- an index made by a transaction needs X on its file, which has no record, and IX or greater on each of its parents
-abbrev pub index_by_tests : State → TxnId → List NodeId → NodeId → List ℕ → List (Option Refusal)
-index_by_tests s t ps f bs =
+-- the nodes that must be held in X to make an index of a file: the file and, if it is made over records, each of its indexes
+abbrev pub locked_to_index : Graph → NodeId → List NodeId → List NodeId
+locked_to_index g f [] = f ∷ []
+locked_to_index g f (r ∷ rs) = f ∷ indexes_of g f
+
+-- an index by a transaction needs X on its file and, over records, on the indexes of the file, IX or greater on its parents, and that it holds no record
+abbrev pub index_by_tests : State → TxnId → List NodeId → NodeId → List ℕ → List NodeId → List ℕ → List (Option Refusal)
+index_by_tests s t ps f bs rs ks =
     worn_births s.graph ∷ active_on s t (ps ++ f ∷ []) ++ where_true (bad_index_place s.graph ps f) no.BadParents
-    ∷ where_true (not (holds_x s t.slot f)) no.NeedExclusive ∷ first_not_ix (s.held t.slot) ps ∷ where_true (has_records s.graph f) no.FileInUse
-    ∷ where_true (bad_bounds s.graph bs) no.BadKeys ∷ too_many_nodes s.graph (2 + length bs) ∷ []
+    ∷ where_true (not (holds_x_on_all s t.slot (locked_to_index s.graph f rs))) no.NeedExclusive ∷ first_not_ix (s.held t.slot) ps
+    ∷ where_true ((is_empty rs && has_records s.graph f) || holds_child s t.slot f) no.FileInUse
+    ∷ where_true (bad_bounds s.graph bs || not (are_keyed s.graph f rs ks)) no.BadKeys ∷ too_many_nodes s.graph (2 + length bs) ∷ []
 
 -- forget needs a record that nobody holds or waits for
 abbrev pub forget_tests : State → NodeId → List (Option Refusal)

@@ -41,7 +41,7 @@ accepting_touches s (command.Group n) a told s' acc = absurd acc
 accepting_touches s (command.Held t n) a told s' acc = absurd acc
 accepting_touches s (command.Effective t n) a told s' acc = absurd acc
 accepting_touches s (command.Adopt f keys) a told s' acc = ap untouched acc.4
-accepting_touches s (command.IndexBy t ps f bs) a told s' acc = ap untouched acc.4
+accepting_touches s (command.IndexBy t ps f bs rs ks) a told s' acc = ap untouched acc.4
 accepting_touches s (command.Split t i at) a told s' acc = ap untouched acc.4
 accepting_touches s c a told s' acc = ap untouched acc.2
 

@@ -9,6 +9,7 @@ use Rattle.gl_steps.specs.declared.command.Command.TheVariants as command
 use Rattle.gl_model.specs.Calls.{begun_again, cancelled, covered_children, held_children, joined, joining_age, unlocked}
 use Rattle.gl_model.proofs.law.Settle.{locked, settled}
 use Rattle.gl_graph.specs.Splits.{merge, next_interval, split}
+use Rattle.gl_graph.specs.Over.{keyed}
 use Rattle.gl_model.specs.Splits.{merged_by, split_by}
 use Rattle.gl_steps.proofs.Made.{adopted, made, next_id}
 
@@ -99,10 +100,13 @@ go s (command.Move t n ps) = done s (moved_to s n ps.now (with_parents s.graph n
 go s (command.Adopt f keys) = (answer.Node (next_id s (free_key s)), [], adopted s (free_key s) f keys.now)
 go s (command.Forget r) = (answer.Done, [], with_graph s (without_node s.graph r))
 go s (command.Drop t n) = done s (dropped s n)
-go s (command.IndexBy t ps f bs) = (
+go s (command.IndexBy t ps f bs rs ks) = (
   answer.Node (next_id s (free_key s)),
   [],
-  with_grant (with_graph s (born_index s.graph (free_key s) ps.now f bs.now (interval_keys s bs.now))) t.slot (next_id s (free_key s)) X,
+  with_grant
+      (with_graph s
+      (keyed (born_index s.graph (free_key s) ps.now f bs.now (interval_keys s bs.now)) (next_id s (free_key s)) rs.now ks.now))
+      t.slot (next_id s (free_key s)) X,
 )
 go s (command.Split t i at) =
     let n = next_id s (free_key s) in

@@ -114,7 +114,7 @@ module _ (s : State) (law : IsLawful s) where
   goes (command.Held t n) None e = record { answer_is = refl; nobody_told = refl; same = refl }
   goes (command.Effective t n) None e = record { answer_is = refl; nobody_told = refl; same = refl }
   goes (command.Adopt f keys) None e = (_, (_, record { key_free = key_free; birth = refl; after = refl }, refl, refl, refl), refl)
-  goes (command.IndexBy t ps f bs) None e = (_, (_, index_is_born ps.now f bs.now, refl, refl, refl), refl)
+  goes (command.IndexBy t ps f bs rs ks) None e = (_, (_, record { born = _; index = index_is_born ps.now f bs.now; after = refl }, refl, refl, refl), refl)
   goes (command.Split t i at) None e = (_, (_, record { key_free = key_free; birth = refl; after = refl }, refl, refl, refl), refl)
   goes c None e = (_, (refl, refl, refl), refl)
 

@@ -31,7 +31,7 @@ pub has_parents_lives : (o : Option Node) → not (no_parents (parents_in o)) �
 has_parents_lives None h = h
 has_parents_lives (Some n) h = refl
 
-pub plain_intervals : (index : NodeId) (keys : List ℕ) → no_records (interval_nodes index keys) ≡ true
+plain_intervals : (index : NodeId) (keys : List ℕ) → no_records (interval_nodes index keys) ≡ true
 plain_intervals index [] = refl
 plain_intervals index (k ∷ ks) = plain_intervals index ks
 

@@ -1,10 +1,15 @@
 -- A node that lives on keeps its kind: a record its file, and a file the mark that rows of it were adopted.
-use Rattle.gl_steps.proofs.Words.{◌==◌, [], ◌∙◌, ◌∷◌, ◌≡◌, ap, Bool, born_node, clash, false, File, first_in, Graph, if◌then◌else◌, is_adopted, is_live}
-use Rattle.gl_steps.proofs.Words.{is_movable_shape, is_record_shape, IsLawfulGraph, List, marked, no, Node, node_at, NodeId, None, Option, parents_in, Rec}
-use Rattle.gl_steps.proofs.Words.{refl, rekeyed_node, reparented, Shape, shape_in, shape_of, Some, sym, true, with_key, without_node, ℕ}
+use Rattle.gl_steps.proofs.Words.{◌++◌, ◌==◌, [], ◌∙◌, ◌∷◌, ◌≡◌, ⊎_elim, and_both, ap, Bool, born_node, clash, false, File, first_in, Graph, if◌then◌else◌}
+use Rattle.gl_steps.proofs.Words.{is_adopted, is_live, is_movable_shape, is_record_shape, is_some, IsLawfulGraph, keys_in, List, marked, no, no_parents, Node}
+use Rattle.gl_steps.proofs.Words.{node_at, NodeId, None, not, Option, parents_in, Rec, refl, rekeyed_node, reparented, Shape, shape_in, shape_of, Some, split}
+use Rattle.gl_steps.proofs.Words.{subst, sym, true, with_key, without_node, ℕ}
+use Rattle.gl_steps.proofs.NotRefused.{record_has_parents}
 use Rattle.gl_graph.specs.Changes.{marked_node, marked_shape}
+use Rattle.gl_graph.specs.Graph.{interval_of, is_record_of}
+use Rattle.gl_graph.specs.Over.{IsIndexOver, over_refusal}
 use Rattle.gl_graph.proofs.Born.{old_same}
 use Rattle.gl_graph.proofs.Marked.{marked_record}
+use Rattle.gl_graph.proofs.OverGraph.{over_index, over_new, over_record, over_stays}
 use Rattle.gl_model.proofs.law.Rows.{left_was, row_parents, with_row}
 
 -- of one node
@@ -54,6 +59,19 @@ kind_rekeyed keys ps key (Some n) rec first = by (n.key == key) rec first
     by true r e = record { record_same = sym r; file = λ _. e; mark = λ h. clash h (unmarked (Some n.shape) r) }
     by false r e = absurd (no r)
 
+-- a record has other keys, and one more parent after those that it had
+pub kind_keyed : (key : ℕ) (keys : List ℕ) (p : NodeId) (o : Option Node) → is_record_shape (shape_in o) ≡ true → not (no_parents (parents_in o)) ≡ true
+    → KeepsKind o (Some (record { key = key; shape = Rec keys; parents = parents_in o ++ p ∷ [] }))
+kind_keyed key keys p o rec some = record {
+  record_same = sym rec;
+  file = λ _. first (parents_in o) some;
+  mark = λ h. clash h (unmarked (shape_in o) rec);
+}
+  where
+    first : (ps : List NodeId) → not (no_parents ps) ≡ true → first_in (ps ++ p ∷ []) ≡ first_in ps
+    first [] h = absurd (no h)
+    first (q ∷ qs) h = refl
+
 -- what is no record has other parents
 pub kind_reparented : (ps : List NodeId) (key : ℕ) (o : Option Node) → is_movable_shape (shape_in (with_key key o)) ≡ true
     → KeepsKind (with_key key o) (with_key key (reparented ps o))
@@ -99,3 +117,28 @@ module _ (g : Graph) (law : IsLawfulGraph g) where
 
   pub forgotten_kinds : (r : NodeId) → is_record_shape (shape_of g r) ≡ true → KeepsKinds g (without_node g r)
   forgotten_kinds r rec n _ live' = kind_same (node_at g n) (node_at (without_node g r) n) (left_was g law r rec n live')
+
+-- an index is made over records
+module _ (g g' : Graph) (law : IsLawfulGraph g) (n : NodeId) (ps : List NodeId) (f : NodeId) (bs : List ℕ) (rs : List NodeId) (ks : List ℕ)
+    (free : over_refusal g ps f bs rs ks ≡ None) (made : IsIndexOver g g' n ps f bs rs ks) where
+  pub over_kinds : KeepsKinds g g'
+  over_kinds c on _ =
+      split (is_record_of g f c)
+      (λ rec.
+      let shape = (and_both _ _ rec).0 in
+      let now = over_record g g' law n ps f bs rs ks free made c rec in
+      subst (KeepsKind (node_at g c)) (sym now.1)
+      (kind_keyed c.key (keys_in (shape_of g c) ++ now.0 ∷ []) (interval_of g' n now.0) (node_at g c) shape (record_has_parents g law c shape)))
+      (λ e. kind_same (node_at g c) (node_at g' c) (over_stays g g' law n ps f bs rs ks free made c on e))
+
+  -- no new node is a record
+  pub over_plain : (c : NodeId) → is_live g c ≡ false → is_record_shape (shape_of g' c) ≡ true → ⊥
+  over_plain c dead rec =
+      ⊎_elim
+      (λ e. no (sym (ap (λ o. is_record_shape (shape_in o)) (ap (node_at g') e ∙ over_index g g' law n ps f bs rs ks free made)) ∙ rec))
+      (λ it. no (sym (ap (λ o. is_record_shape (shape_in o)) it) ∙ rec))
+      (over_new g g' law n ps f bs rs ks free made c (record_lives (node_at g' c) rec) dead)
+    where
+      record_lives : (o : Option Node) → is_record_shape (shape_in o) ≡ true → is_some o ≡ true
+      record_lives None h = h
+      record_lives (Some x) h = refl

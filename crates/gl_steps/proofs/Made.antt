@@ -35,9 +35,3 @@ pub inserted_is : (s s' : State) (t : ℕ) {n : NodeId} {shape : Shape} {ps : Li
     → s' ≡ with_grant (with_graph s s'.graph) t n X
     → s' ≡ with_grant (made s (record { key = n.key; shape = shape; parents = ps })) t (next_id s n.key) X
 inserted_is s s' t {n = n} born same = same ∙ ap₂ (λ g b. with_grant (with_graph s g) t (record { key = n.key; birth = b }) X) born.after born.birth
-
--- a new index with its intervals, held in X
-pub indexed_by_is : (s s' : State) (t : ℕ) {n : NodeId} {ps : List NodeId} {f : NodeId} {bs : List ℕ} (born : IsIndexBorn s.graph s'.graph n ps f bs)
-    → s' ≡ with_grant (with_graph s s'.graph) t n X
-    → s' ≡ with_grant (with_graph s (born_index s.graph n.key ps f bs born.interval_keys)) t (next_id s n.key) X
-indexed_by_is s s' t {n = n} born same = same ∙ ap₂ (λ g b. with_grant (with_graph s g) t (record { key = n.key; birth = b }) X) born.after born.birth

@@ -58,7 +58,7 @@ same_accepted s law (command.File ps) s₁ s₂ a₁ a₂ told₁ told₂ none f
 same_accepted s law (command.Index ps f bs) s₁ s₂ a₁ a₂ told₁ told₂ none free x y = absurd (true≢false none)
 same_accepted s law (command.Insert t f keys) s₁ s₂ a₁ a₂ told₁ told₂ none free x y = absurd (true≢false none)
 same_accepted s law (command.Adopt f keys) s₁ s₂ a₁ a₂ told₁ told₂ none free x y = absurd (true≢false none)
-same_accepted s law (command.IndexBy t ps f bs) s₁ s₂ a₁ a₂ told₁ told₂ none free x y = absurd (true≢false none)
+same_accepted s law (command.IndexBy t ps f bs rs ks) s₁ s₂ a₁ a₂ told₁ told₂ none free x y = absurd (true≢false none)
 same_accepted s law (command.Split t i at) s₁ s₂ a₁ a₂ told₁ told₂ none free x y = absurd (true≢false none)
 same_accepted s law c s₁ s₂ a₁ a₂ told₁ told₂ none free x y = by_told s s₁ s₂ a₁ a₂ told₁ told₂ (told s) x.0 y.0 x.1 y.1 (x.2 ∙ sym y.2)
 

@@ -5,12 +5,12 @@ use Rattle.gl_steps.proofs.Words.{Refusal, refusal_of, same_txn, shape_of, Some,
 use Rattle.gl_modes.specs.declared.refusal.Refusal.TheVariants as no
 use Rattle.gl_steps.specs.declared.command.Command.TheVariants as command
 use Rattle.gl_steps.proofs.Keeps.{Keeps}
-use Rattle.gl_steps.proofs.Made.{adopted_is, indexed_by_is, indexed_is, inserted_is, made_is}
+use Rattle.gl_steps.proofs.Made.{adopted_is, indexed_is, inserted_is, made_is}
 use Rattle.gl_steps.proofs.NotRefused.{differ, exclusive, nodes_live, txn_lives}
 use Rattle.gl_steps.proofs.GrantCommands.{begin_keeps, begun_keeps, cancel_keeps, escalate_keeps, joining_differs, lock_keeps, release_keeps, same_keeps}
 use Rattle.gl_steps.proofs.GrantCommands.{settle_keeps, try_keeps, unlock_keeps}
 use Rattle.gl_steps.proofs.GraphCommands.{delete_keeps, file_keeps, index_keeps, inner_keeps, insert_keeps, move_keeps, rekey_keeps}
-use Rattle.gl_steps.proofs.SchemaKeeps.{itself_locked}
+use Rattle.gl_steps.proofs.SchemaKeeps.{itself_locked, may_index}
 use Rattle.gl_steps.proofs.SchemaSteps.{drop_keeps, index_by_keeps}
 use Rattle.gl_steps.proofs.RowSteps.{adopt_keeps, forget_keeps}
 use Rattle.gl_steps.proofs.SplitKeeps.{merge_by_keeps, split_by_keeps}
@@ -92,9 +92,10 @@ module _ (s : State) (law : IsLawful s) (t : TxnId) (alive : lives s t ≡ true)
       finish ans.0 ans.2 (λ l. drop_keeps s law t alive ans.0 l _ u.slot n (other_slot u apart passed.1.0)
       (not_false _ (test_fails _ no.BadParents passed.1.1.1.1.1.0)) (test_fails _ _ passed.1.1.1.1.1.1.1.0)
       (itself_locked s u.slot n (shape_of s.graph n) (not_false _ (test_fails _ no.NeedExclusive passed.1.1.1.1.1.1.0))) ans.1.2)
-  accepted (command.IndexBy u ps f bs) apart passed ans =
-      finish ans.0 ans.2 (λ l. index_by_keeps s law t alive ans.0 l _ u.slot ans.1.0.key ps.now f bs.now ans.1.1.interval_keys
-      (other_slot u apart passed.1.1.0) (indexed_by_is s ans.0 u.slot ans.1.1 ans.1.4))
+  accepted (command.IndexBy u ps f bs rs ks) apart passed ans =
+      let may = may_index s u ps f bs rs ks (none_first (tests_of s (command.IndexBy u ps f bs rs ks)) passed) in
+      finish ans.0 ans.2 (λ l. index_by_keeps s law t alive ans.0 l _ u.slot (other_slot u apart passed.1.1.0) ps.now f bs.now rs.now ks.now ans.1.0
+      may.free may.file may.locked may.unused ans.1.1 ans.1.4)
   accepted (command.Split u i at) apart passed ans =
       finish ans.0 ans.2 (λ l. split_by_keeps s law t alive told' u (other_slot u apart passed.1.1.0) i ans.1.0 at ans.0
       (none_first (tests_of s (command.Split u i at)) passed) ans.1.1 ans.1.4)

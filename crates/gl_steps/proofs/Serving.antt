@@ -24,7 +24,7 @@ not_refused s (command.Group n) a told s' acc = absurd acc
 not_refused s (command.Held t n) a told s' acc = absurd acc
 not_refused s (command.Effective t n) a told s' acc = absurd acc
 not_refused s (command.Adopt f keys) a told s' acc = ap is_refused acc.2
-not_refused s (command.IndexBy t ps f bs) a told s' acc = ap is_refused acc.2
+not_refused s (command.IndexBy t ps f bs rs ks) a told s' acc = ap is_refused acc.2
 not_refused s (command.Split t i at) a told s' acc = ap is_refused acc.2
 not_refused s c a told s' acc = ap is_refused acc.0
 

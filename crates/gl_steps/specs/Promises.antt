@@ -46,7 +46,7 @@ names t (command.Delete u r) = same_txn t u
 names t (command.Rekey u r i k) = same_txn t u
 names t (command.Move u n ps) = same_txn t u
 names t (command.Drop u n) = same_txn t u
-names t (command.IndexBy u ps f bs) = same_txn t u
+names t (command.IndexBy u ps f bs rs ks) = same_txn t u
 names t (command.Split u i at) = same_txn t u
 names t (command.Merge u i) = same_txn t u
 names t c = false
@@ -202,7 +202,7 @@ makes_node (command.File ps) = true
 makes_node (command.Index ps f bs) = true
 makes_node (command.Insert t f keys) = true
 makes_node (command.Adopt f keys) = true
-makes_node (command.IndexBy t ps f bs) = true
+makes_node (command.IndexBy t ps f bs rs ks) = true
 makes_node (command.Split t i at) = true
 makes_node c = false
 

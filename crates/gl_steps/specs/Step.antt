@@ -16,6 +16,7 @@ use Rattle.gl_steps.specs.declared.command.Command.TheVariants as command
 use Rattle.gl_steps.specs.Tests.{may_lack_memory, refusal_of}
 use Rattle.gl_graph.specs.Changes.{IsAdopted, IsBorn, IsIndexBorn, rekeyed, rekeyed_parents, with_parents, without_node}
 use Rattle.gl_graph.specs.Graph.{record_parents}
+use Rattle.gl_graph.specs.Over.{IsIndexOver}
 use Rattle.gl_graph.specs.Shapes.{File, Inner, Rec}
 use Rattle.gl_graph.specs.Splits.{IsSplit, merge, next_interval}
 use Rattle.gl_header.specs.Header.{group_of}
@@ -79,8 +80,8 @@ Accepts s (command.Adopt f keys) a told' s' =
     (n : NodeId) × IsAdopted s.graph s'.graph n f keys.now × (a ≡ answer.Node n) × (told' ≡ []) × (s' ≡ with_graph s s'.graph)
 Accepts s (command.Forget r) a told' s' = (a ≡ answer.Done) × (told' ≡ []) × (s' ≡ with_graph s (without_node s.graph r))
 Accepts s (command.Drop t n) a told' s' = (a ≡ answer.Done) × (told' ≡ told s s') × (s' ≡ dropped s n)
-Accepts s (command.IndexBy t ps f bs) a told' s' =
-    (n : NodeId) × IsIndexBorn s.graph s'.graph n ps.now f bs.now × (a ≡ answer.Node n) × (told' ≡ [])
+Accepts s (command.IndexBy t ps f bs rs ks) a told' s' =
+    (n : NodeId) × IsIndexOver s.graph s'.graph n ps.now f bs.now rs.now ks.now × (a ≡ answer.Node n) × (told' ≡ [])
     × (s' ≡ with_grant (with_graph s s'.graph) t.slot n X)
 Accepts s (command.Split t i at) a told' s' =
     (n : NodeId) × IsSplit s.graph s'.graph i n at × (a ≡ answer.Node n) × (told' ≡ told s s') × (s' ≡ split_by s t.slot i s'.graph n)

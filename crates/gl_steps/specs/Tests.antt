@@ -95,7 +95,7 @@ tests_of s (command.Effective t n) = held_tests s t n
 tests_of s (command.Adopt f keys) = worn s ∷ record_refusal s.graph f keys.now ∷ []
 tests_of s (command.Forget r) = worn s ∷ forget_tests s r
 tests_of s (command.Drop t n) = worn s ∷ drop_tests s t n
-tests_of s (command.IndexBy t ps f bs) = worn s ∷ index_by_tests s t ps.now f bs.now
+tests_of s (command.IndexBy t ps f bs rs ks) = worn s ∷ index_by_tests s t ps.now f bs.now rs.now ks.now
 tests_of s (command.Split t i at) = worn s ∷ split_tests s t i at
 tests_of s (command.Merge t i) = worn s ∷ merge_tests s t i
 
@@ -125,7 +125,7 @@ lists_memory s (command.Insert t f keys) = true
 lists_memory s (command.Move t n ps) = true
 lists_memory s (command.Effective t n) = true
 lists_memory s (command.Adopt f keys) = true
-lists_memory s (command.IndexBy t ps f bs) = true
+lists_memory s (command.IndexBy t ps f bs rs ks) = true
 lists_memory s (command.Split t i at) = true
 lists_memory s (command.Merge t i) = true
 lists_memory s c = false

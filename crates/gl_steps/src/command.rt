@@ -184,13 +184,17 @@ pub enum Command<'a> {
         txn: TxnId,
         node: NodeId,
     },
-    /// A new index of a file that may have had records, but has none now, held in X. The file must
-    /// be held in X, and each parent in IX or greater.
+    /// A new index of a file, held in X. All records of the file are named, in order of birth, and
+    /// for each its key for the index: each gets it, and the interval that contains it as one more
+    /// parent. The file must be held in X, also each of its indexes if it has a record, and each
+    /// parent of the index in IX or greater. The transaction may hold no record of the file.
     IndexBy {
         txn: TxnId,
         parents: &'a [NodeId],
         file: NodeId,
         bounds: &'a [u64],
+        records: &'a [NodeId],
+        keys: &'a [u64],
     },
     /// Split an interval of an index, held in X: it keeps the keys below this bound, and a new
     /// interval, held in X too, has those from it on. The records of the file get the intervals of
