@@ -24,13 +24,11 @@ use Rattle.gl_model.specs.Calls.{Locks, WaitSettles, asked_by_escalation, depart
 use Rattle.gl_model.specs.Lawful.{IsLawful}
 use Rattle.gl_model.specs.Splits.{split_by}
 use Rattle.gl_model.specs.State.{SettledWithin, State, Txn, condemned, is_waiting_at, members, pumped, with_grant, with_graph, without_wait}
-use Rattle.gl_model.specs.Tellings.{Told}
 use Rattle.gl_model.proofs.law.Keeps.{IsLess, grant_case, grew, less-lawful}
 use Rattle.gl_model.proofs.law.Lock.{may_lock, unlocked-less, waiting-lawful}
 use Rattle.gl_model.proofs.law.Takes.{IsQuiet, at_all, condemned-lawful, released-less, without_wait-less}
 use Rattle.gl_model.proofs.law.Tests.{raised-lawful, shed-less}
 use Rattle.gl_steps.specs.declared.command.Answer.{Answer}
-use Rattle.gl_steps.specs.declared.command.Command.{Command}
 use Rattle.gl_steps.specs.declared.command.Command.TheVariants as command
 use Rattle.gl_steps.specs.Tests.{refusal_of, tests_of, worn}
 use Rattle.gl_steps.proofs.Changes.{Change, change_of}

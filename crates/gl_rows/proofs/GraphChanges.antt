@@ -5,6 +5,7 @@ use Rattle.gl_modes.proofs.Words.{clash, no, none_some, some_is, split}
 use Rattle.gl_modes.specs.declared.node.NodeId.{NodeId}
 use Rattle.gl_graph.specs.Changes.{IsBorn, IsIndexBorn, born_node, born_nodes, marked, with_node, without_branch, without_node}
 use Rattle.gl_graph.specs.Graph.{Graph, Node, first_in, first_parent, node_at, parents_in, record_parents, shape_in, shape_of}
+use Rattle.gl_graph.specs.Over.{IsIndexOver, over_refusal}
 use Rattle.gl_graph.specs.Refusals.{bad_parents, is_in_use}
 use Rattle.gl_graph.specs.Shapes.{Rec, Shape, is_movable_shape, is_record_shape, least_parents}
 use Rattle.gl_graph.proofs.Born.{place_in}
@@ -29,7 +30,7 @@ use Rattle.gl_steps.proofs.EachStep.{each_step}
 use Rattle.gl_steps.proofs.MoveCommands.{move_moves, rekey_moves}
 use Rattle.gl_steps.proofs.OneStep.{all_none}
 use Rattle.gl_steps.proofs.RowKeeps.{may_forget}
-use Rattle.gl_steps.proofs.SchemaKeeps.{may_drop}
+use Rattle.gl_steps.proofs.SchemaKeeps.{may_drop, may_index}
 use Rattle.gl_steps.proofs.SplitKeeps.{IsRecut, merge_recuts, merges, split_recuts, splits}
 use Rattle.gl_graph.specs.Splits.{merge, next_interval}
 use Rattle.gl_model.specs.Splits.{merged_by, split_by}
@@ -41,7 +42,7 @@ abbrev pub is_of_nodes : Command → Bool
 is_of_nodes (command.Inner ps) = true
 is_of_nodes (command.File ps) = true
 is_of_nodes (command.Index ps f bs) = true
-is_of_nodes (command.IndexBy t ps f bs) = true
+is_of_nodes (command.IndexBy t ps f bs rs ks) = true
 is_of_nodes (command.Insert t f keys) = true
 is_of_nodes (command.Adopt f keys) = true
 is_of_nodes (command.Forget r) = true
@@ -74,7 +75,7 @@ accepted_graph s (command.Effective t n) a told s' of acc = absurd acc
 accepted_graph s (command.Inner ps) a told s' of acc = clash refl of
 accepted_graph s (command.File ps) a told s' of acc = clash refl of
 accepted_graph s (command.Index ps f bs) a told s' of acc = clash refl of
-accepted_graph s (command.IndexBy t ps f bs) a told s' of acc = clash refl of
+accepted_graph s (command.IndexBy t ps f bs rs ks) a told s' of acc = clash refl of
 accepted_graph s (command.Insert t f keys) a told s' of acc = clash refl of
 accepted_graph s (command.Adopt f keys) a told s' of acc = clash refl of
 accepted_graph s (command.Forget r) a told s' of acc = clash refl of
@@ -133,6 +134,8 @@ pub record HoldsAfter (has : NodeId → Bool) (g : Graph) (c : Command) (P : Gra
   pub removed : (r : NodeId) → is_record_shape (shape_of g r) ≡ true → has (first_parent g r) ≡ false → P (without_node g r)
   pub changed : (n : NodeId) (was is : Node) → node_at g n ≡ Some was → is.key ≡ was.key → IsAlike was.shape is.shape
       → (is_record_shape (Some was.shape) ≡ true → first_in is.parents ≡ first_in was.parents) → P (with_node g n.birth is)
+  pub over : (g' : Graph) (n : NodeId) (ps : List NodeId) (f : NodeId) (bs : List ℕ) (rs : List NodeId) (ks : List ℕ) → over_refusal g ps f bs rs ks ≡ None
+      → IsIndexOver g g' n ps f bs rs ks → P g'
   pub dropped : (n : NodeId) → Drops g c n → P (without_branch g n)
   pub recut : (s s' : State) (x y : NodeId) → is_recut c ≡ true → s.graph ≡ g → IsRecut s s' x y → P s'.graph
 
@@ -159,7 +162,8 @@ module _ (has : NodeId → Bool) (s : State) (law : IsLawful s) (P : Graph → T
   accepted_after (command.Inner ps) a told s' after off free acc = one_born (command.Inner ps) after s'.graph acc.1 (λ rec of. no rec)
   accepted_after (command.File ps) a told s' after off free acc = one_born (command.File ps) after s'.graph acc.1 (λ rec of. no rec)
   accepted_after (command.Index ps f bs) a told s' after off free acc = index_born (command.Index ps f bs) after s'.graph acc.1
-  accepted_after (command.IndexBy t ps f bs) a told s' after off free acc = index_born (command.IndexBy t ps f bs) after s'.graph acc.1
+  accepted_after (command.IndexBy t ps f bs rs ks) a told s' after off free acc =
+      after.over s'.graph acc.0 ps.now f bs.now rs.now ks.now (may_index s t ps f bs rs ks free).free acc.1
   accepted_after (command.Insert t f keys) a told s' after off free acc = one_born (command.Insert t f keys) after s'.graph acc.1 (λ rec of. clash of off)
   accepted_after (command.Adopt f keys) a told s' after off free acc =
       let row : Node = record { key = acc.0.key; shape = Rec keys.now; parents = record_parents g f keys.now } in

@@ -1,16 +1,17 @@
 -- The indexes of a file stay, with their intervals: changes of the graph keep them, and a new index is added after those of the file.
 use Rattle.std.specs.Prelude.{◌≡◌, ℕ, ◌+◌, ◌||◌, true, List, [], ◌∷◌, ◌++◌, length, Some, slice_index_or}
 use Rattle.std.specs.List.{list_all, list_any}
-use Rattle.std.proofs.Common.{refl, sym, ap, ap₂, ◌∙◌, arith}
+use Rattle.std.proofs.Common.{refl, sym, ap, ap₂, ◌∙◌, arith, subst}
 use Rattle.std.proofs.lemmas.List.{append-nil, append_assoc, length-append, nil_from_length}
 use Rattle.std.proofs.lemmas.List.Folds.{list_any-append}
 use Rattle.gl_modes.proofs.Words.{and_both}
 use Rattle.gl_modes.specs.Nodes.{same_node}
 use Rattle.gl_modes.specs.declared.node.NodeId.{NodeId}
-use Rattle.gl_graph.specs.Changes.{born_nodes, marked, with_node, without_node}
+use Rattle.gl_graph.specs.Changes.{born_nodes, interval_nodes, marked, new_index, with_node, without_node}
 use Rattle.gl_graph.specs.Graph.{Graph, Node, indexes_of, interval_of, interval_place, intervals_of, no_node, node_at, nodes, record_parents}
 use Rattle.gl_graph.specs.Graph.{shape_in, shape_of}
 use Rattle.gl_graph.specs.Lawful.{IsLawfulGraph}
+use Rattle.gl_graph.specs.Over.{IsIndexOver, keyed}
 use Rattle.gl_graph.specs.Shapes.{is_index_of_shape, is_record_shape}
 use Rattle.gl_graph.proofs.Born.{indexes_grown, new_indexes, old_same}
 use Rattle.gl_graph.proofs.Changed.{IsAlike, changed_frames, indexes_same}
@@ -18,6 +19,7 @@ use Rattle.gl_graph.proofs.Distinct.{index_listed}
 use Rattle.gl_graph.proofs.KindRules.{AreAlike, index_plain, is_plain, one_shape, plain_live}
 use Rattle.gl_graph.proofs.Look.{all_at, all_filter}
 use Rattle.gl_graph.proofs.Marked.{marked_indexes, marked_interval_of}
+use Rattle.gl_graph.proofs.OverGraph.{indexes_after, interval_after}
 use Rattle.gl_graph.proofs.RecordParents.{index_of_index}
 use Rattle.gl_graph.proofs.Removed.{indexes_left, removed_frames}
 use Rattle.gl_rows.specs.Promises.{IsRow}
@@ -100,6 +102,20 @@ pub changed_keeps : (g : Graph) → IsLawfulGraph g → (n : NodeId) (was is : N
     → (f : NodeId) → KeepsIndexes g (with_node g n.birth is) f
 changed_keeps g law n was is there key alike f =
     stays_keeps g (with_node g n.birth is) (changed_frames g n was is there key alike).shapes f (indexes_same g n was is there key alike f)
+
+-- an index is made over records
+pub over_keeps : (g g' : Graph) → IsLawfulGraph g → (n : NodeId) (ps : List NodeId) (f : NodeId) (bs : List ℕ) (rs : List NodeId) (ks : List ℕ)
+    → IsIndexOver g g' n ps f bs rs ks → (h : NodeId) → KeepsIndexes g g' h
+over_keeps g g' law n ps f bs rs ks made h =
+    let born = made.born in
+    let keys = made.index.interval_keys in
+    let id : NodeId = record { key = n.key; birth = g.births + 1 } in
+    keeps_trans g born g' h law
+    (subst (λ x. KeepsIndexes g x h) (sym made.index.after) (born_keeps g law (new_index id ps f bs keys ∷ interval_nodes id keys) h))
+    (subst (λ x. KeepsIndexes born x h) (sym made.after) (record {
+      indexes = list_itself born (keyed born n rs ks) h (indexes_after born n rs ks h);
+      intervals = λ i key of. interval_after born n rs ks i key;
+    }))
 
 -- the file has the same indexes if it has a row with these keys before and after
 pub indexes_of_row : (g g' : Graph) (f : NodeId) → KeepsList g g' f → (keys : List ℕ) → IsRow g f keys → IsRow g' f keys → indexes_of g' f ≡ indexes_of g f

@@ -18,7 +18,8 @@ use Rattle.gl_steps.proofs.StepsKeepLaw.{steps_keep_law}
 use Rattle.gl_rows.specs.Promises.{IsRow, drops_index_of}
 use Rattle.gl_rows.proofs.DroppedIndexes.{dropped_keeps, dropped_parents}
 use Rattle.gl_rows.proofs.GraphChanges.{Drops, is_recut, step_after, touches_none}
-use Rattle.gl_rows.proofs.KeptIndexes.{KeepsIndexes, born_keeps, changed_keeps, keeps_itself, keeps_trans, marked_keeps, removed_keeps, same_parents}
+use Rattle.gl_rows.proofs.KeptIndexes.{KeepsIndexes, born_keeps, changed_keeps, keeps_itself, keeps_trans, marked_keeps, over_keeps, removed_keeps}
+use Rattle.gl_rows.proofs.KeptIndexes.{same_parents}
 
 -- the same for each file
 abbrev pub KeepsAll : Graph → Graph → Type 0
@@ -47,6 +48,7 @@ step_keeps s s' c a told law step =
           keeps_trans g (born_node g x) (marked (born_node g x) f) y law.graph (born_keeps g law.graph (x ∷ []) y) (marked_keeps (born_node g x) f y));
       removed = λ r rec other. inl (removed_keeps g law.graph r rec);
       changed = λ n was is there key alike first. inl (changed_keeps g law.graph n was is there key alike);
+      over = λ g' n ps f bs rs ks free made. inl (over_keeps g g' law.graph n ps f bs rs ks made);
       dropped = λ n drops. inr (inl (n, drops, refl));
       recut = λ u u' x y of is cut. inr (inr of);
     }) (touches_none g c) step

@@ -1,5 +1,5 @@
 -- Commands that touch no record of some files leave the records of these files as they are.
-use Rattle.std.specs.Prelude.{◌≡◌, ℕ, Bool, true, false, List, [], ◌∷◌, Option, Some}
+use Rattle.std.specs.Prelude.{◌≡◌, ℕ, Bool, true, false, List, [], ◌∷◌, None, Option, Some}
 use Rattle.std.proofs.Common.{refl, sym, ap, ⊎_elim, subst, ◌∙◌}
 use Rattle.gl_modes.proofs.NodeLemmas.{same_node-equal, same_node-other}
 use Rattle.gl_modes.proofs.Words.{clash, not_true, split}
@@ -8,12 +8,14 @@ use Rattle.gl_modes.specs.declared.node.NodeId.{NodeId}
 use Rattle.gl_graph.specs.Changes.{born_node, born_nodes, marked, with_node, without_branch, without_node}
 use Rattle.gl_graph.specs.Graph.{Graph, Node, first_in, first_parent, is_live, node_at, parents_in, shape_in, shape_of}
 use Rattle.gl_graph.specs.Lawful.{IsLawfulGraph}
+use Rattle.gl_graph.specs.Over.{IsIndexOver, over_refusal}
 use Rattle.gl_graph.specs.Shapes.{Shape, Rec, is_interval_shape, is_record_shape}
 use Rattle.gl_graph.proofs.Born.{old_or_new, old_same, place_in}
 use Rattle.gl_graph.proofs.Branch.{children_are, left_is, live, movable_no_record, stays_left}
 use Rattle.gl_graph.proofs.Changed.{IsAlike, at_here, at_other, rec_same}
 use Rattle.gl_graph.proofs.Look.{live_node}
 use Rattle.gl_graph.proofs.Marked.{marked_first_parent, marked_record}
+use Rattle.gl_graph.proofs.OverGraph.{over_live}
 use Rattle.gl_graph.proofs.Removed.{stays_there}
 use Rattle.gl_model.specs.Lawful.{IsLawful}
 use Rattle.gl_model.specs.State.{State}
@@ -22,6 +24,7 @@ use Rattle.gl_model.proofs.law.Rows.{left_was}
 use Rattle.gl_steps.specs.declared.command.Answer.{Answer}
 use Rattle.gl_steps.specs.declared.command.Command.{Command}
 use Rattle.gl_steps.specs.Step.{Step}
+use Rattle.gl_steps.proofs.KeptKinds.{over_kinds, over_plain}
 use Rattle.gl_steps.proofs.SplitKeeps.{IsRecut}
 use Rattle.gl_rows.proofs.GraphChanges.{Drops, Outside, only_one, step_after, touches}
 use Rattle.gl_rows.proofs.NameChanges.{IsStill, SameRecords, record_live, same_records, still_at, still_back}
@@ -95,6 +98,22 @@ module _ (has : NodeId → Bool) (g : Graph) (law : IsLawfulGraph g) where
             (λ e. ap (λ o. first_in (parents_in o)) (at_other g n was is there key q (same_node-other q n e)));
       }
 
+  -- an index is made over records
+  over_same : (g' : Graph) (n : NodeId) (ps : List NodeId) (f : NodeId) (bs : List ℕ) (rs : List NodeId) (ks : List ℕ) → over_refusal g ps f bs rs ks ≡ None
+      → IsIndexOver g g' n ps f bs rs ks → Same g'
+  over_same g' n ps f bs rs ks free made = record {
+    on = λ q rec of. let live = record_live g q rec in still q rec live (over_live g g' law n ps f bs rs ks free made q live);
+    back = λ q rec of.
+        let live' = record_live g' q rec in
+        let live = split (is_live g q) (λ h. h) (λ dead. absurd (over_plain g g' law n ps f bs rs ks free made q dead rec)) in
+        still q (sym (over_kinds g g' law n ps f bs rs ks free made q live live').record_same ∙ rec) live live';
+  }
+    where
+      still : (q : NodeId) → is_record_shape (shape_of g q) ≡ true → is_live g q ≡ true → is_live g' q ≡ true → IsStill g g' q
+      still q rec live live' =
+          let kind = over_kinds g g' law n ps f bs rs ks free made q live live' in
+          record { was = rec; rec = kind.record_same ∙ rec; file = kind.file rec }
+
   -- intervals are cut anew
   recut_same : (s s' : State) (x y : NodeId) → s.graph ≡ g → IsRecut s s' x y → Same s'.graph
   recut_same s s' x y is cut = subst (λ h. SameRecords has h s'.graph) is (record {
@@ -122,6 +141,7 @@ step_records has s s' c a told law off step =
       adopted = λ x f outside. marked_same has g law.graph (born_node g x) f (born_same has g law.graph (x ∷ []) (only_one has x outside));
       removed = gone_same has g law.graph;
       changed = changed_same has g law.graph;
+      over = over_same has g law.graph;
       dropped = branch_same has g law.graph c;
       recut = λ u u' x y of is cut. recut_same has g law.graph u u' x y is cut;
     }) off step

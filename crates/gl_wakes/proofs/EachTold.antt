@@ -31,7 +31,7 @@ module _ (Holds : Told → Type 0) (s : State) (none : Holds []) (all : (now : S
   accepted (command.Effective t n) a list s' acc = absurd acc
   accepted (command.Adopt f keys) a list s' acc = subst Holds (sym acc.3) none
   accepted (command.Forget r) a list s' acc = subst Holds (sym acc.1) none
-  accepted (command.IndexBy t ps f bs) a list s' acc = subst Holds (sym acc.3) none
+  accepted (command.IndexBy t ps f bs rs ks) a list s' acc = subst Holds (sym acc.3) none
   accepted (command.Split t i at) a list s' acc = subst Holds (sym acc.3) (all s')
   accepted c a list s' acc = subst Holds (sym acc.1) (all s')
 

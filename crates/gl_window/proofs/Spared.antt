@@ -147,7 +147,7 @@ module _ (set : Slots) (s : State) (law : IsLawful s) (few : s.most ≤ most_slo
   accepted (command.Insert t f keys) next step is passed spared acc = born_case t acc.0 next acc.1.birth acc.4
   accepted (command.Adopt f keys) next step is passed spared acc = graph_case next _ acc.4
   accepted (command.Forget r) next step is passed spared acc = graph_case next _ acc.2
-  accepted (command.IndexBy t ps f bs) next step is passed spared acc = born_case t acc.0 next acc.1.birth acc.4
+  accepted (command.IndexBy t ps f bs rs ks) next step is passed spared acc = born_case t acc.0 next acc.1.index.birth acc.4
   accepted c next step is passed spared acc = absurd (no spared)
 
   pub step_spares : (c : Command) → Step s c a told s' → spares_waits set c a ≡ true → Spares set s s'

@@ -35,7 +35,7 @@ spares_waits parties (command.Abort t) a = not (has_slot parties t.slot)
 spares_waits parties (command.Insert t f keys) a = true
 spares_waits parties (command.Adopt f keys) a = true
 spares_waits parties (command.Forget r) a = true
-spares_waits parties (command.IndexBy t ps f bs) a = true
+spares_waits parties (command.IndexBy t ps f bs rs ks) a = true
 spares_waits parties c a = false
 
 -- whether an accepted command is known to have changed no wait, by the parties to waits before it; if there were none, it leaves nobody waiting

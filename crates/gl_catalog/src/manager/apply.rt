@@ -132,7 +132,9 @@ impl Manager {
                 parents,
                 file,
                 bounds,
-            } => node_answer(self.index_by(txn, parents, file, bounds)),
+                records,
+                keys,
+            } => node_answer(self.index_by(txn, parents, file, bounds, records, keys)),
             Command::Split { txn, interval, at } => {
                 node_answer(self.split_telling(txn, interval, at, told))
             }

@@ -228,7 +228,7 @@ impl Manager {
     }
 
     /// Whether each of these is held in X.
-    fn holds_all_in_x(&self, t: TxnId, nodes: &[NodeId]) -> bool
+    pub(super) fn holds_all_in_x(&self, t: TxnId, nodes: &[NodeId]) -> bool
         requires txn { lives (state_of self.now) t ≡ true }
         ensures { result ≡ holds_x_on_all (state_of self.now) t.slot nodes.now }
     {

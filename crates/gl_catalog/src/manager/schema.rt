@@ -1,10 +1,12 @@
 //! Schema changes: nodes are dropped, and indexes made, under the locks of a transaction.
 
-ghost use Rattle.std.specs.Prelude.{◌≡◌, [], IfOk, OnErr, true};
+ghost use Rattle.std.specs.Prelude.{◌≡◌, ◌&&◌, ◌||◌, [], IfOk, OnErr, true};
 ghost use Rattle.gl_graph.specs.Graph.{is_live, shape_of};
-ghost use Rattle.gl_graph.specs.Refusals.{first_refusal, verdict};
-ghost use Rattle.gl_model.specs.Calls.{holds_x_on_all, index_by_tests, locked_to_drop};
-ghost use Rattle.gl_model.specs.State.{lives};
+ghost use Rattle.gl_graph.specs.Refusals.{first_refusal, has_records, verdict};
+ghost use Rattle.gl_graph.specs.Shapes.{is_file_shape};
+ghost use Rattle.gl_header.specs.Header.{holds, is_empty};
+ghost use Rattle.gl_model.specs.Calls.{holds_child, holds_x_on_all, index_by_tests, locked_to_drop, locked_to_index};
+ghost use Rattle.gl_model.specs.State.{lives, members};
 ghost use Rattle.gl_steps.specs.declared.command.Command.TheVariants as command;
 ghost use Rattle.gl_steps.specs.Tests.{refusal_of};
 ghost use Rattle.gl_catalog.specs.Completes.{Completes};
@@ -40,27 +42,37 @@ impl Manager {
         Ok(())
     }
 
-    /// Makes an index, held by the transaction in X, of a file that may have had records, but has
-    /// none now. The transaction needs X on the file and IX or greater on each parent. Nobody is
-    /// told; other transactions keep what `apply` leaves them.
+    /// Makes an index of a file, held by the transaction in X. The transaction needs X on the file and
+    /// IX or greater on each parent. If the file has records, all are named, in order of birth, and
+    /// each gets the key at its place. Then the transaction needs X on each index of the file too, so
+    /// that nobody else reads or writes a record, and must hold none itself. Nobody is told; other
+    /// transactions keep what `apply` leaves them. Needs a step for each record.
     ///
     /// Refused, in this order, with `WornOut`, `NoSuchTxn`, `TxnWaiting`, `TxnCondemned`,
-    /// `NoSuchNode`, `BadParents`, `NeedExclusive` (the file is not held in X), `NeedParents`,
-    /// `FileInUse`, `BadKeys` (the bounds), `TooManyNodes` and `NoMemory`.
+    /// `NoSuchNode`, `BadParents`, `NeedExclusive`, `NeedParents`, `FileInUse` (it has records and
+    /// none is named, or the transaction holds one), `BadKeys` (the bounds; not all records are
+    /// named, or another node is, or not in order of birth; not a key for each), `TooManyNodes` and
+    /// `NoMemory`.
     pub fn index_by(
         &mut self,
         t: TxnId,
         parents: &[NodeId],
         file: NodeId,
         bounds: &[u64],
+        records: &[NodeId],
+        keys: &[u64],
     ) -> Result<NodeId, Refusal>
-        ensures step { CallSteps (state_of self.old) (command.IndexBy t parents.entry file bounds.entry) made result (state_of self.new) }
-        ensures completes { IfOk result (λ x. Completes (command.IndexBy t parents.entry file bounds.entry) self.old (made x) self.new) }
+        ensures step { CallSteps (state_of self.old) (command.IndexBy t parents.entry file bounds.entry records.entry keys.entry) made result
+            (state_of self.new) }
+        ensures completes { IfOk result (λ x. Completes (command.IndexBy t parents.entry file bounds.entry records.entry keys.entry) self.old
+            (made x) self.new) }
         ensures err { OnErr result (self.new ≡ self.old) }
     {
         self.check_count()?;
-        self.check_index_by(t, parents, file, bounds)?;
-        let index = self.table.add_index_held(t, parents, file, bounds)?;
+        self.check_index_by(t, parents, file, bounds, records, keys)?;
+        let index = self
+            .table
+            .add_index_held(t, parents, file, bounds, records, keys)?;
         self.table.law();
         self.accepted += 1;
         Ok(index)
@@ -101,6 +113,49 @@ impl Manager {
         }
     }
 
+    /// Whether a living transaction holds a file in X and, if records are named, each of its indexes
+    /// too.
+    fn may_index(&self, t: TxnId, file: NodeId, records: &[NodeId]) -> bool
+        requires txn { lives (state_of self.now) t ≡ true }
+        requires file { is_file_shape (shape_of (state_of self.now).graph file) ≡ true }
+        ensures { result ≡ holds_x_on_all (state_of self.now) t.slot (locked_to_index (state_of self.now).graph file records.now) }
+    {
+        if self.mode(t, file) != Mode::X {
+            false
+        } else if records.is_empty() {
+            true
+        } else {
+            self.holds_all_in_x(t, self.table.graph().indexes(file))
+        }
+    }
+
+    /// Whether a living transaction that holds the node holds a child of it.
+    fn holds_child(&self, t: TxnId, n: NodeId) -> bool
+        requires txn { lives (state_of self.now) t ≡ true }
+        requires held { holds (members (state_of self.now) n) t.slot ≡ true }
+        ensures { result ≡ holds_child (state_of self.now) t.slot n }
+    {
+        match self.children(t, n) {
+            Some(count) => count > 0,
+            None => false,
+        }
+    }
+
+    /// Whether a file has records and none is named, or the transaction, which holds the file, holds
+    /// a record of it.
+    fn is_taken(&self, t: TxnId, file: NodeId, records: &[NodeId]) -> bool
+        requires txn { lives (state_of self.now) t ≡ true }
+        requires held { holds (members (state_of self.now) file) t.slot ≡ true }
+        requires file { is_file_shape (shape_of (state_of self.now).graph file) ≡ true }
+        ensures { result ≡ ((is_empty records.now && has_records (state_of self.now).graph file) || holds_child (state_of self.now) t.slot file) }
+    {
+        if records.is_empty() && self.table.graph().has_records(file) {
+            true
+        } else {
+            self.holds_child(t, file)
+        }
+    }
+
     /// The tests of `index_by`, except the count and memory.
     fn check_index_by(
         &self,
@@ -108,8 +163,10 @@ impl Manager {
         parents: &[NodeId],
         file: NodeId,
         bounds: &[u64],
+        records: &[NodeId],
+        keys: &[u64],
     ) -> Result<(), Refusal>
-        ensures { result ≡ verdict (first_refusal (index_by_tests (state_of self.now) t parents.now file bounds.now)) }
+        ensures { result ≡ verdict (first_refusal (index_by_tests (state_of self.now) t parents.now file bounds.now records.now keys.now)) }
     {
         let graph = self.table.graph();
         if graph.worn() {
@@ -117,13 +174,13 @@ impl Manager {
         }
         self.check_active(t)?;
         graph.check_index_place(parents, file)?;
-        if self.mode(t, file) != Mode::X {
+        if !self.may_index(t, file, records) {
             return Err(Refusal::NeedExclusive);
         }
         self.check_writable(t, parents)?;
-        if graph.has_records(file) {
+        if self.is_taken(t, file, records) {
             return Err(Refusal::FileInUse);
         }
-        graph.check_index_bounds(bounds)
+        graph.check_index_over(file, bounds, records, keys)
     }
 }

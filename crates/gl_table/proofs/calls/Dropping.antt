@@ -2,18 +2,19 @@
 use Rattle.gl_table.proofs.Words.{◌&&◌, ◌+◌, ◌==◌, [], ◌||◌, ◌∙◌, ◌∷◌, ◌≡◌, Active, and_both, ap, ap₂, AreExact, arith, Bool, children_that, clash, cond}
 use Rattle.gl_table.proofs.Words.{count_by, count_cons, false, filter, first_not_ix, goes_with, granted-no_cycle, Graph, graph_of, HasNoCycle, IfOk}
 use Rattle.gl_table.proofs.Words.{if◌then◌else◌, in_no_queue, Inside, intends_over, IS, is_among_waiters, is_at_least, is_child, is_in_use, is_live}
-use Rattle.gl_table.proofs.Words.{is_movable_shape, is_wait, is_write, IsBranchLeftTo, IsFresh, IsIndexBorn, IsLawful, IsLawfulGraph, IsSound, IX}
+use Rattle.gl_table.proofs.Words.{is_movable_shape, is_wait, is_write, IsBranchLeftTo, IsFresh, IsLawful, IsLawfulGraph, IsSound, IX}
 use Rattle.gl_table.proofs.Words.{lawful_orderly, Ledger, List, list_all, list_any, Mode, nat_tests, NL, no, node_at, NodeId, nodes, nodes_live, None, not}
-use Rattle.gl_table.proofs.Words.{not_true, OnErr, or_elim, or_left, parents_in, refl, Refusal, Refuses, reindex_refusal, Result, rules, same_mode}
+use Rattle.gl_table.proofs.Words.{not_true, OnErr, or_elim, or_left, parents_in, refl, Refusal, Refuses, Result, rules, same_mode}
 use Rattle.gl_table.proofs.Words.{same_mode-equal, same_node, same_node-equal, same_node-refl, same_number, shape_of, Some, split, State, state_in, state_of}
 use Rattle.gl_table.proofs.Words.{status_of, subst, sym, true, View, view_of, waits_there, with_grant, with_graph, X, ℕ}
 use Rattle.gl_graph.specs.Changes.{without_branch}
 use Rattle.gl_graph.proofs.Branch.{left_live, live, nodes_left, stays_left}
-use Rattle.gl_graph.proofs.Unrefused.{reindex_unrefused}
+use Rattle.gl_graph.specs.Graph.{is_record_of}
+use Rattle.gl_graph.specs.Over.{IsIndexOver, over_refusal}
 use Rattle.gl_model.specs.State.{intends}
-use Rattle.gl_model.proofs.law.Schema.{branch_goes, index-live, index-unawaited, index-unheld, indexed_lawful, only_parent, roomy_index-grows}
+use Rattle.gl_model.proofs.law.Schema.{branch_goes, index-live, index-unawaited, index-unheld, indexed_lawful, only_parent}
 use Rattle.gl_table.proofs.calls.Departing.{AreGone}
-use Rattle.gl_table.proofs.calls.Law.{called}
+use Rattle.gl_table.proofs.calls.Law.{over-suits, suited-call}
 use Rattle.gl_table.proofs.calls.Records.{held_alone}
 use Rattle.gl_table.proofs.calls.Stands.{MayStand, stands, with_locks}
 
@@ -141,24 +142,25 @@ module _ (s : State) (law : IsLawful s) (t : ℕ) (n : NodeId) (movable : is_mov
 
 -- An index is made, and one transaction holds it in X: what holds of the fields still does.
 
-module _ (i : Inside) (sound : IsSound i) (ps : List NodeId) (f : NodeId) (bs : List ℕ)
-    (free : reindex_refusal (graph_of i.locks.graph) ps f bs ≡ None) (v : View) where
+module _ (i : Inside) (sound : IsSound i) (ps : List NodeId) (f : NodeId) (bs : List ℕ) (rs : List NodeId) (ks : List ℕ)
+    (free : over_refusal (graph_of i.locks.graph) ps f bs rs ks ≡ None)
+    (unheld : (u : ℕ) (r : NodeId) → is_record_of (graph_of i.locks.graph) f r ≡ true → (state_of (view_of i)).held u r ≡ NL) (v : View) where
   abbrev before : State
   before = state_of (view_of i)
 
   -- the graph was called for the index
-  pub stands_indexed : (r : Result NodeId Refusal) → Refuses (reindex_refusal (graph_of i.locks.graph) ps f bs) r
-      → IfOk r (λ n. IsIndexBorn (graph_of i.locks.graph) (graph_of v) n ps f bs) → OnErr r (v ≡ i.locks.graph) → MayStand i v i.locks.ledger
+  pub stands_indexed : (r : Result NodeId Refusal) → Refuses (over_refusal (graph_of i.locks.graph) ps f bs rs ks) r
+      → IfOk r (λ n. IsIndexOver (graph_of i.locks.graph) (graph_of v) n ps f bs rs ks) → OnErr r (v ≡ i.locks.graph) → MayStand i v i.locks.ledger
   stands_indexed r refuses made same =
-      called i sound v (reindex_refusal (graph_of i.locks.graph) ps f bs) r (λ n. IsIndexBorn (graph_of i.locks.graph) (graph_of v) n ps f bs) refuses made same
-      (λ n free' born. roomy_index-grows before sound.lawful ps f bs (reindex_unrefused before.graph ps f bs free) (graph_of v) n born)
+      suited-call i sound v (over_refusal (graph_of i.locks.graph) ps f bs rs ks) r (λ n. IsIndexOver (graph_of i.locks.graph) (graph_of v) n ps f bs rs ks)
+      refuses made same (λ n free' over. over-suits i sound v n ps f bs rs ks free over unheld)
 
-  module _ (n : NodeId) (born : IsIndexBorn (graph_of i.locks.graph) (graph_of v) n ps f bs) where
+  module _ (n : NodeId) (over : IsIndexOver (graph_of i.locks.graph) (graph_of v) n ps f bs rs ks) where
     pub index_fresh : IsFresh (state_in v i.locks.ledger) n
     index_fresh = record {
-      live = index-live before sound.lawful ps f bs (reindex_unrefused before.graph ps f bs free) (graph_of v) n born;
-      unheld = index-unheld before sound.lawful ps f bs (reindex_unrefused before.graph ps f bs free) (graph_of v) n born;
-      unawaited = index-unawaited before sound.lawful ps f bs (reindex_unrefused before.graph ps f bs free) (graph_of v) n born;
+      live = index-live before sound.lawful ps f bs rs ks free (graph_of v) n over;
+      unheld = index-unheld before sound.lawful ps f bs rs ks free (graph_of v) n over;
+      unawaited = index-unawaited before sound.lawful ps f bs rs ks free (graph_of v) n over;
     }
 
     -- the slot holds it
@@ -168,7 +170,6 @@ module _ (i : Inside) (sound : IsSound i) (ps : List NodeId) (f : NodeId) (bs : 
 
       pub stands_placed_index : status_of before t ≡ Some Active → first_not_ix (before.held t) ps ≡ None → AreExact v ledger → MayStand i v ledger
       stands_placed_index active rule exact = stands i v ledger (record {
-        lawful = subst IsLawful (sym state_indexed) (indexed_lawful before sound.lawful ps f bs (reindex_unrefused before.graph ps f bs free) (graph_of v)
-            n born t active rule);
+        lawful = subst IsLawful (sym state_indexed) (indexed_lawful before sound.lawful ps f bs rs ks free (graph_of v) n over unheld t active rule);
         no_cycle = λ at. subst HasNoCycle (sym state_indexed) (granted-no_cycle (with_graph before (graph_of v)) t n X active (sound.no_cycle at));
       }) exact

@@ -8,6 +8,10 @@ use Rattle.gl_table.proofs.Words.{nat_tests, NodeId, None, not, Ok, OnErr, Optio
 use Rattle.gl_table.proofs.Words.{range_with_len, refl, Refusal, Refuses, replicate, Result, same, same_node, slice_get, slice_get-get_or, slice_set, Some}
 use Rattle.gl_table.proofs.Words.{StandOnce, State, state_in, state_of, status_in, status_of, subst, suc, sym, TableView, too_many_txns, true, txn_in, TxnEntry}
 use Rattle.gl_table.proofs.Words.{TxnEntryList, txns_of, unused-nobody, Victims, View, view_of, waiting_is, where_true, with_graph, zero, ℕ}
+use Rattle.gl_modes.specs.declared.mode.Mode.TheVariants.{NL}
+use Rattle.gl_graph.specs.Graph.{is_record_of}
+use Rattle.gl_graph.specs.Over.{IsIndexOver, over_refusal}
+use Rattle.gl_model.proofs.law.Schema.{over-counts, over-lawful}
 use Rattle.gl_model.specs.State.{with_limits}
 use Rattle.gl_table.proofs.calls.Stands.{as_it_was, IsLaw, MayStand, orderly_over, stands}
 use Rattle.gl_modes.specs.declared.refusal.Refusal.TheVariants as no
@@ -147,6 +151,15 @@ module _ (i : Inside) (sound : IsSound i) (v : View) where
     lawful = grown-lawful before sound.lawful (graph_of v) more;
     counts = λ u p. let held : NodeId → Bool = λ c. holds (members before c) u in
         ap (λ g. children_that g held p) more.after ∙ born-children (graph_of i.locks.graph) sound.lawful.graph more.ns held (held-lives u) p;
+  }
+
+  -- nobody holds a record of the file of an index that is made, so neither are they counted
+  pub over-suits : (n : NodeId) (ps : List NodeId) (f : NodeId) (bs : List ℕ) (rs : List NodeId) (ks : List ℕ)
+      → over_refusal (graph_of i.locks.graph) ps f bs rs ks ≡ None → IsIndexOver (graph_of i.locks.graph) (graph_of v) n ps f bs rs ks
+      → ((u : ℕ) (r : NodeId) → is_record_of before.graph f r ≡ true → before.held u r ≡ NL) → Suits
+  over-suits n ps f bs rs ks free made unheld = record {
+    lawful = over-lawful before sound.lawful ps f bs rs ks free (graph_of v) n made unheld;
+    counts = over-counts before sound.lawful ps f bs rs ks free (graph_of v) n made unheld;
   }
 
   -- a call that makes nodes passed all its tests, and one that is refused left the graph as it was

@@ -1,11 +1,12 @@
 //! New nodes of the graph.
 
-ghost use Rattle.std.specs.Prelude.{◌≡◌, [], IfOk, None, OnErr, OnOk, false, true};
+ghost use Rattle.std.specs.Prelude.{◌≡◌, ℕ, [], IfOk, None, OnErr, OnOk, false, true};
 ghost use Rattle.gl_modes.specs.Modes.{same_mode};
-ghost use Rattle.gl_modes.specs.declared.mode.Mode.TheVariants.{X};
+ghost use Rattle.gl_modes.specs.declared.mode.Mode.TheVariants.{NL, X};
 ghost use Rattle.gl_graph.specs.Changes.{IsBorn, IsIndexBorn};
-ghost use Rattle.gl_graph.specs.Graph.{shape_of};
-ghost use Rattle.gl_graph.specs.Refusals.{Refuses, file_refusal, index_refusal, inner_refusal, is_in_use, reindex_refusal};
+ghost use Rattle.gl_graph.specs.Graph.{is_record_of, shape_of};
+ghost use Rattle.gl_graph.specs.Over.{IsIndexOver, over_refusal};
+ghost use Rattle.gl_graph.specs.Refusals.{Refuses, file_refusal, index_refusal, inner_refusal, is_in_use};
 ghost use Rattle.gl_graph.specs.Shapes.{File, Inner, is_movable_shape};
 ghost use Rattle.gl_model.specs.Calls.{IsActing, RefusesForMemory, dropped, first_not_ix};
 ghost use Rattle.gl_model.specs.State.{with_grant, with_graph};
@@ -73,20 +74,24 @@ impl Table {
         self.locks.graph.add_index(parents, file, bounds)
     }
 
-    /// Makes an index of a file without records, held in X by an active transaction that holds each
-    /// of its parents in IX or greater. All tests but that of memory were passed: the only refusal
-    /// is `NoMemory`. All room is made before anything changes.
+    /// Makes an index over the records of a file, held in X by an active transaction that holds each
+    /// of its parents in IX or greater. The file may have no records; else all are named, in order of
+    /// birth, each with its key, and nobody holds one. All tests but that of memory were passed: the
+    /// only refusal is `NoMemory`. All room is made before anything changes.
     pub fn add_index_held(
         &mut self,
         t: TxnId,
         parents: &[NodeId],
         file: NodeId,
         bounds: &[u64],
+        records: &[NodeId],
+        keys: &[u64],
     ) -> Result<NodeId, Refusal>
         requires acting { IsActing (state_of self.old) t }
-        requires free { reindex_refusal (state_of self.old).graph parents.now file bounds.now ≡ None }
+        requires free { over_refusal (state_of self.old).graph parents.now file bounds.now records.now keys.now ≡ None }
+        requires unheld { (u : ℕ) (r : NodeId) → is_record_of (state_of self.old).graph file r ≡ true → (state_of self.old).held u r ≡ NL }
         requires writable { first_not_ix ((state_of self.old).held t.slot) parents.now ≡ None }
-        ensures made { IfOk result (λ n. IsIndexBorn (state_of self.old).graph (state_of self.new).graph n parents.now file bounds.now) }
+        ensures made { IfOk result (λ n. IsIndexOver (state_of self.old).graph (state_of self.new).graph n parents.now file bounds.now records.now keys.now) }
         ensures state { IfOk result (λ n. state_of self.new ≡ with_grant (with_graph (state_of self.old) (state_of self.new).graph) t.slot n X) }
         ensures deadlock { self.new.deadlock ≡ self.old.deadlock }
         ensures orders { OnOk result (KeepsOrders self.old self.new) }
@@ -96,7 +101,9 @@ impl Table {
         let prepared = locks
             .ledger
             .prepare(t.slot, locks.graph.next_key(), Mode::X)?;
-        let index = locks.graph.add_index_unrefused(parents, file, bounds)?;
+        let index = locks
+            .graph
+            .add_index_unrefused(parents, file, bounds, records, keys)?;
         locks
             .ledger
             .place(&locks.graph, t.slot, index, Mode::X, prepared);

@@ -1,6 +1,9 @@
-use Rattle.gl_table.proofs.Words.{◌∙◌, ◌≡◌, Active, ap, AreExact, first_not_ix, graph_of, Inside, IsIndexBorn, IsPrepared, Ledger, NodeId, None, Option, refl}
-use Rattle.gl_table.proofs.Words.{Refusal, Refuses, reindex_refusal, Some, State, state_in, state_of, status_of, subst, sym, TableView, view_of, with_grant}
+use Rattle.gl_table.proofs.Words.{◌∙◌, ◌≡◌, Active, ap, AreExact, first_not_ix, graph_of, Inside, IsPrepared, Ledger, NodeId, None, Option, refl}
+use Rattle.gl_table.proofs.Words.{Refusal, Refuses, Some, State, state_in, state_of, status_of, subst, sym, TableView, view_of, with_grant}
 use Rattle.gl_table.proofs.Words.{with_graph, X, ℕ}
+use Rattle.gl_table.proofs.Words.{NL, true}
+use Rattle.gl_graph.specs.Graph.{is_record_of}
+use Rattle.gl_graph.specs.Over.{IsIndexOver, over_refusal}
 use Rattle.gl_table.proofs.calls.Dropping.{index_fresh, stands_indexed, stands_placed_index, state_indexed}
 use Rattle.gl_table.proofs.calls.Records.{same_state, stands_roomy}
 use Rattle.gl_table.proofs.calls.Stands.{may_act, MayStand, put}
@@ -30,14 +33,24 @@ same : (c : After-add_index_unrefused) → state_of (view_of (roomy c)) ≡ stat
 same c = same_state c.self.inside c.self.invariant c.prepare.new.self c.prepare.ensures.kept ∙ ap (λ (v : TableView). state_of v) c.self.view_is
 
 -- memory alone can refuse the index
-free : (c : After-add_index_unrefused) → reindex_refusal (graph_of c.self.inside.locks.graph) c.args.parents.now c.args.file c.args.bounds.now ≡ None
-free c = subst (λ (v : TableView). reindex_refusal (state_of v).graph c.args.parents.now c.args.file c.args.bounds.now ≡ None) (sym c.self.view_is)
+free : (c : After-add_index_unrefused) → over_refusal
+    (graph_of c.self.inside.locks.graph) c.args.parents.now c.args.file c.args.bounds.now c.args.records.now c.args.keys.now ≡ None
+free c = subst (λ (v : TableView). over_refusal
+    (state_of v).graph c.args.parents.now c.args.file c.args.bounds.now c.args.records.now c.args.keys.now ≡ None) (sym c.self.view_is)
     c.requires.free
+
+-- nobody holds a record
+unheld : (c : After-add_index_unrefused) (u : ℕ) (r : NodeId) → is_record_of (graph_of c.self.inside.locks.graph) c.args.file r ≡ true
+    → (state_of (view_of (roomy c))).held u r ≡ NL
+unheld c u r rec =
+    ap (λ (s : State). s.held u r) (same c)
+    ∙ c.requires.unheld u r (ap (λ (v : TableView). is_record_of (state_of v).graph c.args.file r) (sym c.self.view_is) ∙ rec)
 
 -- the graph was called for the index
 asked : (c : After-add_index_unrefused) → MayStand (roomy c) c.add_index_unrefused.new.self c.prepare.new.self
 asked c =
-    stands_indexed (roomy c) (ready c).safe c.args.parents.now c.args.file c.args.bounds.now (free c) c.add_index_unrefused.new.self
+    stands_indexed (roomy c) (ready c).safe c.args.parents.now c.args.file c.args.bounds.now
+    c.args.records.now c.args.keys.now (free c) (unheld c) c.add_index_unrefused.new.self
     c.add_index_unrefused.result
     (subst (λ (o : Option Refusal). Refuses o c.add_index_unrefused.result) (sym (free c)) c.add_index_unrefused.ensures.memory)
     c.add_index_unrefused.ensures.made
@@ -55,7 +68,8 @@ place-requires-clause-act c = let at = (goal.at.place-requires-clause-act c).Aft
 
 pub place-requires-clause-fresh : goal.place-requires-clause-fresh
 place-requires-clause-fresh c = let at = (goal.at.place-requires-clause-fresh c).After-add_index_unrefused in
-    index_fresh (roomy at) (ready at).safe c.args.parents.now c.args.file c.args.bounds.now (free at) c.add_index_unrefused.new.self c.in_ok-index.index
+    index_fresh (roomy at) (ready at).safe c.args.parents.now c.args.file c.args.bounds.now
+    c.args.records.now c.args.keys.now (free at) (unheld at) c.add_index_unrefused.new.self c.in_ok-index.index
     c.in_ok-index.ensures.made
 
 pub place-requires-clause-ready : goal.place-requires-clause-ready
@@ -64,12 +78,14 @@ place-requires-clause-ready c = subst (λ (k : ℕ). IsPrepared c.prepare.new.se
 
 -- the slot holds it
 placed : (c : After-add_index_unrefused) (n : NodeId)
-    → IsIndexBorn (graph_of c.self.inside.locks.graph) (graph_of c.add_index_unrefused.new.self) n c.args.parents.now c.args.file c.args.bounds.now →
+    → IsIndexOver (graph_of c.self.inside.locks.graph) (graph_of c.add_index_unrefused.new.self) n c.args.parents.now c.args.file c.args.bounds.now
+    c.args.records.now c.args.keys.now →
     (l : Ledger)
     → state_in c.add_index_unrefused.new.self l ≡ with_grant (state_in c.add_index_unrefused.new.self c.prepare.new.self) c.args.t.slot n X
     → AreExact c.add_index_unrefused.new.self l → MayStand (roomy c) c.add_index_unrefused.new.self l
 placed c n born l is exact =
-    stands_placed_index (roomy c) (ready c).safe c.args.parents.now c.args.file c.args.bounds.now (free c) c.add_index_unrefused.new.self n born
+    stands_placed_index (roomy c) (ready c).safe c.args.parents.now c.args.file c.args.bounds.now
+    c.args.records.now c.args.keys.now (free c) (unheld c) c.add_index_unrefused.new.self n born
     c.args.t.slot l is
     (subst (λ (s : State). status_of s c.args.t.slot ≡ Some Active) (sym (same c)) c.requires.acting.active)
     (subst (λ (s : State). first_not_ix (s.held c.args.t.slot) c.args.parents.now ≡ None) (sym (same c)) c.requires.writable) exact
@@ -84,7 +100,8 @@ invariant_of-locks-2 c = (placed (goal.at.invariant_of-locks-2 c).After-add_inde
 
 pub returns-clause-state : goal.returns-clause-state
 returns-clause-state c = let at = (goal.at.returns-clause-state c).After-add_index_unrefused in
-    state_indexed (roomy at) (ready at).safe c.args.parents.now c.args.file c.args.bounds.now (free at) c.add_index_unrefused.new.self c.in_ok-index.index
+    state_indexed (roomy at) (ready at).safe c.args.parents.now c.args.file c.args.bounds.now
+    c.args.records.now c.args.keys.now (free at) (unheld at) c.add_index_unrefused.new.self c.in_ok-index.index
     c.in_ok-index.ensures.made
     c.args.t.slot c.place.new.self c.place.ensures.state
     ∙ ap (λ (s : State). with_grant (with_graph s (graph_of c.add_index_unrefused.new.self)) c.args.t.slot c.in_ok-index.index X) (same at)
