@@ -1,34 +1,28 @@
 -- The node of a row that is made: no path to a row passes more by it.
-use Rattle.std.specs.Prelude.{◌≡◌, ℕ, zero, suc, Bool, true, false, ◌&&◌, List, [], ◌∷◌, Option, Some, None, if◌then◌else◌, take}
+use Rattle.std.specs.Prelude.{◌≡◌, ℕ, zero, suc, true, ◌&&◌, List, [], ◌∷◌, Option, Some, None, if◌then◌else◌}
 use Rattle.std.specs.List.{list_any}
 use Rattle.std.proofs.Common.{refl, sym, ap, arith, subst, ◌∙◌}
 use Rattle.gl_modes.specs.declared.node.NodeId.{NodeId}
 use Rattle.gl_modes.specs.Nodes.{same_node}
-use Rattle.gl_modes.proofs.NodeLemmas.{same_node-equal}
-use Rattle.gl_modes.proofs.Words.{and_both, both, no, none_some, or_elim, or_left, some_is, split}
+use Rattle.gl_modes.proofs.Words.{and_both, both, no, none_some, some_is, split}
 use Rattle.gl_graph.specs.Changes.{born_node, marked}
-use Rattle.gl_graph.specs.Graph.{Graph, Node, indexes_of, is_live, node_at, nodes, parents_in, parents_of, record_parents, shape_in, shape_of}
+use Rattle.gl_graph.specs.Graph.{Graph, Node, indexes_of, is_live, node_at, parents_in, parents_of, record_parents, shape_in, shape_of}
 use Rattle.gl_graph.specs.Lawful.{IsLawfulGraph}
-use Rattle.gl_graph.specs.Shapes.{Rec, is_file_shape, is_index_of_shape}
+use Rattle.gl_graph.specs.Shapes.{Rec, is_file_shape}
 use Rattle.gl_graph.proofs.Born.{old_or_new, old_same, place_in}
-use Rattle.gl_graph.proofs.KindRules.{file_plain, index_plain, plain_live}
-use Rattle.gl_graph.proofs.Look.{all_at, all_filter}
+use Rattle.gl_graph.proofs.KindRules.{file_plain, plain_live}
 use Rattle.gl_graph.proofs.Marked.{marked_indexes, marked_parents}
 use Rattle.gl_graph.proofs.NewNodes.{one_indexes}
-use Rattle.gl_graph.proofs.RecordParents.{index_of_index}
 use Rattle.gl_model.specs.State.{is_write}
 use Rattle.gl_parts.specs.declared.passing.Target.{Target}
-use Rattle.gl_parts.specs.Passing.{IsWay, Passes, can_have, is_mode_of, starts}
+use Rattle.gl_parts.specs.Passing.{Passes, can_have, is_mode_of, starts}
 use Rattle.gl_parts.specs.Promises.{AdoptsPassNoMore}
+use Rattle.gl_parts.proofs.OldWays.{start_live, way_was}
 use Rattle.gl_parts.proofs.Paths.{begins, row_has}
 
 -- a file with the mark is a file
 file_marked : (g : Graph) (f q : NodeId) → is_file_shape (shape_of (marked g f) q) ≡ is_file_shape (shape_of g q)
 file_marked g f q = grind arith
-
-one_of_some : (ps : List NodeId) (p : NodeId) → list_any (same_node p) (take 1 ps) ≡ true → list_any (same_node p) ps ≡ true
-one_of_some [] p h = h
-one_of_some (q ∷ ps) p h = or_elim (same_node p q) false h (λ e. or_left (same_node p q) _ e) (λ e. absurd (no e))
 
 module _ (g : Graph) (law : IsLawfulGraph g) (key : ℕ) (keys : List ℕ) (file : NodeId) where
   abbrev record_node : Node
@@ -56,18 +50,6 @@ module _ (g : Graph) (law : IsLawfulGraph g) (key : ℕ) (keys : List ℕ) (file
           new_is zero at = no (ap (λ (y : Node). is_file_shape (Some y.shape)) (some_is at) ∙ k)
           new_is (suc place) at = none_some at
 
-  -- a way from an old node is an old way
-  way_was : (writes : Bool) (q n : NodeId) (way : List NodeId) → is_live g q ≡ true → IsWay writes after q way n → IsWay writes g q way n
-  way_was writes q n [] live h = h
-  way_was writes q n (p ∷ way) live h =
-      let asked = sym (ap (λ ps. list_any (same_node p) (if writes then ps else take 1 ps)) (parents_stay q live)) ∙ h.0 in
-      (asked, way_was writes p n way (law.parents_live q p (parent writes asked)) h.1)
-    where
-      parent : (b : Bool) → list_any (same_node p) (if b then parents_of g q else take 1 (parents_of g q)) ≡ true
-          → list_any (same_node p) (parents_of g q) ≡ true
-      parent true k = k
-      parent false k = one_of_some (parents_of g q) p k
-
   -- a path to a row begins where it began
   module _ (x : Target) (row : x.is_row ≡ true) where
     could_have : can_have after x ≡ true → can_have g x ≡ true
@@ -81,27 +63,20 @@ module _ (g : Graph) (law : IsLawfulGraph g) (key : ℕ) (keys : List ℕ) (file
         sym (ap (list_any (same_node start)) (begins after x h ∙ ap (λ is. x.node ∷ (if x.is_row && is_write x.mode then is else [])) (indexes_stay x.node)))
         ∙ one
 
-    begins_live : can_have g x ≡ true → (start : NodeId)
-        → list_any (same_node start) (x.node ∷ (if x.is_row && is_write x.mode then indexes_of g x.node else [])) ≡ true → is_live g start ≡ true
-    begins_live h start one =
-        or_elim (same_node start x.node) (list_any (same_node start) (if x.is_row && is_write x.mode then indexes_of g x.node else [])) one
-        (λ e. let file = (and_both (is_file_shape (shape_of g x.node)) (is_mode_of true x.mode) (sym (row_has g x row) ∙ h)).0 in
-        ap (is_live g) (same_node-equal start x.node e) ∙ plain_live g x.node (file_plain (shape_of g x.node) file))
-        (λ i. split (x.is_row && is_write x.mode)
-        (λ b. let index = all_at (λ q. is_index_of_shape x.node (shape_of g q)) (indexes_of g x.node) start
-        (sym (ap (λ c. list_any (same_node start) (if c then indexes_of g x.node else [])) b) ∙ i)
-        (all_filter (λ q. is_index_of_shape x.node (shape_of g q)) (nodes g)) in
-        plain_live g start (index_plain (shape_of g start) (index_of_index x.node (shape_of g start) index)))
-        (λ b. absurd (no (sym (ap (λ c. list_any (same_node start) (if c then indexes_of g x.node else [])) b) ∙ i))))
+    file_live : can_have g x ≡ true → is_live g x.node ≡ true
+    file_live h =
+        plain_live g x.node (file_plain (shape_of g x.node)
+        (and_both (is_file_shape (shape_of g x.node)) (is_mode_of true x.mode) (sym (row_has g x row) ∙ h)).0)
 
     passed : (n : NodeId) → Passes after x n → Passes g x n
     passed n pass =
         split (can_have after x)
-        (λ h. let one = begins_same h pass.start pass.is_one in
+        (λ h. let one = ap (list_any (same_node pass.start)) (begins g x (could_have h)) ∙ begins_same h pass.start pass.is_one in
+        let live = start_live g x (file_live (could_have h)) pass.start one in
         record {
           start = pass.start;
-          is_one = ap (list_any (same_node pass.start)) (begins g x (could_have h)) ∙ one;
-          leads = (pass.leads.0, way_was (is_write x.mode) pass.start n pass.leads.0 (begins_live (could_have h) pass.start one) pass.leads.1);
+          is_one = one;
+          leads = (pass.leads.0, way_was g after law parents_stay (is_write x.mode) pass.start n pass.leads.0 live pass.leads.1);
         })
         (λ e. absurd (no (sym (ap (λ b. list_any (same_node pass.start)
         (if b then x.node ∷ (if x.is_row && is_write x.mode then indexes_of after x.node else []) else [])) e) ∙ pass.is_one)))

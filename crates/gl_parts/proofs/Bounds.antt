@@ -239,7 +239,7 @@ module _ (b : ℕ → Mode) (ok : Waiter → Bool) (sound : (w : Waiter) → ok 
     accepted (command.Adopt f keys) a told asked waits acc = on _ acc.4 h
     accepted (command.Forget r) a told asked waits acc = on _ acc.2 h
     accepted (command.Drop t q) a told asked waits acc = on _ acc.2 (departed_within n s (goes_with s.graph q) (without_branch s.graph q) h)
-    accepted (command.IndexBy t ps f bs) a told asked waits acc = born t.slot acc.0 acc.1.birth acc.4
+    accepted (command.IndexBy t ps f bs rs ks) a told asked waits acc = born t.slot acc.0 acc.1.index.birth acc.4
     accepted (command.Split t i bound) a told asked waits acc = parted t.slot i acc.0 acc.1.birth acc.4
     accepted (command.Merge t i) a told asked waits acc =
         on _ acc.2 (departed_within n s (λ q. same_node q (next_interval s.graph i)) (merge s.graph i) h)

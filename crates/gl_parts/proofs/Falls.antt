@@ -136,7 +136,7 @@ module _ (s : State) (law : IsLawful s) (t : ℕ) where
     kept (command.Adopt f keys) a told r free acc = same _ acc.4 (λ n. refl)
     kept (command.Forget q) a told r free acc = same _ acc.2 (λ n. refl)
     kept (command.Drop u q) a told r free acc = cc
-    kept (command.IndexBy u ps f bs) a told r free acc = given u.slot acc.0 X (x_top (s.held u.slot acc.0)) _ acc.4 (λ n. refl)
+    kept (command.IndexBy u ps f bs rs ks) a told r free acc = given u.slot acc.0 X (x_top (s.held u.slot acc.0)) _ acc.4 (λ n. refl)
     kept (command.Split u i bound) a told r free acc = given u.slot acc.0 X (x_top (s.held u.slot acc.0)) _ acc.4 (λ n. refl)
     kept (command.Merge u i) a told r free acc = cc
 
@@ -286,7 +286,7 @@ module _ (s : State) (law : IsLawful s) (t : ℕ) where
       stays_ready (command.Adopt f keys) a told r free acc = left _ acc.4 ready
       stays_ready (command.Forget q) a told r free acc = left _ acc.2 ready
       stays_ready (command.Drop u q) a told r free acc = left _ acc.2 (freed_ready (goes_with s.graph q) (s.txns t) ready)
-      stays_ready (command.IndexBy u ps f bs) a told r free acc = left _ acc.4 ready
+      stays_ready (command.IndexBy u ps f bs rs ks) a told r free acc = left _ acc.4 ready
       stays_ready (command.Split u i bound) a told r free acc = left _ acc.4 (freed_ready (λ x. same_node x i) (s.txns t) ready)
       stays_ready (command.Merge u i) a told r free acc =
           left _ acc.2 (freed_ready (λ x. same_node x (next_interval s.graph i)) (s.txns t) ready)

@@ -15,5 +15,8 @@ mod Copies
 mod Visiting
 mod Ways
 mod Paths
+mod OldWays
 mod Adopting
+mod NewIndexes
+mod Rests
 mod Boards

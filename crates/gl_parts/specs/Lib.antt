@@ -5,3 +5,4 @@ pub mod Actions
 pub mod Visiting
 pub mod Promises
 pub mod Passing
+pub mod Resting

@@ -52,6 +52,14 @@ pub record LeadFrom (writes : Bool) (g : Graph) (from : List NodeId) (n : NodeId
 abbrev pub Passes : Graph → Target → NodeId → Type 0
 Passes g x n = LeadFrom (is_write x.mode) g (starts g x) n
 
+-- the target is a row of this file
+abbrev pub is_row_of : NodeId → Target → Bool
+is_row_of f x = x.is_row && same_node x.node f
+
+-- the indexes for which a call that waits for the target has brought a key: of a row those of its file
+abbrev pub keyed_by : Graph → Target → List NodeId
+keyed_by g x = if x.is_row then indexes_of g x.node else []
+
 -- what slot t holds on n in a manager that may be unknown: then NL
 abbrev pub held_if_known : Option State → ℕ → NodeId → Mode
 held_if_known None t n = NL

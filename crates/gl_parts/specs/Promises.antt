@@ -1,13 +1,14 @@
 -- What is promised of managers that work as one, whatever they do.
-use Rattle.std.specs.Prelude.{◌≡◌, ◌≢◌, ◌⊎◌, ℕ, true, false, ◌&&◌, ◌||◌, ◌<◌, ◌↔◌, is_none, is_some, List, [], ◌∷◌, ◌++◌, Some, None}
+use Rattle.std.specs.Prelude.{◌≡◌, ◌≢◌, ◌⊎◌, ℕ, true, false, ◌&&◌, ◌||◌, ◌<◌, ◌↔◌, is_none, is_some, List, [], ◌∷◌, ◌++◌, Some, None, if◌then◌else◌}
 use Rattle.std.specs.List.{list_all, list_any}
 use Rattle.gl_modes.specs.declared.mode.Mode.{Mode}
 use Rattle.gl_modes.specs.declared.mode.Mode.TheVariants.{NL}
 use Rattle.gl_modes.specs.declared.node.NodeId.{NodeId}
 use Rattle.gl_modes.specs.declared.refusal.Refusal.TheVariants as no
 use Rattle.gl_modes.specs.Modes.{is_at_least}
-use Rattle.gl_graph.specs.Changes.{IsAdopted}
-use Rattle.gl_graph.specs.Graph.{Graph, first_parent, parents_of, shape_of}
+use Rattle.gl_modes.specs.Nodes.{same_node}
+use Rattle.gl_graph.specs.Changes.{IsAdopted, IsIndexBorn}
+use Rattle.gl_graph.specs.Graph.{Graph, first_parent, is_live, parents_of, shape_of}
 use Rattle.gl_graph.specs.Lawful.{IsLawfulGraph}
 use Rattle.gl_graph.specs.Shapes.{is_inner_shape, is_record_shape}
 use Rattle.gl_waits.specs.declared.board.Board.{Board}
@@ -15,7 +16,7 @@ use Rattle.gl_waits.specs.Boards.{ShowsNobody, board_edge}
 use Rattle.gl_waits.specs.Waits.{IsOnCycle}
 use Rattle.gl_model.specs.Calls.{IsActing, accepted_once, enters_at, granted, joined, wanted}
 use Rattle.gl_model.specs.Lawful.{HasNoConflict, IsLawful}
-use Rattle.gl_model.specs.State.{State, intends, status_of, waits_for}
+use Rattle.gl_model.specs.State.{State, intends, is_write, status_of, waits_for}
 use Rattle.gl_model.specs.Tellings.{Told}
 use Rattle.gl_model.specs.declared.txn.TxnId.{TxnId}
 use Rattle.gl_steps.specs.declared.command.Answer.{Answer}
@@ -31,7 +32,7 @@ use Rattle.gl_parts.specs.Actions.{Acts, AreKept, AreVisited, AskersAreReady, Ke
 use Rattle.gl_parts.specs.Actions.{with_mark}
 use Rattle.gl_parts.specs.declared.passing.Mark.{Mark}
 use Rattle.gl_parts.specs.declared.passing.Target.{Target}
-use Rattle.gl_parts.specs.Passing.{IsFirst, Lacks, MayClear, Passes}
+use Rattle.gl_parts.specs.Passing.{IsFirst, Lacks, MayClear, Passes, can_have, is_row_of, keyed_by}
 use Rattle.gl_parts.specs.declared.visits.ToCopy.{ToCopy}
 use Rattle.gl_parts.specs.declared.visits.Way.{Way}
 use Rattle.gl_parts.specs.declared.visits.Way.TheVariants as way
@@ -308,6 +309,32 @@ AdoptsPassNoMore =
     (g g' : Graph) (r file : NodeId) (keys : List ℕ) (x : Target) (n : NodeId) → IsLawfulGraph g → IsAdopted g g' r file keys → x.is_row ≡ true
     → Passes g' x n
     → Passes g x n
+
+-- New indexes.
+
+-- after an index of a file was made, a call that waits for a row of the file needs a key more, for the index; any other needs the keys that it has brought
+abbrev pub IndexesNeedKeys : Type 0
+IndexesNeedKeys =
+    (g g' : Graph) (i : NodeId) (ps : List NodeId) (f : NodeId) (bs : List ℕ) (x : Target) → IsLawfulGraph g → IsIndexBorn g g' i ps f bs
+    → keyed_by g' x ≡ keyed_by g x ++ (if is_row_of f x then i ∷ [] else [])
+
+-- a path to write a row of the file passes the index, which it did not pass before, and each parent of that
+pub record PassesMore (g g' : Graph) (x : Target) (i : NodeId) (ps : List NodeId) : Type 0 where
+  pub index : Passes g' x i
+  pub is_new : Passes g x i → ⊥
+  pub above : (p : NodeId) → list_any (same_node p) ps ≡ true → Passes g' x p
+
+abbrev pub IndexesPassMore : Type 0
+IndexesPassMore =
+    (g g' : Graph) (i : NodeId) (ps : List NodeId) (f : NodeId) (bs : List ℕ) (x : Target) → IsLawfulGraph g → IsIndexBorn g g' i ps f bs
+    → is_row_of f x ≡ true → is_write x.mode ≡ true → can_have g x ≡ true
+    → PassesMore g g' x i ps
+
+-- a path to any other target passes what it passed, and so does one to read a row of the file
+abbrev pub OthersPassTheSame : Type 0
+OthersPassTheSame =
+    (g g' : Graph) (i : NodeId) (ps : List NodeId) (f : NodeId) (bs : List ℕ) (x : Target) → IsLawfulGraph g → IsIndexBorn g g' i ps f bs
+    → is_live g x.node ≡ true → (is_row_of f x && is_write x.mode) ≡ false → (n : NodeId) → Passes g' x n ↔ Passes g x n
 
 -- Requests in progress.
 

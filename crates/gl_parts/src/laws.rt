@@ -7,7 +7,9 @@ ghost use Rattle.gl_parts.specs.Promises.{PartStepsAct, PlainMainSteps, PlainPar
 ghost use Rattle.gl_parts.specs.Promises.{RunsHaveNoConflict, UnusedWorkAsOne, VisitorsJoin, VisitsNeverWait};
 ghost use Rattle.gl_parts.specs.Promises.{AfterMainIsAllowed, ClearMayUnmark, CopiedMayMark, HereIsAllowed, InMainIsRefused, NextIsUncovered};
 ghost use Rattle.gl_parts.specs.Promises.{AdoptsPassNoMore, BoardsJoin, ClearsKeepProgress, ListedLackNothing, MainStepsKeepPaths, MarksKeepPaths};
-ghost use Rattle.gl_parts.specs.Promises.{OwnIsUncovered, PartStepsKeepPaths, PathsMayRequest, ProgressIsVisited, RowPathsMayRequest};
+ghost use Rattle.gl_parts.specs.Promises.{IndexesNeedKeys, IndexesPassMore, OthersPassTheSame, OwnIsUncovered, PartStepsKeepPaths, PathsMayRequest};
+ghost use Rattle.gl_parts.specs.Promises.{ProgressIsVisited, RowPathsMayRequest};
+ghost use Rattle.gl_parts.specs.Resting.{AbsentAreUncovered, AbsentHaveNoneMarked, EndsBesideRest, RestCountsFrom, UnmarkedMayRest};
 
 /// Several managers work as one: a main one and parts. The main manager has each node that is in
 /// several, and the parts hold intentions alone on such a node. Before anybody requests more on it in
@@ -124,6 +126,29 @@ pub fn paths()
     ensures main_steps { MainStepsKeepPaths }
     ensures part_steps { PartStepsKeepPaths }
     ensures adopts { AdoptsPassNoMore }
+{}
+
+/// After an index of a file was made, a call that waits for a row of the file lacks a key for it, whatever
+/// mode it waits for; no other call lacks one. A path to write such a row passes the index and its parents,
+/// where it may lack something. Any other path to a node that lives passes what it passed before.
+pub fn new_indexes()
+    ensures keys { IndexesNeedKeys }
+    ensures rows { IndexesPassMore }
+    ensures others { OthersPassTheSame }
+{}
+
+/// What rests in a part is held there by a slot that may have no transaction in the main manager. Such a
+/// slot holds nothing on a node for which the part is marked; and what it holds on another node is not
+/// covered in the main manager, so that the part may be marked for that node only after it was released. A
+/// transaction may end in the main manager if its slot holds nothing in parts on nodes for which they are
+/// marked, as one that `may_rest` allows to leave something. What rests counts from the age that it is
+/// given: no transaction that was in the part, and began before that age, is a victim in its place.
+pub fn resting()
+    ensures marked { AbsentHaveNoneMarked }
+    ensures uncovered { AbsentAreUncovered }
+    ensures ends { EndsBesideRest }
+    ensures allowed { UnmarkedMayRest }
+    ensures since { RestCountsFrom }
 {}
 
 /// A request for more than an intention on a node may wait for a node above it first. As long as it is

@@ -8,7 +8,8 @@ ghost use Rattle.gl_graph.specs.Seen.{with_all};
 ghost use Rattle.gl_graph.specs.View.{graph_of};
 ghost use Rattle.gl_catalog.specs.Manager.{state_of};
 ghost use Rattle.gl_catalog.specs.Paths.{intention};
-ghost use Rattle.gl_parts.specs.Passing.{IsFirst, Lacks, MayClear, Passes, asked_above, can_have, held_if_known, is_held_at, is_mode_of, is_unheld_at, starts};
+ghost use Rattle.gl_parts.specs.Passing.{IsFirst, Lacks, MayClear, Passes, asked_above, can_have, held_if_known, is_held_at, is_mode_of, is_row_of};
+ghost use Rattle.gl_parts.specs.Passing.{is_unheld_at, starts};
 
 use crate::visits::is_clear;
 use arrayvec::ArrayVec;
@@ -176,6 +177,15 @@ pub fn may_clear(main: &Manager, node: NodeId, in_progress: u64) -> bool
     ensures { IsTrue result ↔ MayClear (state_of main.now) node in_progress }
 {
     in_progress == 0 && is_clear(main, node)
+}
+
+/// Whether a call that waits for this target lacks a key after an index of this file was made: if it waits
+/// for a row of that file, for which it has brought keys. A path to write the row then passes the new index
+/// too, and what is above it. A path to any other node passes what it passed.
+pub fn lacks_key(target: Target, file: NodeId) -> bool
+    ensures { result ≡ is_row_of file target }
+{
+    target.is_row && target.node == file
 }
 
 /// The nodes that a path to a target passes: where it may request an intention, and where it begins. A
