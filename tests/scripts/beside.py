@@ -122,9 +122,11 @@ def words():
     said = run("--explain", "--trace", text="begin a join 3 9\nbegin b join 3 9\nbegin b join\n")[2].splitlines()
     wanted(said[0].endswith("another transaction has the slot, or there are not so many: 64, or 128 after the line `granular 2`")
            and "it is to be: begin TXN, or by --trace begin TXN again AGE or begin TXN join SLOT AGE" in said[1], "--explain tells of joins", said)
-    said = run("--explain", "--schema", text="split a i.0 50\nmerge a\n")[2].splitlines()
-    forms = [f"line {line}: it is to be: {form}{FIELDS}" for line, form in ((1, "split TXN INTERVAL at BOUND"), (2, "merge TXN INTERVAL"))]
-    wanted(said == forms, "--explain tells of splits", said)
+    said = run("--explain", "--schema", text="split a i.0 50\nmerge a\nindex a i : db on f with r at 5\n")[2].splitlines()
+    index = ("index NODE : PARENT.. on FILE at BOUND.., or by --schema index TXN NODE : PARENT.. on FILE at BOUND.., "
+             "perhaps with RECORD.. at KEY..")
+    forms = [f"line {line}: it is to be: {form}{FIELDS}" for line, form in enumerate(("split TXN INTERVAL at BOUND", "merge TXN INTERVAL", index), 1)]
+    wanted(said == forms, "--explain tells of splits and indexes", said)
     status, out, err = run("--strict", text=BAD)
     wanted((status, out, err) == (3, "".join(plain[1].splitlines(True)[:5]), ""), "--strict ends at the first refusal", status, out, err)
     wanted(run("--strict", text="inner db\n") == (0, "ok\n", ""), "--strict ends a script that has none with 0")

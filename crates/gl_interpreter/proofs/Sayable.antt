@@ -7,7 +7,7 @@ use Rattle.gl_script.specs.declared.verb.NumberVerb.TheVariants.{Renew}
 use Rattle.gl_script.specs.declared.verb.RemovalVerb.TheVariants.{Delete, Drop}
 use Rattle.gl_script.specs.declared.verb.RequestVerb.TheVariants.{Lock, Try}
 use Rattle.gl_script.specs.declared.verb.TxnVerb.TheVariants.{Abort, Cancel, Commit, Settle}
-use Rattle.gl_script.specs.Grammar.{Adopt, Begin, BeginAgain, File, Forget, Group, Index, IndexBy, Inner, Insert, IsName, Join, Move, OfLock, OfNumber}
+use Rattle.gl_script.specs.Grammar.{Adopt, Begin, BeginAgain, File, Forget, Group, Index, IndexOver, Inner, Insert, IsName, Join, Move, OfLock, OfNumber}
 use Rattle.gl_script.specs.Grammar.{Merge, OfRemoval, OfRequest, OfTxn, Rekey, Split}
 use Rattle.gl_interpreter.specs.declared.request.Request.TheVariants as request
 use Rattle.gl_interpreter.specs.Sayable.{EachIsSaid, HasAllCommands, IsSaid, IsSayable}
@@ -65,12 +65,12 @@ each s name (command.Forget r) all is p = let rec = sym p.2 in (Forget p.0, p.1,
 each s name (command.Drop t n) all is p =
     let txn = sym p.0.2 in let node = sym p.1.2 in
     (OfRemoval Drop p.0.0 p.1.0, (p.0.1, p.1.1), all.schema, λ i. request.Apply (command.Drop (txn i) (node i)))
-each s name (command.IndexBy t ps f bs) all is p =
+each s name (command.IndexBy t ps f bs rs ks) all is p =
     let txn = sym p.0.2 in let file = sym p.2.2 in (
-      IndexBy p.0.0 name p.1.0 p.2.0 bs.now,
-      (p.0.1, is, p.1.1, p.2.1, p.3),
+      IndexOver p.0.0 name p.1.0 p.2.0 bs.now p.4.0 ks.now,
+      (p.0.1, is, p.1.1, p.2.1, p.3, p.4.1, p.5),
       all.schema,
-      (ps, sym p.1.2, (bs, refl, λ i. request.Apply (command.IndexBy (txn i) ps (file i) bs))),
+      (ps, sym p.1.2, (bs, refl, (rs, sym p.4.2, (ks, refl, λ i. request.Apply (command.IndexBy (txn i) ps (file i) bs rs ks))))),
     )
 each s name (command.Split t x bound) all is p =
     let txn = sym p.0.2 in let node = sym p.1.2 in

@@ -15,7 +15,7 @@ use Rattle.gl_model.specs.declared.txn.TxnId.{TxnId}
 use Rattle.gl_model.specs.Tellings.{Told}
 use Rattle.gl_steps.specs.declared.command.Answer.{Answer}
 use Rattle.gl_steps.specs.declared.command.Answer.TheVariants as answer
-use Rattle.gl_script.specs.Grammar.{Text, Node, Plain, Interval, Command, Inner, File, Index, IndexBy, Insert, Adopt, Forget, Rekey, Move, Split}
+use Rattle.gl_script.specs.Grammar.{Text, Node, Plain, Interval, Command, Inner, File, Index, IndexBy, IndexOver, Insert, Adopt, Forget, Rekey, Move, Split}
 use Rattle.gl_script.specs.Grammar.{Merge, Group, OfTxn, OfLock, OfRequest, OfRemoval, OfNumber, node_text}
 use Rattle.gl_interpreter.specs.declared.request.Said.{Said}
 use Rattle.gl_interpreter.specs.declared.request.Said.TheVariants as said
@@ -35,12 +35,13 @@ called_at s n (Some place) = node_text (Interval (s.names.node_name (first_paren
 abbrev pub called : Script → NodeId → Text
 called s n = called_at s n (place_of s.locks.graph n)
 
--- the nodes that a line uses, in order, without the one that it declares
+-- the nodes that a line uses, in order, without the one that it declares; a record that an index is made over is not among them
 abbrev pub used_nodes : Command → List Node
 used_nodes (Inner n ps) = ps
 used_nodes (File n ps) = ps
 used_nodes (Index n ps f bs) = ps ++ Plain f ∷ []
 used_nodes (IndexBy t n ps f bs) = ps ++ Plain f ∷ []
+used_nodes (IndexOver t n ps f bs rs ks) = ps ++ Plain f ∷ []
 used_nodes (Insert t r f ks) = Plain f ∷ []
 used_nodes (Adopt r f ks) = Plain f ∷ []
 used_nodes (Forget r) = Plain r ∷ []
@@ -57,6 +58,7 @@ used_nodes c = []
 -- the transaction that a line uses
 abbrev pub used_txn : Command → Text
 used_txn (IndexBy t n ps f bs) = t
+used_txn (IndexOver t n ps f bs rs ks) = t
 used_txn (Insert t r f ks) = t
 used_txn (Rekey t r i k) = t
 used_txn (Move t n ps) = t

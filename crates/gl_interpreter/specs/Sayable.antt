@@ -57,7 +57,8 @@ IsSayable s (command.Effective t n) = IsTxnSaid s t × IsNodeSaid s n
 IsSayable s (command.Adopt f keys) = IsPlainSaid s f × All IsNumber keys.now
 IsSayable s (command.Forget r) = IsPlainSaid s r
 IsSayable s (command.Drop t n) = IsTxnSaid s t × IsPlainSaid s n
-IsSayable s (command.IndexBy t ps f bs) = IsTxnSaid s t × AreSomeSaid s ps.now × IsPlainSaid s f × All IsNumber bs.now
+IsSayable s (command.IndexBy t ps f bs rs ks) =
+    IsTxnSaid s t × AreSomeSaid s ps.now × IsPlainSaid s f × All IsNumber bs.now × AreSaid s rs.now × All IsNumber ks.now
 IsSayable s (command.Split t i bound) = IsTxnSaid s t × IsNodeSaid s i × IsNumber bound
 IsSayable s (command.Merge t i) = IsTxnSaid s t × IsNodeSaid s i
 

@@ -38,8 +38,8 @@ use Rattle.gl_script.specs.declared.verb.RequestVerb.{RequestVerb}
 use Rattle.gl_script.specs.declared.verb.RequestVerb.TheVariants.{Lock, Try}
 use Rattle.gl_script.specs.declared.verb.TxnVerb.{TxnVerb}
 use Rattle.gl_script.specs.declared.verb.TxnVerb.TheVariants.{Cancel, Commit, Abort, Settle, Mark}
-use Rattle.gl_script.specs.Grammar.{Text, Node, Plain, Interval, Command, Inner, File, Index, IndexBy, Begin, BeginAgain, Join, Insert, Adopt, Forget, Rekey}
-use Rattle.gl_script.specs.Grammar.{Move, Split, Merge, Group, OfTxn, OfLock, OfRequest, OfRemoval, OfNumber}
+use Rattle.gl_script.specs.Grammar.{Text, Node, Plain, Interval, Command, Inner, File, Index, IndexBy, IndexOver, Begin, BeginAgain, Join, Insert, Adopt}
+use Rattle.gl_script.specs.Grammar.{Forget, Rekey, Move, Split, Merge, Group, OfTxn, OfLock, OfRequest, OfRemoval, OfNumber}
 use Rattle.gl_interpreter.specs.declared.request.Request.{Request}
 use Rattle.gl_interpreter.specs.declared.request.Request.TheVariants as request
 use Rattle.gl_interpreter.specs.declared.request.Said.{Said}
@@ -139,7 +139,12 @@ Asks s (Index n ps f bs) k =
     (xs : Bor (List NodeId)) × (xs.now ≡ node_ids s ps) × ((ys : Bor (List ℕ)) × (ys.now ≡ bs) × (k ≡ request.Apply (command.Index xs (plain_id s.names f) ys)))
 Asks s (IndexBy t n ps f bs) k =
     (xs : Bor (List NodeId)) × (xs.now ≡ node_ids s ps)
-    × ((ys : Bor (List ℕ)) × (ys.now ≡ bs) × (k ≡ request.Apply (command.IndexBy (txn_id s.names t) xs (plain_id s.names f) ys)))
+    × ((ys : Bor (List ℕ)) × (ys.now ≡ bs) × ((rs : Bor (List NodeId)) × (rs.now ≡ []) × ((zs : Bor (List ℕ)) × (zs.now ≡ [])
+    × (k ≡ request.Apply (command.IndexBy (txn_id s.names t) xs (plain_id s.names f) ys rs zs)))))
+Asks s (IndexOver t n ps f bs rs ks) k =
+    (xs : Bor (List NodeId)) × (xs.now ≡ node_ids s ps)
+    × ((ys : Bor (List ℕ)) × (ys.now ≡ bs) × ((zs : Bor (List NodeId)) × (zs.now ≡ node_ids s rs) × ((vs : Bor (List ℕ)) × (vs.now ≡ ks)
+    × (k ≡ request.Apply (command.IndexBy (txn_id s.names t) xs (plain_id s.names f) ys zs vs)))))
 Asks s (Begin t) k = k ≡ request.Apply command.Begin
 Asks s (BeginAgain t since) k = k ≡ request.Apply (command.BeginAgain since)
 Asks s (Join t slot since) k = k ≡ request.Apply (command.Join slot since)
@@ -172,6 +177,7 @@ does_to_names (Inner n ps) = NodeName n
 does_to_names (File n ps) = NodeName n
 does_to_names (Index n ps f bs) = NodeName n
 does_to_names (IndexBy t n ps f bs) = NodeName n
+does_to_names (IndexOver t n ps f bs rs ks) = NodeName n
 does_to_names (Insert t r f ks) = NodeName r
 does_to_names (Adopt r f ks) = NodeName r
 does_to_names (Begin t) = TxnName t

@@ -215,6 +215,7 @@ fn txn_name(form: &Form) -> &[u8]
 {
     match form {
         Form::IndexBy { txn, .. } => txn.as_slice(),
+        Form::IndexOver { txn, .. } => txn.as_slice(),
         Form::Insert { txn, .. } => txn.as_slice(),
         Form::Rekey { txn, .. } => txn.as_slice(),
         Form::Move { txn, .. } => txn.as_slice(),
@@ -238,6 +239,7 @@ fn declared_name(form: &Form) -> &[u8]
         Form::File { name } => name.as_slice(),
         Form::Index { name, .. } => name.as_slice(),
         Form::IndexBy { name, .. } => name.as_slice(),
+        Form::IndexOver { name, .. } => name.as_slice(),
         Form::Insert { name, .. } => name.as_slice(),
         Form::Adopt { name, .. } => name.as_slice(),
         Form::Begin { txn } => txn.as_slice(),
@@ -269,6 +271,7 @@ fn put_first_unused<W: Write>(
         }
         Form::Index { file, .. } => put_unused_of_index(sink, writer, desk, lists, file),
         Form::IndexBy { file, .. } => put_unused_of_index(sink, writer, desk, lists, file),
+        Form::IndexOver { file, .. } => put_unused_of_index(sink, writer, desk, lists, file),
         Form::Move { node, .. } => {
             if !put_unused(sink, writer, desk, node) {
                 put_unused_listed(sink, writer, desk, lists);

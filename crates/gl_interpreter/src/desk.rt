@@ -1,8 +1,8 @@
 //! The state of a script between two lines: the names that it has declared, and its lock manager.
 
-ghost use Rattle.std.specs.Prelude.{◌≡◌, [], false, is_some};
+ghost use Rattle.std.specs.Prelude.{◌≡◌, [], false, is_some, map};
 ghost use Rattle.gl_graph.specs.Graph.{first_parent, place_of};
-ghost use Rattle.gl_script.specs.Views.{command_of, node_of, nodes_of};
+ghost use Rattle.gl_script.specs.Views.{command_of, node_of, nodes_of, records_of};
 ghost use Rattle.gl_interpreter.specs.Names.{no_names};
 ghost use Rattle.gl_interpreter.specs.Rows.{name_at};
 ghost use Rattle.gl_interpreter.specs.Rooms.{HasRoomFor, IsRoomed, MakesRoom, MakesRoomIn};
@@ -34,7 +34,7 @@ use gl_table::{Told, TxnId};
 use std::alloc::Global;
 use std::hash::Hash;
 
-/// The ids of the parents that a line lists.
+/// The ids of nodes that a line lists.
 pub(crate) type Ids = ArrayVec<NodeId, 257>;
 
 /// What a script has declared, and its lock manager.
@@ -78,6 +78,7 @@ impl Desk {
         form: &Form,
         lists: &Lists,
         ids: &mut Ids,
+        records: &mut Ids,
         told: &mut Told,
     ) -> Said
         requires empty { told.old.items ≡ [] }
@@ -87,8 +88,9 @@ impl Desk {
         if let Err(refusal) = self.make_room(naming) {
             return Said::Answer(Answer::Refused(refusal));
         }
-        self.resolve(lists, ids);
-        match self.request(form, lists, ids.as_slice()) {
+        self.resolve(&lists.nodes, ids);
+        self.resolve(&lists.records, records);
+        match self.request(form, lists, ids.as_slice(), records.as_slice()) {
             Request::Apply(command) => {
                 let answer = self.manager.apply_telling(command, told);
                 self.rename(naming, answer);
@@ -115,19 +117,26 @@ impl Desk {
         }
     }
 
-    /// The ids of the nodes that a line lists.
-    fn resolve(&self, lists: &Lists, ids: &mut Ids)
-        ensures { ids.new.items ≡ node_ids (script_of self.now) (nodes_of lists.now) }
+    /// The ids of nodes that a line lists.
+    fn resolve(&self, nodes: &ArrayVec<Used, 257>, ids: &mut Ids)
+        ensures { ids.new.items ≡ node_ids (script_of self.now) (map node_of nodes.now.items) }
     {
         ids.clear();
-        for node in lists.nodes.as_slice() {
+        for node in nodes.as_slice() {
             let _ = ids.try_push(self.node_id(node));
         }
     }
 
     /// The request of a line to the manager.
-    fn request<'a>(&self, form: &Form, lists: &'a Lists, ids: &'a [NodeId]) -> Request<'a>
-        requires { ids.now ≡ node_ids (script_of self.now) (nodes_of lists.now) }
+    fn request<'a>(
+        &self,
+        form: &Form,
+        lists: &'a Lists,
+        ids: &'a [NodeId],
+        records: &'a [NodeId],
+    ) -> Request<'a>
+        requires ids { ids.now ≡ node_ids (script_of self.now) (nodes_of lists.now) }
+        requires records { records.now ≡ node_ids (script_of self.now) (records_of lists.now) }
         ensures { Asks (script_of self.now) (command_of form.now lists.now) result }
     {
         let numbers = lists.numbers.as_slice();
@@ -144,6 +153,16 @@ impl Desk {
                 parents: ids,
                 file: self.plain_id(file),
                 bounds: numbers,
+                records: &[],
+                keys: &[],
+            }),
+            Form::IndexOver { txn, file, .. } => Request::Apply(Command::IndexBy {
+                txn: self.txn_id(txn),
+                parents: ids,
+                file: self.plain_id(file),
+                bounds: numbers,
+                records,
+                keys: lists.keys.as_slice(),
             }),
             Form::Begin { .. } => Request::Apply(Command::Begin),
             Form::BeginAgain { since, .. } => {

@@ -34,6 +34,7 @@ pub(crate) struct Interpreter {
     two: Option<Manager>,
     lists: Lists,
     ids: Ids,
+    records: Ids,
     told: Told,
 }
 
@@ -70,6 +71,7 @@ impl Interpreter {
             two: Some(two),
             lists: Lists::new(),
             ids: ArrayVec::new(),
+            records: ArrayVec::new(),
             told: Told::new(),
         })
     }
@@ -109,7 +111,8 @@ impl Interpreter {
         if line.is_empty() || line[0] == b'#' {
             return;
         }
-        self.lists.nodes.clear(); // The parents of an earlier line are not looked up again.
+        self.lists.nodes.clear(); // The nodes of an earlier line are not looked up again.
+        self.lists.records.clear();
         match parse(self.desk.language, line, &mut self.lists) {
             None => put(sink, writer, BAD_LINE),
             Some(line) => match line {
@@ -126,9 +129,13 @@ impl Interpreter {
         ensures { Obeys (W.contents writer.old) sink.old self.old (command_of form.now self.old.lists) (W.contents writer.new) sink.new self.new }
     {
         self.told.clear();
-        let said = self
-            .desk
-            .serve(form, &self.lists, &mut self.ids, &mut self.told);
+        let said = self.desk.serve(
+            form,
+            &self.lists,
+            &mut self.ids,
+            &mut self.records,
+            &mut self.told,
+        );
         put_said(sink, writer, &self.desk, form, &self.lists, said);
         put_notices(sink, writer, &self.desk, self.told.as_slice());
     }

@@ -34,6 +34,7 @@ pub(crate) fn does_to_names(form: &Form) -> Naming<'_>
         Form::File { name } => Naming::Node(name),
         Form::Index { name, .. } => Naming::Node(name),
         Form::IndexBy { name, .. } => Naming::Node(name),
+        Form::IndexOver { name, .. } => Naming::Node(name),
         Form::Insert { name, .. } => Naming::Node(name),
         Form::Adopt { name, .. } => Naming::Node(name),
         Form::Begin { txn } => Naming::Txn(txn),

@@ -1,10 +1,14 @@
 -- A list has one text: a field that is no element is in no list.
-use Rattle.std.proofs.Common.{◌≡◌, ◌≢◌, List, [], ◌∷◌, ◌++◌, All, map, length, slice_index, codes, decimal, refl, sym, ap, ap₂, ◌∙◌, subst, append_assoc, arith}
+use Rattle.std.proofs.Common.{◌≡◌, ◌≢◌, ℕ, List, [], ◌∷◌, ◌++◌, All, map, length, slice_index, codes, decimal, refl, sym, ap, ap₂, ◌∙◌, subst, arith}
+use Rattle.std.proofs.Common.{append_assoc}
+use Rattle.std.specs.Prelude.{IfNone, Option, None, Some}
 use Rattle.std.proofs.lemmas.List.{map_push}
 use Rattle.std.proofs.lemmas.List.Elements.{All-head, All-tail, All-cons, All-nil}
 use Rattle.gl_script.specs.declared.reads.Used.{Used}
-use Rattle.gl_script.specs.Grammar.{Text, Node, Plain, Interval, IsLetter, IsName, IsNode, AreSomeNodes, node_text, parents}
+use Rattle.gl_script.specs.Grammar.{Text, Node, Plain, Interval, IsLetter, IsName, IsNode, IsNumber, AreSomeNodes, node_text, parents}
+use Rattle.gl_script.specs.Numbers.{IsDigit}
 use Rattle.gl_script.specs.Views.{node_of}
+use Rattle.gl_script.proofs.Numbers.{decimal_plain}
 use Rattle.gl_script.proofs.Splitting.{has_byte}
 
 -- one more element is read
@@ -22,55 +26,73 @@ none_at spell P [] field more (x ∷ xs) nay is e = nay x (All-head P x xs is) (
 none_at spell P (d ∷ done) field more [] nay is e = cc
 none_at spell P (d ∷ done) field more (x ∷ xs) nay is e = none_at spell P done field more xs nay (All-tail P x xs is) (cc)
 
--- the word `on` has no dot, and is no name
-on_no_dot : All (λ b. b ≢ 46) (codes "on")
-on_no_dot = All-cons (λ b. b ≢ 46) 111 (110 ∷ []) (λ e. omega (arith, e)) (All-cons (λ b. b ≢ 46) 110 [] (λ e. omega (arith, e)) (All-nil (λ b. b ≢ 46)))
+-- a word of two bytes without a dot, which is no name, is no node
+no_dots : (a b : ℕ) → a ≢ 46 → b ≢ 46 → All (λ u. u ≢ 46) (a ∷ b ∷ [])
+no_dots a b p q = All-cons (λ u. u ≢ 46) a (b ∷ []) p (All-cons (λ u. u ≢ 46) b [] q (All-nil (λ u. u ≢ 46)))
 
 pub on_is_no_node : (n : Node) → IsNode n → node_text n ≢ codes "on"
 on_is_no_node (Plain m) is e = is.not_on e
-on_is_no_node (Interval m k) is e = has_byte 46 m (decimal k) (subst (All (λ b. b ≢ 46)) (sym e) on_no_dot)
+on_is_no_node (Interval m k) is e =
+    has_byte 46 m (decimal k) (subst (All (λ u. u ≢ 46)) (sym e) (no_dots 111 110 (λ d. omega (arith, d)) (λ d. omega (arith, d))))
 
--- the first word `on` separates nodes from what follows
-on_parts_nodes : (ms ns : List Node) (x y : List Text) → All IsNode ms → All IsNode ns
-    → map node_text ms ++ codes "on" ∷ x ≡ map node_text ns ++ codes "on" ∷ y → (map node_text ms ≡ map node_text ns) × (x ≡ y)
-on_parts_nodes [] [] x y p q e = (refl, cc)
-on_parts_nodes [] (n ∷ ns) x y p q e = absurd (on_is_no_node n (All-head IsNode n ns q) (cc))
-on_parts_nodes (m ∷ ms) [] x y p q e = absurd (on_is_no_node m (All-head IsNode m ms p) (cc))
-on_parts_nodes (m ∷ ms) (n ∷ ns) x y p q e =
-    let head : node_text m ≡ node_text n = cc in
-    let more = on_parts_nodes ms ns x y (All-tail IsNode m ms p) (All-tail IsNode n ns q) (cc) in
-    (ap₂ (λ (f : Text) (fs : List Text). f ∷ fs) head more.0, more.1)
+pub at_is_no_node : (n : Node) → IsNode n → node_text n ≢ codes "at"
+at_is_no_node (Plain m) is e = is.not_at e
+at_is_no_node (Interval m k) is e =
+    has_byte 46 m (decimal k) (subst (All (λ u. u ≢ 46)) (sym e) (no_dots 97 116 (λ d. omega (arith, d)) (λ d. omega (arith, d))))
+
+-- the word `with` is no number
+pub with_is_no_number : (k : ℕ) → IsNumber k → decimal k ≢ codes "with"
+with_is_no_number k is e =
+    let first : IsDigit 119 = All-head IsDigit 119 (105 ∷ 116 ∷ 104 ∷ []) (subst (All IsDigit) e (decimal_plain k is).digits) in
+    omega (arith, first.1)
+
+-- the first such word, which is no element, separates elements from what follows
+module _ {X : Type 0} (spell : X → Text) (P : X → Type 0) (word : Text) (apart : (x : X) → P x → spell x ≢ word) where
+  pub word_parts : (xs ys : List X) (x y : List Text) → All P xs → All P ys
+      → map spell xs ++ word ∷ x ≡ map spell ys ++ word ∷ y → (map spell xs ≡ map spell ys) × (x ≡ y)
+  word_parts [] [] x y p q e = (refl, cc)
+  word_parts [] (n ∷ ns) x y p q e = absurd (apart n (All-head P n ns q) (cc))
+  word_parts (m ∷ ms) [] x y p q e = absurd (apart m (All-head P m ms p) (cc))
+  word_parts (m ∷ ms) (n ∷ ns) x y p q e =
+      let head : spell m ≡ spell n = cc in
+      let more = word_parts ms ns x y (All-tail P m ms p) (All-tail P n ns q) (cc) in
+      (ap₂ (λ (f : Text) (fs : List Text). f ∷ fs) head more.0, more.1)
+
+  -- so what follows it after elements is known
+  pub behind_word : (rest : List Text) (read : List X) (after : List Text) (xs : List X) (more : List Text)
+      → rest ≡ map spell read ++ word ∷ after → All P read → All P xs → rest ≡ map spell xs ++ word ∷ more → after ≡ more
+  behind_word rest read after xs more was had are e = (word_parts read xs after more had are (sym was ∙ e)).1
+
+  -- before the word there is a field that is no element
+  pub none_before : (done : List X) (field : Text) (rest : List Text) (xs : List X) (more : List Text)
+      → field ≢ word → ((x : X) → P x → field ≢ spell x) → All P done → All P xs
+      → map spell done ++ field ∷ rest ≡ map spell xs ++ word ∷ more → ⊥
+  none_before [] field rest [] more other nay had is e = other (cc)
+  none_before [] field rest (x ∷ xs) more other nay had is e = nay x (All-head P x xs is) (cc)
+  none_before (d ∷ done) field rest [] more other nay had is e = apart d (All-head P d done had) (cc)
+  none_before (d ∷ done) field rest (x ∷ xs) more other nay had is e =
+      none_before done field rest xs more other nay (All-tail P d done had) (All-tail P x xs is) (cc)
+
+  -- all fields are elements, so none is the word
+  pub none_without : (done : List X) (rest : List Text) (xs : List X) (more : List Text) → rest ≡ [] → All P done
+      → map spell done ++ rest ≡ map spell xs ++ word ∷ more → ⊥
+  none_without [] rest [] more end had e = cc
+  none_without [] rest (x ∷ xs) more end had e = cc
+  none_without (d ∷ done) rest [] more end had e = apart d (All-head P d done had) (cc)
+  none_without (d ∷ done) rest (x ∷ xs) more end had e = none_without done rest xs more end (All-tail P d done had) (cc)
 
 pub on_parts : (ps qs : List Node) (x y : List Text) → AreSomeNodes ps → AreSomeNodes qs
     → parents ps ++ codes "on" ∷ x ≡ parents qs ++ codes "on" ∷ y → (parents ps ≡ parents qs) × (x ≡ y)
 on_parts [] qs x y p q e = absurd (omega (arith, p.1))
 on_parts (p ∷ ps) [] x y h q e = absurd (omega (arith, q.1))
 on_parts (p ∷ ps) (q ∷ qs) x y h k e =
-    let more = on_parts_nodes (p ∷ ps) (q ∷ qs) x y h.0 k.0 (cc) in
+    let more = word_parts node_text IsNode (codes "on") on_is_no_node (p ∷ ps) (q ∷ qs) x y h.0 k.0 (cc) in
     (ap (λ fs. codes ":" ∷ fs) more.0, more.1)
 
 -- so what follows it after parents is known
 pub behind_on : (rest : List Text) (read : List Node) (after : List Text) (ps : List Node) (more : List Text)
     → rest ≡ parents read ++ codes "on" ∷ after → AreSomeNodes read → AreSomeNodes ps → rest ≡ parents ps ++ codes "on" ∷ more → after ≡ more
 behind_on rest read after ps more was had some e = (on_parts read ps after more had some (sym was ∙ e)).1
-
--- before the word `on` there is a field that is no node
-pub none_before_on : (done : List Node) (field : Text) (rest : List Text) (ns : List Node) (more : List Text)
-    → field ≢ codes "on" → ((n : Node) → IsNode n → field ≢ node_text n) → All IsNode done → All IsNode ns
-    → map node_text done ++ field ∷ rest ≡ map node_text ns ++ codes "on" ∷ more → ⊥
-none_before_on [] field rest [] more other nay had is e = other (cc)
-none_before_on [] field rest (n ∷ ns) more other nay had is e = nay n (All-head IsNode n ns is) (cc)
-none_before_on (d ∷ done) field rest [] more other nay had is e = on_is_no_node d (All-head IsNode d done had) (cc)
-none_before_on (d ∷ done) field rest (n ∷ ns) more other nay had is e =
-    none_before_on done field rest ns more other nay (All-tail IsNode d done had) (All-tail IsNode n ns is) (cc)
-
--- all fields are nodes, so none is the word `on`
-pub none_without_on : (done : List Node) (rest : List Text) (ns : List Node) (more : List Text) → rest ≡ [] → All IsNode done
-    → map node_text done ++ rest ≡ map node_text ns ++ codes "on" ∷ more → ⊥
-none_without_on [] rest [] more end had e = cc
-none_without_on [] rest (n ∷ ns) more end had e = cc
-none_without_on (d ∷ done) rest [] more end had e = on_is_no_node d (All-head IsNode d done had) (cc)
-none_without_on (d ∷ done) rest (n ∷ ns) more end had e = none_without_on done rest ns more end (All-tail IsNode d done had) (cc)
 
 -- after the colon there are no nodes with the word `on` after them
 pub none_behind_colon : (colon : Text) (rest : List Text) (ps : List Node) (more : List Text)
@@ -98,3 +120,8 @@ pub one_before_colon : (m : Text) (ps : List Node) (x : List Text) (t n : Text) 
     → m ∷ (parents ps ++ x) ≡ t ∷ n ∷ y → ⊥
 one_before_colon m [] x t n y some is e = absurd (omega (arith, some.1))
 one_before_colon m (p ∷ ps) x t n y some is e = colon_is_no_name n is (cc)
+
+-- what nothing of the one form says, nothing of the other says
+pub none_so : {T : Type 0} (o : Option T) (P Q : Type 0) → (P → Q) → IfNone o P → IfNone o Q
+none_so None P Q so h = so h
+none_so (Some x) P Q so h = tt

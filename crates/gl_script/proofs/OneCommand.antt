@@ -1,18 +1,18 @@
 -- A line is at most one command or listing: its first field is the verb or the topic, and names, modes, nodes, numbers and lists of them have one text.
-use Rattle.std.proofs.Common.{◌≡◌, ◌≢◌, ℕ, ◌==◌, Bool, List, [], ◌∷◌, ◌++◌, All, map, codes, decimal, refl, sym, ap, ap₂, ◌∙◌, subst, rules}
+use Rattle.std.proofs.Common.{◌≡◌, ◌≢◌, ℕ, ◌==◌, Bool, List, [], ◌∷◌, ◌++◌, All, append-nil, map, codes, decimal, refl, sym, ap, ap₂, ◌∙◌, subst, rules}
 use Rattle.std.specs.List.{slice_split}
 use Rattle.std.proofs.lemmas.Fmt.{decimal_injective}
 use Rattle.std.proofs.lemmas.List.Elements.{All-head, All-tail}
 use Rattle.gl_modes.proofs.Spellings.{mode_text-injective}
 use Rattle.gl_script.specs.declared.form.Language.{Language}
-use Rattle.gl_script.specs.Grammar.{Text, Command, Inner, File, Index, IndexBy, Begin, BeginAgain, Join, Insert, Adopt, Forget, Rekey, Move}
+use Rattle.gl_script.specs.Grammar.{Text, Command, Inner, File, Index, IndexBy, IndexOver, Begin, BeginAgain, Join, Insert, Adopt, Forget, Rekey, Move}
 use Rattle.gl_script.specs.Grammar.{Split, Merge, Group, OfTxn, OfLock, OfRequest, OfRemoval, OfNumber}
 use Rattle.gl_script.specs.Grammar.{Listing, Holders, Queue, Locks, Waits, Txns, Cycle, Line, Orders}
 use Rattle.gl_script.specs.Grammar.{Node, Plain, Interval, IsCommand, IsListing, IsNode, IsNumber, AreSomeNodes, node_text, parents, parts, verb_of}
-use Rattle.gl_script.specs.Grammar.{Lists, fields, listing_fields, SaysFields, ListsFields, LineFields, LineSaysOneCommand}
+use Rattle.gl_script.specs.Grammar.{Lists, fields, listing_fields, with_records, SaysFields, ListsFields, LineFields, LineSaysOneCommand}
 use Rattle.gl_script.proofs.Splitting.{cut_once, has_byte}
 use Rattle.gl_script.proofs.NodeTexts.{name_no_dot}
-use Rattle.gl_script.proofs.ListTexts.{on_parts, one_before_colon}
+use Rattle.gl_script.proofs.ListTexts.{at_is_no_node, none_without, on_parts, one_before_colon, with_is_no_number, word_parts}
 use Rattle.gl_script.proofs.Verbs.{first_topic, one_verb, same_parts, verb_no_topic}
 
 -- a node has one text
@@ -54,6 +54,24 @@ one_index ps qs g h ks bs p q a b e =
     let behind : g ∷ codes "at" ∷ map decimal ks ≡ h ∷ codes "at" ∷ map decimal bs = cut.1 in
     (one_parents ps qs p.0 q.0 cut.0, cc, one_numbers ks bs a b (cc))
 
+-- so have bounds, records and keys
+one_over : (ks bs : List ℕ) (rs ns : List Node) (js cs : List ℕ) → All IsNumber ks → All IsNumber bs → All IsNode rs → All IsNode ns
+    → All IsNumber js → All IsNumber cs → with_records ks rs js ≡ with_records bs ns cs → (ks ≡ bs) × (rs ≡ ns) × (js ≡ cs)
+one_over ks bs rs ns js cs a b p q x y e =
+    let front = word_parts decimal IsNumber (codes "with") with_is_no_number ks bs (map node_text rs ++ codes "at" ∷ map decimal js)
+    (map node_text ns ++ codes "at" ∷ map decimal cs) a b e in
+    let back = word_parts node_text IsNode (codes "at") at_is_no_node rs ns (map decimal js) (map decimal cs) p q front.1 in
+    (one_numbers ks bs a b front.0, one_list node_text IsNode one_node rs ns p q back.0, one_numbers js cs x y back.1)
+
+-- what follows the name of an index names no records, or does
+not_over : (ps qs : List Node) (g h : Text) (ks bs : List ℕ) (rs : List Node) (js : List ℕ) → AreSomeNodes ps → AreSomeNodes qs → All IsNumber ks
+    → parents ps ++ codes "on" ∷ g ∷ codes "at" ∷ map decimal ks ≡ parents qs ++ codes "on" ∷ h ∷ codes "at" ∷ with_records bs rs js → ⊥
+not_over ps qs g h ks bs rs js p q a e =
+    let cut = on_parts ps qs _ _ p q e in
+    let behind : map decimal ks ≡ with_records bs rs js = cc in
+    none_without decimal IsNumber (codes "with") with_is_no_number ks [] bs (map node_text rs ++ codes "at" ∷ map decimal js) refl a
+    (append-nil (map decimal ks) ∙ behind)
+
 -- two commands of one verb with the same fields after it are one
 one_of_parts : (c d : Command) → IsCommand c → IsCommand d → verb_of c ≡ verb_of d → parts c ≡ parts d → c ≡ d
 one_of_parts (Inner m ps) (Inner n qs) p q v e = let others : ps ≡ qs = one_parents ps qs p.1 q.1 (cc) in cc
@@ -67,6 +85,15 @@ one_of_parts (IndexBy s m ps g ks) (IndexBy t n qs h bs) p q v e =
     let txn : s ≡ t = cc in
     let name : m ≡ n = cc in
     λ i. IndexBy (txn i) (name i) (same.0 i) (same.1 i) (same.2 i)
+one_of_parts (IndexOver s m ps g ks rs js) (IndexOver t n qs h bs ns cs) p q v e =
+    let txn : s ≡ t = cc in
+    let name : m ≡ n = cc in
+    let cut = on_parts ps qs _ _ p.2 q.2 (cc) in
+    let behind : g ∷ codes "at" ∷ with_records ks rs js ≡ h ∷ codes "at" ∷ with_records bs ns cs = cut.1 in
+    let others = one_parents ps qs p.2.0 q.2.0 cut.0 in
+    let file : g ≡ h = cc in
+    let over = one_over ks bs rs ns js cs p.4 q.4 p.5 q.5 p.6 q.6 (cc) in
+    λ i. IndexOver (txn i) (name i) (others i) (file i) (over.0 i) (over.1 i) (over.2 i)
 one_of_parts (Begin s) (Begin t) p q v e = cc
 one_of_parts (BeginAgain s j) (BeginAgain t k) p q v e = let since : j ≡ k = decimal_injective j k p.1 q.1 (cc) in cc
 one_of_parts (Join s m j) (Join t n k) p q v e =
@@ -93,6 +120,10 @@ one_of_parts (OfRemoval a s m) (OfRemoval b t n) p q v e = cc
 one_of_parts (OfNumber a s j) (OfNumber b t k) p q v e = let number : j ≡ k = decimal_injective j k p.1 q.1 (cc) in cc
 one_of_parts (Index m ps g ks) (IndexBy t n qs h bs) p q v e = absurd (one_before_colon m ps _ t n _ p.1 q.1 e)
 one_of_parts (IndexBy t n qs h bs) (Index m ps g ks) p q v e = absurd (one_before_colon m ps _ t n _ q.1 p.1 (sym e))
+one_of_parts (Index m ps g ks) (IndexOver t n qs h bs ns cs) p q v e = absurd (one_before_colon m ps _ t n _ p.1 q.1 e)
+one_of_parts (IndexOver t n qs h bs ns cs) (Index m ps g ks) p q v e = absurd (one_before_colon m ps _ t n _ q.1 p.1 (sym e))
+one_of_parts (IndexBy s m ps g ks) (IndexOver t n qs h bs ns cs) p q v e = absurd (not_over ps qs g h ks bs ns cs p.2 q.2 p.4 (cc))
+one_of_parts (IndexOver t n qs h bs ns cs) (IndexBy s m ps g ks) p q v e = absurd (not_over ps qs g h ks bs ns cs q.2 p.2 q.4 (cc))
 one_of_parts c d p q v e = cc
 
 one_of_listed : (c d : Listing) → IsListing c → IsListing d → listing_fields c ≡ listing_fields d → c ≡ d

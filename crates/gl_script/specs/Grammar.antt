@@ -28,6 +28,7 @@ pub data Command : Type 0 where
   File : (name : Text) → (parents : List Node) → Command
   Index : (name : Text) → (parents : List Node) → (file : Text) → (bounds : List ℕ) → Command
   IndexBy : (txn : Text) → (name : Text) → (parents : List Node) → (file : Text) → (bounds : List ℕ) → Command
+  IndexOver : (txn : Text) → (name : Text) → (parents : List Node) → (file : Text) → (bounds : List ℕ) → (records : List Node) → (keys : List ℕ) → Command
   Begin : (txn : Text) → Command
   BeginAgain : (txn : Text) → (since : ℕ) → Command
   Join : (txn : Text) → (slot : ℕ) → (since : ℕ) → Command
@@ -95,6 +96,7 @@ IsCommand (Inner n ps) = IsName n × All IsNode ps
 IsCommand (File n ps) = IsName n × AreSomeNodes ps
 IsCommand (Index n ps f bs) = IsName n × AreSomeNodes ps × IsName f × All IsNumber bs
 IsCommand (IndexBy t n ps f bs) = IsName t × IsName n × AreSomeNodes ps × IsName f × All IsNumber bs
+IsCommand (IndexOver t n ps f bs rs ks) = IsName t × IsName n × AreSomeNodes ps × IsName f × All IsNumber bs × All IsNode rs × All IsNumber ks
 IsCommand (Begin t) = IsName t
 IsCommand (BeginAgain t k) = IsName t × IsNumber k
 IsCommand (Join t n k) = IsName t × IsNumber n × IsNumber k
@@ -127,6 +129,7 @@ verb_of (Inner n ps) = verb.Inner
 verb_of (File n ps) = verb.File
 verb_of (Index n ps f bs) = verb.Index
 verb_of (IndexBy t n ps f bs) = verb.Index
+verb_of (IndexOver t n ps f bs rs ks) = verb.Index
 verb_of (Begin t) = verb.Begin
 verb_of (BeginAgain t k) = verb.Begin
 verb_of (Join t n k) = verb.Begin
@@ -147,6 +150,7 @@ verb_of (OfNumber v t k) = verb.OfNumber v
 -- the language has the command: its verb, and for an index by a transaction schema changes, for work begun again or in a slot a trace
 abbrev pub IsOfLanguage : Language → Command → Type 0
 IsOfLanguage l (IndexBy t n ps f bs) = l.schema ≡ true
+IsOfLanguage l (IndexOver t n ps f bs rs ks) = l.schema ≡ true
 IsOfLanguage l (BeginAgain t k) = l.trace ≡ true
 IsOfLanguage l (Join t n k) = l.trace ≡ true
 IsOfLanguage l c = HasVerb l (verb_of c)
@@ -161,12 +165,17 @@ abbrev pub parents : List Node → List Text
 parents [] = []
 parents (p ∷ ps) = codes ":" ∷ node_text p ∷ map node_text ps
 
+-- the bounds of an index, and the records of its file with their keys for it, one key for each record in turn
+abbrev pub with_records : List ℕ → List Node → List ℕ → List Text
+with_records bs rs ks = map decimal bs ++ codes "with" ∷ (map node_text rs ++ codes "at" ∷ map decimal ks)
+
 -- the fields after the verb
 abbrev pub parts : Command → List Text
 parts (Inner n ps) = n ∷ parents ps
 parts (File n ps) = n ∷ parents ps
 parts (Index n ps f bs) = n ∷ parents ps ++ codes "on" ∷ f ∷ codes "at" ∷ map decimal bs
 parts (IndexBy t n ps f bs) = t ∷ n ∷ parents ps ++ codes "on" ∷ f ∷ codes "at" ∷ map decimal bs
+parts (IndexOver t n ps f bs rs ks) = t ∷ n ∷ parents ps ++ codes "on" ∷ f ∷ codes "at" ∷ with_records bs rs ks
 parts (Begin t) = t ∷ []
 parts (BeginAgain t k) = t ∷ codes "again" ∷ decimal k ∷ []
 parts (Join t n k) = t ∷ codes "join" ∷ decimal n ∷ decimal k ∷ []

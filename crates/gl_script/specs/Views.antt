@@ -24,12 +24,18 @@ node_of used = node_in used.name.items used.interval
 abbrev pub nodes_of : Lists → List Node
 nodes_of lists = map node_of lists.nodes.items
 
+-- the records of a list
+abbrev pub records_of : Lists → List Node
+records_of lists = map node_of lists.records.items
+
 -- the command of a form and its lists
 abbrev pub command_of : Form → Lists → Command
 command_of (form.Inner n) lists = grammar.Inner n.items (nodes_of lists)
 command_of (form.File n) lists = grammar.File n.items (nodes_of lists)
 command_of (form.Index n f) lists = grammar.Index n.items (nodes_of lists) f.items lists.numbers.items
 command_of (form.IndexBy t n f) lists = grammar.IndexBy t.items n.items (nodes_of lists) f.items lists.numbers.items
+command_of (form.IndexOver t n f) lists =
+    grammar.IndexOver t.items n.items (nodes_of lists) f.items lists.numbers.items (records_of lists) lists.keys.items
 command_of (form.Begin t) lists = grammar.Begin t.items
 command_of (form.BeginAgain t k) lists = grammar.BeginAgain t.items k
 command_of (form.Join t n k) lists = grammar.Join t.items n k

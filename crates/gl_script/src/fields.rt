@@ -40,6 +40,14 @@ impl<'a> Fields<'a> {
         }
     }
 
+    /// The same fields, to be read twice.
+    #[tactic(auto, unfolding(crate::specs::Left::left))]
+    pub(crate) fn ahead(&self) -> Fields<'a>
+        ensures { left result ≡ left self.now }
+    {
+        Fields { rest: self.rest }
+    }
+
     /// Whether the next field is a colon.
     #[tactic(auto, unfolding(crate::specs::Left::left))]
     pub(crate) fn is_at_colon(&self) -> bool

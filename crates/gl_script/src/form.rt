@@ -12,7 +12,7 @@ use crate::reads::{Name, Used, next_name, next_number};
 use crate::series::MOST_LISTED;
 use crate::shapes::{
     adopt_parts, index_parts, insert_parts, last_number, name_parents, name_some_parents,
-    only_name, only_node, rekey_parts, split_parts, txn_mode_node, txn_name, txn_node,
+    only_name, only_node, over_parts, rekey_parts, split_parts, txn_mode_node, txn_name, txn_node,
     txn_node_parents, txn_number,
 };
 use crate::verb::{LockVerb, NumberVerb, RemovalVerb, RequestVerb, TxnVerb, Verb, has_verb};
@@ -62,6 +62,12 @@ pub enum Form {
     },
     /// Make an index of a file that may have had records, with these parents and bounds.
     IndexBy {
+        txn: Name,
+        name: Name,
+        file: Name,
+    },
+    /// Make an index of a file with these parents and bounds, over these records with these keys.
+    IndexOver {
         txn: Name,
         name: Name,
         file: Name,
@@ -155,12 +161,14 @@ pub enum Form {
     },
 }
 
-/// What a line lists: the parents of a node, and the bounds of an index or the keys of a record. A line
-/// of 256 bytes has at most 257 fields.
+/// What a line lists: the parents of a node, the bounds of an index or the keys of a record, and the
+/// records that an index is made over with their keys. A line of 256 bytes has at most 257 fields.
 #[derive(Drop)]
 pub struct Lists {
     pub nodes: ArrayVec<Used, MOST_LISTED>,
     pub numbers: ArrayVec<u64, MOST_LISTED>,
+    pub records: ArrayVec<Used, MOST_LISTED>,
+    pub keys: ArrayVec<u64, MOST_LISTED>,
 }
 
 impl Lists {
@@ -168,10 +176,14 @@ impl Lists {
     pub fn new() -> Lists
         ensures nodes { result.nodes.items ≡ [] }
         ensures numbers { result.numbers.items ≡ [] }
+        ensures records { result.records.items ≡ [] }
+        ensures keys { result.keys.items ≡ [] }
     {
         Lists {
             nodes: ArrayVec::new(),
             numbers: ArrayVec::new(),
+            records: ArrayVec::new(),
+            keys: ArrayVec::new(),
         }
     }
 }
@@ -266,7 +278,7 @@ fn read_begin(language: Language, fields: &mut Fields) -> Option<Form>
 }
 
 /// The form after the word `index`: one name before the colon, or, with schema changes, a transaction
-/// and a name.
+/// and a name, and perhaps records at the end.
 fn read_index(language: Language, fields: &mut Fields, lists: &mut Lists) -> Option<Form>
     requires room { length (left fields.old) ≤ 257 }
     ensures says { IfSome result (λ form. SaysParts language Index (left fields.old) (command_of form lists.new)) }
@@ -281,8 +293,16 @@ fn read_index(language: Language, fields: &mut Fields, lists: &mut Lists) -> Opt
         return None;
     }
     let name = next_name(fields)?;
-    let file = index_parts(fields, lists)?;
-    Some(Form::IndexBy {
+    let mut ahead = fields.ahead();
+    if let Some(file) = index_parts(&mut ahead, lists) {
+        return Some(Form::IndexBy {
+            txn: first,
+            name,
+            file,
+        });
+    }
+    let file = over_parts(fields, lists)?;
+    Some(Form::IndexOver {
         txn: first,
         name,
         file,

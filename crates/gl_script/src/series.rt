@@ -66,6 +66,46 @@ pub(crate) fn read_parents_on(
     read_nodes_on(fields, nodes)
 }
 
+/// The fields before the word `with`, each of them a number, and that word.
+pub(crate) fn read_numbers_with(
+    fields: &mut Fields,
+    numbers: &mut ArrayVec<u64, MOST_LISTED>,
+) -> Option<()>
+    requires room { length (left fields.old) ≤ 257 }
+    ensures found { IfSome result (λ _. All IsNumber numbers.new.items
+        × (left fields.old ≡ map decimal numbers.new.items ++ codes "with" ∷ left fields.new)) }
+    ensures none { IfNone result ((ks : List ℕ) (more : List Text) → All IsNumber ks → left fields.old ≢ map decimal ks ++ codes "with" ∷ more) }
+{
+    numbers.clear();
+    while let Some(field) = fields.next() {
+        if is_with(field) {
+            return Some(());
+        }
+        numbers.push(read_number(field)?);
+    }
+    None
+}
+
+/// The fields before the word `at`, each of them a node, and that word.
+pub(crate) fn read_nodes_at(
+    fields: &mut Fields,
+    nodes: &mut ArrayVec<Used, MOST_LISTED>,
+) -> Option<()>
+    requires room { length (left fields.old) ≤ 257 }
+    ensures found { IfSome result (λ _. All IsNode (map node_of nodes.new.items)
+        × (left fields.old ≡ map node_text (map node_of nodes.new.items) ++ codes "at" ∷ left fields.new)) }
+    ensures none { IfNone result ((ns : List Node) (more : List Text) → All IsNode ns → left fields.old ≢ map node_text ns ++ codes "at" ∷ more) }
+{
+    nodes.clear();
+    while let Some(field) = fields.next() {
+        if is_at(field) {
+            return Some(());
+        }
+        nodes.push(read_used(field)?);
+    }
+    None
+}
+
 /// Whether the bytes are a colon.
 fn is_colon(text: &[u8]) -> bool
     ensures { IsTrue result ↔ (text.now ≡ codes ":") }
@@ -78,6 +118,20 @@ fn is_on(text: &[u8]) -> bool
     ensures { IsTrue result ↔ (text.now ≡ codes "on") }
 {
     matches!(text, b"on")
+}
+
+/// Whether the bytes are the word `at`, which is no node.
+fn is_at(text: &[u8]) -> bool
+    ensures { IsTrue result ↔ (text.now ≡ codes "at") }
+{
+    matches!(text, b"at")
+}
+
+/// Whether the bytes are the word `with`, which is no number.
+fn is_with(text: &[u8]) -> bool
+    ensures { IsTrue result ↔ (text.now ≡ codes "with") }
+{
+    matches!(text, b"with")
 }
 
 /// All remaining fields, each of them a node.

@@ -6,14 +6,16 @@
 ghost use Rattle.std.specs.Prelude.{◌≡◌, ◌≢◌, ℕ, ◌≤◌, [], ◌∷◌, ◌++◌, List, All, IfSome, IfNone, codes, decimal, length, map};
 ghost use Rattle.gl_modes.specs.declared.mode.Mode.{Mode};
 ghost use Rattle.gl_modes.specs.Modes.{mode_text};
-ghost use Rattle.gl_script.specs.Grammar.{Text, Node, IsName, IsNode, IsNumber, AreSomeNodes, node_text, parents};
+ghost use Rattle.gl_script.specs.Grammar.{Text, Node, IsName, IsNode, IsNumber, AreSomeNodes, node_text, parents, with_records};
 ghost use Rattle.gl_script.specs.Left.{left};
-ghost use Rattle.gl_script.specs.Views.{node_of, nodes_of};
+ghost use Rattle.gl_script.specs.Views.{node_of, nodes_of, records_of};
 
 use crate::fields::Fields;
 use crate::form::{Form, Lists};
 use crate::reads::{Name, Used, next_name, next_node, next_number};
-use crate::series::{MOST_LISTED, read_numbers, read_parents, read_parents_on};
+use crate::series::{
+    MOST_LISTED, read_nodes_at, read_numbers, read_numbers_with, read_parents, read_parents_on,
+};
 use arrayvec::ArrayVec;
 use gl_modes::Mode;
 
@@ -226,6 +228,25 @@ pub(crate) fn index_parts(fields: &mut Fields, lists: &mut Lists) -> Option<Name
     file_bounds(fields, &mut lists.numbers)
 }
 
+/// One or more parents, the word `on`, a file, the word `at`, bounds, the word `with`, records, the word
+/// `at`, and keys.
+pub(crate) fn over_parts(fields: &mut Fields, lists: &mut Lists) -> Option<Name>
+    requires room { length (left fields.old) ≤ 257 }
+    ensures found { IfSome result (λ file. let ps = nodes_of lists.new in let bs = lists.new.numbers.items in let rs = records_of lists.new in
+        let ks = lists.new.keys.items in AreSomeNodes ps × IsName file.items × All IsNumber bs × All IsNode rs × All IsNumber ks
+        × (left fields.old ≡ parents ps ++ codes "on" ∷ file.items ∷ codes "at" ∷ with_records bs rs ks)) }
+    ensures none { IfNone result ((f : Text) (ps : List Node) (bs : List ℕ) (rs : List Node) (ks : List ℕ) → AreSomeNodes ps → IsName f → All IsNumber bs
+        → All IsNode rs → All IsNumber ks → left fields.old ≢ parents ps ++ codes "on" ∷ f ∷ codes "at" ∷ with_records bs rs ks) }
+{
+    read_parents_on(fields, &mut lists.nodes)?;
+    file_records(
+        fields,
+        &mut lists.numbers,
+        &mut lists.records,
+        &mut lists.keys,
+    )
+}
+
 /// The last field, a name.
 fn last_name(fields: &mut Fields) -> Option<Name>
     ensures found { IfSome result (λ name. IsName name.items × (left fields.old ≡ name.items ∷ [])) }
@@ -266,4 +287,58 @@ fn file_bounds(fields: &mut Fields, bounds: &mut ArrayVec<u64, MOST_LISTED>) -> 
     }
     read_numbers(fields, bounds)?;
     Some(file)
+}
+
+/// A file, the word `at`, bounds, the word `with`, records, the word `at`, and keys.
+fn file_records(
+    fields: &mut Fields,
+    bounds: &mut ArrayVec<u64, MOST_LISTED>,
+    records: &mut ArrayVec<Used, MOST_LISTED>,
+    keys: &mut ArrayVec<u64, MOST_LISTED>,
+) -> Option<Name>
+    requires room { length (left fields.old) ≤ 257 }
+    ensures found { IfSome result (λ file. let rs = map node_of records.new.items in IsName file.items × All IsNumber bounds.new.items × All IsNode rs
+        × All IsNumber keys.new.items × (left fields.old ≡ file.items ∷ codes "at" ∷ with_records bounds.new.items rs keys.new.items)) }
+    ensures none { IfNone result ((f : Text) (bs : List ℕ) (rs : List Node) (ks : List ℕ) → IsName f → All IsNumber bs → All IsNode rs → All IsNumber ks
+        → left fields.old ≢ f ∷ codes "at" ∷ with_records bs rs ks) }
+{
+    let file = next_name(fields)?;
+    if !matches!(fields.next()?, b"at") {
+        return None;
+    }
+    bounds_records(fields, bounds, records, keys)?;
+    Some(file)
+}
+
+/// Bounds, the word `with`, records, the word `at`, and keys.
+fn bounds_records(
+    fields: &mut Fields,
+    bounds: &mut ArrayVec<u64, MOST_LISTED>,
+    records: &mut ArrayVec<Used, MOST_LISTED>,
+    keys: &mut ArrayVec<u64, MOST_LISTED>,
+) -> Option<()>
+    requires room { length (left fields.old) ≤ 257 }
+    ensures found { IfSome result (λ _. let rs = map node_of records.new.items in All IsNumber bounds.new.items × All IsNode rs × All IsNumber keys.new.items
+        × (left fields.old ≡ with_records bounds.new.items rs keys.new.items)) }
+    ensures none { IfNone result ((bs : List ℕ) (rs : List Node) (ks : List ℕ) → All IsNumber bs → All IsNode rs → All IsNumber ks
+        → left fields.old ≢ with_records bs rs ks) }
+{
+    read_numbers_with(fields, bounds)?;
+    records_keys(fields, records, keys)
+}
+
+/// Records, the word `at`, and keys.
+fn records_keys(
+    fields: &mut Fields,
+    records: &mut ArrayVec<Used, MOST_LISTED>,
+    keys: &mut ArrayVec<u64, MOST_LISTED>,
+) -> Option<()>
+    requires room { length (left fields.old) ≤ 257 }
+    ensures found { IfSome result (λ _. let rs = map node_of records.new.items in All IsNode rs × All IsNumber keys.new.items
+        × (left fields.old ≡ map node_text rs ++ codes "at" ∷ map decimal keys.new.items)) }
+    ensures none { IfNone result ((rs : List Node) (ks : List ℕ) → All IsNode rs → All IsNumber ks
+        → left fields.old ≢ map node_text rs ++ codes "at" ∷ map decimal ks) }
+{
+    read_nodes_at(fields, records)?;
+    read_numbers(fields, keys)
 }

@@ -97,9 +97,11 @@ fn reason(number: &[u8]) -> &'static [u8] {
         b"14" => b"it needs X on the node or its file, and on what the change touches",
         b"15" => b"the transaction waits for nothing",
         b"16" => b"is a name in use",
-        b"17" => b"the file has records, or indexes if it is dropped",
+        b"17" =>
+            b"the file has records (an index names them all, and its transaction holds none), or indexes if it is dropped",
         b"18" =>
-            b"bounds have to rise from above 0, that of a split is inside its interval, and a record has one key for each index of its file",
+            b"bounds have to rise from above 0, that of a split is inside its interval, a record has one key for each index of its file, \
+and an index over records names each of its file, the oldest first, and as many keys",
         b"19" => b"a counter is at its end",
         b"21" => b"is the node itself or below it",
         b"22" => b"a transaction holds the record or waits for it",
@@ -229,7 +231,8 @@ fn form(verb: &[u8]) -> Option<&'static [u8]> {
         b"inner" => b"inner NODE, or inner NODE : PARENT..",
         b"file" => b"file NODE : PARENT..",
         b"index" =>
-            b"index NODE : PARENT.. on FILE at BOUND.., or by --schema index TXN NODE : PARENT.. on FILE at BOUND..",
+            b"index NODE : PARENT.. on FILE at BOUND.., or by --schema index TXN NODE : PARENT.. on FILE at BOUND.., \
+perhaps with RECORD.. at KEY..",
         b"begin" => b"begin TXN, or by --trace begin TXN again AGE or begin TXN join SLOT AGE",
         b"commit" => b"commit TXN",
         b"abort" => b"abort TXN",

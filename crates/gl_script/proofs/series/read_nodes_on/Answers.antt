@@ -1,9 +1,9 @@
-use Rattle.std.proofs.Common.{◌≡◌, List, [], ◌∷◌, ◌++◌, All, length, map, ap, ◌∙◌, sym, true≢false, subst, arith}
+use Rattle.std.proofs.Common.{◌≡◌, List, [], ◌∷◌, ◌++◌, All, codes, length, map, ap, ◌∙◌, sym, true≢false, subst, arith}
 use Rattle.std.proofs.lemmas.List.{map_push}
 use Rattle.std.proofs.lemmas.List.Elements.{All-push}
 use Rattle.gl_script.specs.Grammar.{Node, IsNode, node_text}
 use Rattle.gl_script.specs.Views.{node_of}
-use Rattle.gl_script.proofs.ListTexts.{none_at_once, none_before_on, none_without_on, spelt_more}
+use Rattle.gl_script.proofs.ListTexts.{none_at_once, none_before, none_without, on_is_no_node, spelt_more}
 use Rattle.gl_script.proofs.Splitting.{same_test}
 use Rattle.gl_script.proofs.series.read_nodes_on.Goals as goal
 
@@ -12,7 +12,7 @@ returns-in_err-read_used-clause-none c =
     let inv = c.loop-field.invariant in
     let done : List Node = map node_of c.loop-field.nodes.items in
     rw c.from_residual.ensures (λ ns more some e.
-    none_before_on done c.in-Some.field.now _ ns more
+    none_before node_text IsNode (codes "on") on_is_no_node done c.in-Some.field.now _ ns more
     (λ on. true≢false (sym (c.is_on.ensures.1 on) ∙ c.if-is_on.false)) c.in_err-read_used.ensures.none inv.each some.0
     (sym (inv.split ∙ ap (λ fs. map node_text done ++ fs) c.in-Some.ensures.some) ∙ e))
 
@@ -32,7 +32,8 @@ loop-field-preserved c =
 pub returns-clause-none : goal.returns-clause-none
 returns-clause-none c ns more some e =
     let inv = c.loop-field.invariant in
-    none_without_on (map node_of c.loop-field.nodes.items) _ ns more c.in_default.ensures.none inv.each (sym inv.split ∙ e)
+    none_without node_text IsNode (codes "on") on_is_no_node (map node_of c.loop-field.nodes.items) _ ns more c.in_default.ensures.none inv.each
+    (sym inv.split ∙ e)
 
 pub returns-then-is_empty-clause-none : goal.returns-then-is_empty-clause-none
 returns-then-is_empty-clause-none c ns more some e =

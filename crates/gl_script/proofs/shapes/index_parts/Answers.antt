@@ -1,11 +1,5 @@
-use Rattle.std.proofs.Common.{Option, None, Some}
-use Rattle.std.specs.Prelude.{IfNone}
-use Rattle.gl_script.proofs.ListTexts.{behind_on}
+use Rattle.gl_script.proofs.ListTexts.{behind_on, none_so}
 use Rattle.gl_script.proofs.shapes.index_parts.Goals as goal
-
-none_so : {T : Type 0} (o : Option T) (P Q : Type 0) → (P → Q) → IfNone o P → IfNone o Q
-none_so None P Q so h = so h
-none_so (Some x) P Q so h = tt
 
 pub returns-clause-none : goal.returns-clause-none
 returns-clause-none c =

@@ -1,18 +1,17 @@
 use Rattle.gl_interpreter.proofs.Words.{◌++◌, ◌<◌, [], ◌∙◌, ◌∷◌, ◌≤◌, ap, ap₂, arith, get_or, get_or-map, get_or_default, length, length-map, length-take, map}
 use Rattle.gl_interpreter.proofs.Words.{node_id, node_ids, node_of, None, script_of, sym, take_more, Used}
-use Rattle.gl_script.specs.Views.{nodes_of}
 use Rattle.gl_interpreter.proofs.Registers.{on_ok}
 use Rattle.gl_interpreter.proofs.desk.Desk.resolve.Goals as goal
 
 pub loop-node-preserved : goal.loop-node-preserved
 loop-node-preserved c =
     let s = script_of c.args.self.now in
-    let nodes = c.args.lists.now.nodes.items in
+    let nodes = c.args.nodes.now.items in
+    let all = node_ids s (map node_of nodes) in
     let i = c.loop-node.node-index in
-    let short : length c.loop-node.ids.items ≤ i = omega (arith, ap length c.loop-node.invariant, length-take i (node_ids s (nodes_of c.args.lists.now))) in
+    let short : length c.loop-node.ids.items ≤ i = omega (arith, ap length c.loop-node.invariant, length-take i all) in
     let ok = c.try_push.ensures.variant.1 (omega (arith, short, c.loop-node-test.true, c.as_slice-node-items.ensures.fits)) in
     let pushed = on_ok _ ok c.try_push.ensures.ok in
-    let all = node_ids s (nodes_of c.args.lists.now) in
     let value = c.as_slice-node-items.ensures.value in
     let low : i < length nodes = omega (arith, c.loop-node-test.true, ap length value) in
     let low' : i < length (map node_of nodes) = omega (arith, low, length-map nodes node_of) in

@@ -1,0 +1,9 @@
+use Rattle.gl_script.proofs.ListTexts.{behind_on, none_so}
+use Rattle.gl_script.proofs.shapes.over_parts.Goals as goal
+
+pub returns-clause-none : goal.returns-clause-none
+returns-clause-none c =
+    let read = c.in_ok-read_parents_on.ensures.found in
+    none_so c.file_records.result _ _
+    (λ none f ps bs rs ks some named are nodes keys e. none f bs rs ks named are nodes keys (behind_on _ _ _ ps _ read.1 read.0 some e))
+    c.file_records.ensures.none
