@@ -6,9 +6,9 @@
  * allowed leaves it so. What is decided of a group is the library's too, and proved: what a path lacks in the main table
  * (bs_path_lacks), where each request of a path that lacks nothing is such a step; what a visit copies (bs_next_copy),
  * and what a transaction copies of its own (bs_own_copy); when marks may be cleared (bs_may_clear); who waits for whom
- * in all tables (bs_join_board), and who falls (bs_suspects, bs_youngest). This source keeps the latches, the sleeps,
- * the marks and the counts of requests in progress, asks all that at its time, ends sleeps as an index is made, and says
- * in which parts nobody rests: that is written in C, and tested.
+ * in all tables (bs_join_board), and who falls (bs_suspects, bs_youngest); which sleeps a new index ends (bs_lacks_key);
+ * where something may rest, and who takes it up (bs_may_rest, bs_takes_up). This source keeps the latches, the sleeps,
+ * the marks and the counts of requests in progress, and asks all that at its time: that is written in C, and tested.
  *
  * LATCHES are acquired by rising number: nobody acquires the main table's while holding a part's.
  *
@@ -24,6 +24,12 @@
  * VISITORS act in the main table for others, with the latch of a part where these hold something or sleep: they join it
  * for them and copy their locks. A transaction looks at its end whether it is in the main table, after it has left its
  * parts: no visitor finds it any more.
+ *
+ * SPREAD FILES. A spread file is an inner node with a file of rows in each part. A call about a row replaces its name by
+ * that of the row's file in a part, and then does what it does for any file: to the laws this is a graph like another.
+ * It finds that name without a latch in the roll of spread files, where nothing changes and nothing is freed before the
+ * group is. No other node is made below a spread file, so a node below it in a part is its file there. Such a file gets
+ * no index, is not dropped, and is not taken as the file of a row: so a row has one node.
  *
  * NEW INDEXES. A path to write a row passes each node above the indexes of its file. So a path that waits in a part
  * passes more after an index is made, and may lack that in the main table. Its wait ends with BS_BAD_KEYS as the index is
@@ -64,13 +70,27 @@ typedef struct group_inner {
   uint32_t above[];     /* all nodes above it, by rising number */
 } group_inner;
 
+/* The names in the group of a spread file and of its files. They never change. */
+typedef struct group_files {
+  bs_node node;
+  bs_node in[]; /* by part; there is none in part 0 */
+} group_files;
+
+/* The spread files, by the number of their inner nodes. If there is no place for a number, a longer roll with the same
+ * files replaces it. Threads may still read the old one, which stays. */
+typedef struct group_roll {
+  struct group_roll *before;
+  uint32_t room;
+  group_files *at[]; /* atomic; null if the inner node is no spread file */
+} group_roll;
+
 /* An inner node in a table. */
 typedef struct group_place {
   bs_node node;
   group_inner *inner;
 } group_place;
 
-/* A table of a group. `at`, `numbers` and `keep` are read and written with its latch. */
+/* A table of a group. `at`, `numbers`, `keep` and `dealt` are read and written with its latch. */
 typedef struct group_table {
   bs_table *table;
   bs_manager *manager;
@@ -83,6 +103,7 @@ typedef struct group_table {
   uint32_t keep;        /* how many intentions a commit keeps at most */
   uint32_t count, room; /* of inner nodes; the room is a power of two */
   uint32_t number;
+  uint64_t dealt;       /* bit b: a spread file has a file here whose key has the remainder b by 64 */
 } __attribute__((aligned(GROUP_LINE))) group_table;
 
 /* What rests in a part for the next transaction of a slot. */
@@ -117,6 +138,7 @@ struct bs_table_group {
   uint32_t stage;           /* atomic, of enum group_stage */
   size_t stride;            /* from a slot to the next */
   unsigned char *slots;
+  group_roll *roll;         /* atomic; null if there is no spread file. It is changed with all latches */
   void *slots_block;
   uint64_t *seen;           /* with the main table's latch, as up to `faults`: bits by number, none between two uses */
   uint32_t *strong;         /* numbers */
@@ -155,6 +177,32 @@ static inline bool group_is_node(bs_node one, bs_node other) {
   return one.key == other.key && one.birth == other.birth;
 }
 
+/* The files of the inner node that has this number; null if it is no spread file. */
+static inline group_files *group_files_at(const bs_table_group *group, size_t number) {
+  const group_roll *roll = __atomic_load_n(&group->roll, __ATOMIC_ACQUIRE);
+  if (roll == NULL || number >= roll->room) return NULL;
+  return __atomic_load_n(&roll->at[number], __ATOMIC_ACQUIRE);
+}
+
+/* The files of the spread file that has this name; null if none has. */
+static inline const group_files *group_files_named(const bs_table_group *group, bs_node node) {
+  const group_files *files = group_files_at(group, node.key);
+  return files != NULL && group_is_node(files->node, node) ? files : NULL;
+}
+
+/* The part of a row of a spread file: the numbers are multiplied by an odd one, and each part has an equal range of the
+ * upper halves of the products. So it has an even share of numbers that follow each other, or that have equal steps. */
+static inline uint32_t group_part_of_row(uint64_t number, uint32_t parts) {
+  uint64_t half = number * UINT64_C(0x9E3779B97F4A7C15) >> 32;
+  return (uint32_t)(half * parts >> 32) + 1;
+}
+
+/* The file that has a row: of a spread file the one in the row's part, else the file that is named. */
+static inline bs_node group_file_of(const bs_table_group *group, bs_node file, uint64_t number) {
+  const group_files *files = bs_group_table(file) == 0 ? group_files_named(group, file) : NULL;
+  return files == NULL ? file : files->in[group_part_of_row(number, group->parts)];
+}
+
 /* The inner node that has this name in the table; null if none has. */
 static group_inner *group_inner_of(const group_table *t, bs_node node) {
   size_t place;
@@ -191,6 +239,16 @@ static bs_node group_name_here(const group_table *t, bs_node node) {
   name.key = inner != NULL ? inner->number : (size_t)t->number << 32 | node.key;
   name.birth = inner != NULL ? inner->birth : node.birth;
   return name;
+}
+
+/* Whether a node of a table, whose latch is held, is the file there of a spread file. */
+static GROUP_APART bool group_finds_dealt(const bs_table_group *group, const group_table *t, bs_node there) {
+  const group_inner *above = group_inner_of(t, bs_parent(t->manager, there, 0).node);
+  return above != NULL && group_files_at(group, above->number) != NULL;
+}
+
+static inline bool group_is_dealt(const bs_table_group *group, const group_table *t, bs_node there) {
+  return (t->dealt >> there.key % 64 & 1) != 0 && group_finds_dealt(group, t, there);
 }
 
 /* Releases the latch of a table after a call that was answered so, whose node gets its name in the group. */
@@ -317,16 +375,30 @@ static bs_table_group *group_new(uint32_t parts, uint32_t most) {
   return group;
 }
 
+/* Frees the roll of spread files, and those that it has replaced. */
+static void group_free_rolls(bs_table_group *group) {
+  group_roll *roll = group->roll;
+  while (roll != NULL) {
+    group_roll *before = roll->before;
+    free(roll);
+    roll = before;
+  }
+}
+
 /* Frees a group whose tables were ended, or were not made. */
 static void group_free_group(bs_table_group *group) {
   group_table *main = &group->tables[0];
   uint32_t number;
-  for (number = 0; number < main->count; number++) free(main->at[number].inner);
+  for (number = 0; number < main->count; number++) {
+    free(group_files_at(group, number));
+    free(main->at[number].inner);
+  }
   for (number = 0; number <= group->parts; number++) {
     group_table *t = &group->tables[number];
     if (t->table != NULL) bs_table_free(&t->table);
     group_free_places(t);
   }
+  group_free_rolls(group);
   free(group->seen);
   free(group->strong);
   free(group->slots_block);
@@ -486,15 +558,16 @@ static bool group_make_scratch(bs_table_group *group) {
   return true;
 }
 
-/* Why there cannot be one more inner node, with all latches held; makes room for it in all tables. */
-static bs_status group_no_room(bs_table_group *group) {
+/* Why there cannot be one more inner node, which takes so many nodes in each part, with all latches held; makes room for
+ * it in all tables. */
+static bs_status group_no_room(bs_table_group *group, uint64_t nodes) {
   uint32_t number;
   for (number = 0; number <= group->parts; number++) {
     if (!group->tables[number].manager->is_open) return BS_NO_MANAGER;
   }
   for (number = 0; number <= group->parts; number++) {
     const bs_manager *m = group->tables[number].manager;
-    if (number > 0 && bs_len(m).count >= bs_call_most_nodes(m).count) return BS_TOO_MANY_NODES;
+    if (number > 0 && bs_len(m).count + nodes > bs_call_most_nodes(m).count) return BS_TOO_MANY_NODES;
   }
   if (!group_make_scratch(group)) return BS_NO_MEMORY;
   for (number = 0; number <= group->parts; number++) {
@@ -503,14 +576,47 @@ static bs_status group_no_room(bs_table_group *group) {
   return BS_DONE;
 }
 
+/* Makes a roll that has a place for the next inner node; false if memory is refused. */
+static bool group_make_roll(bs_table_group *group) {
+  const group_table *main = &group->tables[0];
+  group_roll *old = group->roll, *roll;
+  if (old != NULL && main->count < old->room) return true;
+  roll = (group_roll *)group_zero(sizeof *roll + main->room * sizeof roll->at[0]);
+  if (roll == NULL) return false;
+  if (old != NULL) memcpy(roll->at, old->at, old->room * sizeof roll->at[0]);
+  roll->before = old;
+  roll->room = main->room;
+  __atomic_store_n(&group->roll, roll, __ATOMIC_RELEASE);
+  return true;
+}
+
+/* What the next inner node needs to be a spread file, with a place for it; null if memory is refused. */
+static group_files *group_new_files(bs_table_group *group) {
+  if (!group_make_roll(group)) return NULL;
+  return (group_files *)group_zero(sizeof(group_files) + (group->parts + 1) * sizeof(bs_node));
+}
+
+/* Makes an inner node in a table, and its file there if it is a spread file; else `files` is null. */
+static bs_reply group_add_there(group_table *t, const bs_node *parents, size_t count, group_files *files) {
+  bs_node there[BS_MOST_PARENTS];
+  bs_reply reply, file;
+  group_parents_there(t, parents, count, there);
+  reply = bs_add_inner(t->manager, there, count);
+  if (reply.status != BS_DONE || files == NULL || t->number == 0) return reply;
+  file = bs_add_row_file(t->manager, &reply.node, 1);
+  files->in[t->number] = group_name_here(t, file.node);
+  t->dealt |= (uint64_t)1 << file.node.key % 64;
+  return file.status == BS_DONE ? reply : file;
+}
+
 /* Makes an inner node in all tables, up to the first that refuses it, with all latches held. */
-static bs_reply group_add_in_all(bs_table_group *group, group_inner *inner, const bs_node *parents, size_t count) {
-  bs_node there[BS_MOST_PARENTS], nodes[BS_MOST_PARTS + 1];
+static bs_reply group_add_in_all(bs_table_group *group, group_inner *inner, const bs_node *parents, size_t count,
+                                 group_files *files) {
+  bs_node nodes[BS_MOST_PARTS + 1];
   bs_reply reply = group_only(BS_DONE);
   uint32_t number;
   for (number = 0; number <= group->parts; number++) {
-    group_parents_there(&group->tables[number], parents, count, there);
-    reply = bs_add_inner(group->tables[number].manager, there, count);
+    reply = group_add_there(&group->tables[number], parents, count, files);
     if (reply.status != BS_DONE) return reply;
     nodes[number] = reply.node;
   }
@@ -522,24 +628,55 @@ static bs_reply group_add_in_all(bs_table_group *group, group_inner *inner, cons
     group_enlist(t, t->count++);
   }
   reply.node = group_name_here(&group->tables[0], nodes[0]);
+  if (files == NULL) return reply;
+  files->node = reply.node;
+  __atomic_store_n(&group->roll->at[inner->number], files, __ATOMIC_RELEASE);
+  return reply;
+}
+
+/* Makes an inner node for which there is room. */
+static bs_reply group_make_inner(bs_table_group *group, const bs_node *parents, size_t count, bool is_spread) {
+  group_files *files = is_spread ? group_new_files(group) : NULL;
+  group_inner *inner = group_new_inner(group, parents, count);
+  bs_reply reply = group_only(BS_NO_MEMORY);
+  if (inner != NULL && (files != NULL || !is_spread)) reply = group_add_in_all(group, inner, parents, count, files);
+  if (reply.status == BS_DONE) return reply;
+  free(inner);
+  free(files);
+  return reply;
+}
+
+/* Whether one of these parents is a spread file, below which nobody makes a node. */
+static bool group_any_is_spread(const bs_table_group *group, const bs_node *parents, size_t count) {
+  size_t i;
+  for (i = 0; i < count; i++) {
+    if (group_files_named(group, parents[i]) != NULL) return true;
+  }
+  return false;
+}
+
+/* Makes an inner node, which is a spread file or not. */
+static bs_reply group_add_inner_by(bs_table_group *group, const bs_node *parents, size_t count, bool is_spread) {
+  bs_status status = group_bad_parents(parents, count), shut = group_shut(group);
+  bs_reply reply;
+  if (shut == BS_NULL_POINTER || status == BS_NULL_POINTER) return bs_call_null();
+  if (status == BS_DONE) status = shut;
+  if (status == BS_DONE && group_any_is_spread(group, parents, count)) status = BS_BAD_PARENTS;
+  if (status == BS_DONE && is_spread && count == 0) status = BS_BAD_PARENTS;
+  if (status != BS_DONE) return group_only(status);
+  group_take_all(group);
+  reply = group_only(group_no_room(group, is_spread ? 2 : 1));
+  if (reply.status == BS_DONE) reply = group_make_inner(group, parents, count, is_spread);
+  group_release_all(group);
   return reply;
 }
 
 bs_reply bs_group_add_inner(bs_table_group *group, const bs_node *parents, size_t count) {
-  bs_status status = group_bad_parents(parents, count), shut = group_shut(group);
-  group_inner *inner;
-  bs_reply reply;
-  if (shut == BS_NULL_POINTER || status == BS_NULL_POINTER) return bs_call_null();
-  if (status != BS_DONE || shut != BS_DONE) return group_only(status != BS_DONE ? status : shut);
-  group_take_all(group);
-  reply = group_only(group_no_room(group));
-  if (reply.status == BS_DONE) {
-    inner = group_new_inner(group, parents, count);
-    reply = inner == NULL ? group_only(BS_NO_MEMORY) : group_add_in_all(group, inner, parents, count);
-    if (reply.status != BS_DONE) free(inner);
-  }
-  group_release_all(group);
-  return reply;
+  return group_add_inner_by(group, parents, count, false);
+}
+
+bs_reply bs_group_add_spread_file(bs_table_group *group, const bs_node *parents, size_t count) {
+  return group_add_inner_by(group, parents, count, true);
 }
 
 /* The next part by turns. */
@@ -555,7 +692,9 @@ static bs_reply group_add_file_by(bs_reply (*add)(bs_manager *manager, const bs_
   group_table *t;
   if (shut == BS_NULL_POINTER || status == BS_NULL_POINTER) return bs_call_null();
   if (status == BS_DONE && part > group->parts) status = BS_BAD_NUMBER;
-  if (status != BS_DONE || shut != BS_DONE) return group_only(status != BS_DONE ? status : shut);
+  if (status == BS_DONE) status = shut;
+  if (status == BS_DONE && group_any_is_spread(group, parents, count)) status = BS_BAD_PARENTS;
+  if (status != BS_DONE) return group_only(status);
   t = &group->tables[part == 0 ? group_next_part(group) : part];
   if (!bs_inside_enter(t->table)) return group_only(BS_NO_MANAGER);
   group_parents_there(t, parents, count, there);
@@ -593,13 +732,13 @@ static bs_status group_part_of(bs_table_group *group, bs_node node, bs_status in
   return status == BS_DONE ? inner : status;
 }
 
-/* Leaves a part after a call for an index of a file that was answered so. If it was made, each sleep for a row of the
- * file ends. */
+/* Leaves a part after a call for an index of a file that was answered so. If it was made, each sleep that lacks a key for
+ * it ends. */
 static bs_reply group_indexed(bs_table_group *group, const group_table *t, bs_node file, bs_reply reply) {
   uint32_t slot;
   for (slot = 0; reply.status == BS_DONE && slot < group->most; slot++) {
-    const bs_target *target = &group_slot_at(group, slot)->target;
-    if (!bs_inside_sleeps(t->table, slot) || target->rows == 0 || !group_is_node(target->node, file)) continue;
+    if (!bs_inside_sleeps(t->table, slot)) continue;
+    if (bs_lacks_key(group_slot_at(group, slot)->target, file).count == 0) continue;
     bs_inside_end_sleep(t->table, slot, BS_BAD_KEYS);
   }
   return group_leave(t, reply);
@@ -619,10 +758,12 @@ bs_reply bs_group_add_index(bs_table_group *group, const bs_node *parents, size_
   if (shut == BS_NULL_POINTER || status == BS_NULL_POINTER) return bs_call_null();
   if (status == BS_DONE) status = shut;
   if (status == BS_DONE) status = group_part_of(group, file, BS_BAD_PARENTS, &t);
+  if (status == BS_DONE && group_any_is_spread(group, parents, count)) status = BS_BAD_PARENTS;
   if (status != BS_DONE) return group_only(status);
   if (!bs_inside_enter(t->table)) return group_only(BS_NO_MANAGER);
-  group_parents_there(t, parents, count, there);
   name = group_name_there(t, file);
+  if (group_is_dealt(group, t, name)) return group_leave(t, group_only(BS_BAD_PARENTS));
+  group_parents_there(t, parents, count, there);
   return group_indexed(group, t, name, bs_add_index(t->manager, there, count, name, bounds, bound_count));
 }
 
@@ -714,7 +855,7 @@ static bs_reply group_take_up(group_slot *own, group_table *t) {
   own->resting &= ~((uint64_t)1 << t->number);
   reply = bs_call_wake(t->manager, rests);
   if (reply.status != BS_DONE) return group_only(BS_NO_PLACE);
-  if (own->since == own->age) {
+  if (bs_takes_up(own->age, own->since)) {
     reply.txn = rests;
     return reply;
   }
@@ -1077,9 +1218,8 @@ static bs_reply group_let_rest(bs_table_group *group, group_slot *own, const gro
 
 /* Ends it in a part, whose latch is held. */
 static bs_reply group_end_in(bs_table_group *group, group_slot *own, const group_table *t, bool commits) {
-  if (!commits) return bs_inside_abort(t->table, own->in[t->number]);
-  if (t->keep != 0 && t->marks == 0) return group_let_rest(group, own, t);
-  return bs_inside_commit(t->table, own->in[t->number]);
+  if (bs_may_rest(commits, t->keep, t->marks_at, t->marks)) return group_let_rest(group, own, t);
+  return (commits ? bs_inside_commit : bs_inside_abort)(t->table, own->in[t->number]);
 }
 
 /* Ends it in all parts. */
@@ -1261,20 +1401,29 @@ static inline bool group_reach_in(bs_table_group *group, bs_txn txn, bs_node fil
   return true;
 }
 
+/* Whether this was given as the file of a row, by this name in the part, and is the file there of a spread file, whose
+ * own name must be given. */
+static inline bool group_is_misnamed(const bs_table_group *group, const group_call *call, bs_node file, bs_node there) {
+  return bs_group_table(file) != 0 && group_is_dealt(group, call->at, there);
+}
+
 /* Locks a row with what must be held above it. */
 static inline bs_reply group_row_path(bs_table_group *group, bs_txn txn, bs_node file, uint64_t number,
                                       const uint64_t *keys, size_t count, bs_mode mode, const group_manner *manner) {
   bs_status status = group_bad_call(group, mode, manner);
   group_call call;
   bs_reply reply;
+  bs_node of, there;
   if (keys == NULL && count != 0) status = BS_NULL_POINTER;
   if (status != BS_DONE) return group_only(status);
-  if (!group_reach_in(group, txn, file, BS_NOT_ROWS, mode, manner, &call, &reply)) return reply;
-  file = group_name_there(call.at, file);
+  of = group_file_of(group, file, number);
+  if (!group_reach_in(group, txn, of, BS_NOT_ROWS, mode, manner, &call, &reply)) return reply;
+  there = group_name_there(call.at, of);
+  if (group_is_misnamed(group, &call, file, there)) return group_leave(call.at, group_only(BS_NOT_ROWS));
   if (manner->may_sleep) {
-    reply = bs_inside_row_path(call.table, call.txn, file, number, keys, count, mode, manner->until);
+    reply = bs_inside_row_path(call.table, call.txn, there, number, keys, count, mode, manner->until);
   } else {
-    reply = bs_inside_try_row_path(call.table, call.txn, file, number, keys, count, mode, manner->keep);
+    reply = bs_inside_try_row_path(call.table, call.txn, there, number, keys, count, mode, manner->keep);
   }
   return group_requested(call.own, call.at, reply);
 }
@@ -1291,14 +1440,19 @@ bs_reply bs_group_try_row_path(bs_table_group *group, bs_txn txn, bs_node file, 
   return group_row_path(group, txn, file, number, keys, count, mode, &manner);
 }
 
+/* Why an inner node has no records. */
+static bs_status group_no_records(const bs_table_group *group, bs_node node) {
+  return group != NULL && group_files_named(group, node) != NULL ? BS_ROWS_BY_NUMBER : BS_BAD_PARENTS;
+}
+
 bs_reply bs_group_insert(bs_table_group *group, bs_txn txn, bs_node file, const uint64_t *keys, size_t count) {
   group_manner manner = group_tries(BS_KEEP_NOTHING);
-  bs_status status = group_bad_call(group, BS_X, &manner);
+  bs_status status = group_bad_call(group, BS_X, &manner), inner = group_no_records(group, file);
   group_call call;
   bs_reply reply;
   if (keys == NULL && count != 0) status = BS_NULL_POINTER;
   if (status != BS_DONE) return group_only(status);
-  if (!group_reach_in(group, txn, file, BS_BAD_PARENTS, BS_X, &manner, &call, &reply)) return reply;
+  if (!group_reach_in(group, txn, file, inner, BS_X, &manner, &call, &reply)) return reply;
   return group_leave(call.at, bs_inside_insert(call.table, call.txn, group_name_there(call.at, file), keys, count));
 }
 
@@ -1329,11 +1483,24 @@ bs_reply bs_group_unlock(bs_table_group *group, bs_txn txn, bs_node node) {
   return group_released(&call, bs_inside_unlock(call.table, call.txn, group_name_there(call.at, node)));
 }
 
+/* The same for a call about a row; the name of its file in the part in `there`. */
+static bs_status group_enter_row(bs_table_group *group, bs_txn txn, bs_node file, uint64_t number, group_call *call,
+                                 bs_node *there) {
+  bs_node of = group == NULL ? file : group_file_of(group, file, number);
+  bs_status status = group_enter(group, txn, of, BS_NOT_ROWS, call);
+  if (status != BS_DONE) return status;
+  *there = group_name_there(call->at, of);
+  if (!group_is_misnamed(group, call, file, *there)) return BS_DONE;
+  bs_inside_release(call->table);
+  return BS_NOT_ROWS;
+}
+
 bs_reply bs_group_unlock_row(bs_table_group *group, bs_txn txn, bs_node file, uint64_t number) {
   group_call call;
-  bs_status status = group_enter(group, txn, file, BS_NOT_ROWS, &call);
+  bs_node there;
+  bs_status status = group_enter_row(group, txn, file, number, &call, &there);
   if (status != BS_DONE) return group_only(status);
-  return group_leave(call.at, bs_inside_unlock_row(call.table, call.txn, group_name_there(call.at, file), number));
+  return group_leave(call.at, bs_inside_unlock_row(call.table, call.txn, there, number));
 }
 
 bs_reply bs_group_escalate(bs_table_group *group, bs_txn txn, bs_node node) {
@@ -1362,32 +1529,32 @@ bs_reply bs_group_rekey(bs_table_group *group, bs_txn txn, bs_node record, bs_no
 bs_reply bs_group_rekey_row(bs_table_group *group, bs_txn txn, bs_node file, uint64_t number, bs_node index,
                             uint64_t key) {
   group_call call;
-  bs_status status = group_enter(group, txn, file, BS_NOT_ROWS, &call);
   bs_node there, by;
+  bs_status status = group_enter_row(group, txn, file, number, &call, &there);
   if (status != BS_DONE) return group_only(status);
-  there = group_name_there(call.at, file);
   by = group_name_there(call.at, index);
   return group_leave(call.at, bs_inside_rekey_row(call.table, call.txn, there, number, by, key));
 }
 
-/* Enters the part of a node for a call of no transaction. */
-static bs_status group_enter_part(bs_table_group *group, bs_node node, group_table **t) {
+/* Enters the part of a node for a call of no transaction; an inner node is refused so. */
+static bs_status group_enter_part(bs_table_group *group, bs_node node, bs_status inner, group_table **t) {
   bs_status status = group_shut(group);
-  if (status == BS_DONE) status = group_part_of(group, node, BS_BAD_PARENTS, t);
+  if (status == BS_DONE) status = group_part_of(group, node, inner, t);
   if (status == BS_DONE && !bs_inside_enter((*t)->table)) status = BS_NO_MANAGER;
   return status;
 }
 
 bs_reply bs_group_adopt(bs_table_group *group, bs_node file, const uint64_t *keys, size_t count) {
   group_table *t;
-  bs_status status = keys == NULL && count != 0 ? BS_NULL_POINTER : group_enter_part(group, file, &t);
+  bs_status status = keys == NULL && count != 0 ? BS_NULL_POINTER : BS_DONE;
+  if (status == BS_DONE) status = group_enter_part(group, file, group_no_records(group, file), &t);
   if (status != BS_DONE) return group_only(status);
   return group_leave(t, bs_adopt(t->manager, group_name_there(t, file), keys, count));
 }
 
 bs_reply bs_group_forget(bs_table_group *group, bs_node record) {
   group_table *t;
-  bs_status status = group_enter_part(group, record, &t);
+  bs_status status = group_enter_part(group, record, BS_BAD_PARENTS, &t);
   if (status != BS_DONE) return group_only(status);
   return group_leave(t, bs_forget(t->manager, group_name_there(t, record)));
 }
@@ -1399,8 +1566,11 @@ bs_reply bs_group_forget(bs_table_group *group, bs_node record) {
 bs_reply bs_group_drop(bs_table_group *group, bs_txn txn, bs_node node) {
   group_call call;
   bs_status status = group_enter(group, txn, node, BS_BAD_PARENTS, &call);
+  bs_node there;
   if (status != BS_DONE) return group_only(status);
-  return group_released(&call, bs_inside_drop(call.table, call.txn, group_name_there(call.at, node)));
+  there = group_name_there(call.at, node);
+  if (group_is_dealt(group, call.at, there)) return group_leave(call.at, group_only(BS_BAD_PARENTS));
+  return group_released(&call, bs_inside_drop(call.table, call.txn, there));
 }
 
 bs_reply bs_group_split(bs_table_group *group, bs_txn txn, bs_node interval, uint64_t at) {
@@ -1432,30 +1602,71 @@ static bs_reply group_intend(bs_table_group *group, const group_call *call, bs_n
   return group_leave(call->at, group_request(call->at, call->txn, target.node, BS_IX, &manner));
 }
 
+/* An index of a file that is to be made, beside these records; `there` has room for their names in the part. */
+typedef struct group_index {
+  const bs_node *parents;
+  size_t count;
+  bs_node file;
+  const uint64_t *bounds;
+  size_t bound_count;
+  const bs_node *records;
+  const uint64_t *keys;
+  size_t record_count;
+  bs_node *there;
+} group_index;
+
 /* Makes an index with what the transaction holds: BS_NEED_PARENTS names an inner node that it lacks in the part. */
-static bs_reply group_index_by_once(bs_table_group *group, const group_call *call, const bs_node *parents,
-                                    size_t count, bs_node file, const uint64_t *bounds, size_t bound_count) {
-  bs_node there[BS_MOST_PARENTS], name = group_name_there(call->at, file);
-  bs_reply reply;
-  group_parents_there(call->at, parents, count, there);
-  reply = bs_inside_index_by(call->table, call->txn, there, count, name, bounds, bound_count);
-  return group_indexed(group, call->at, name, reply);
+static bs_reply group_index_once(bs_table_group *group, const group_call *call, const group_index *index) {
+  bs_node above[BS_MOST_PARENTS], file = group_name_there(call->at, index->file);
+  bs_reply reply = group_only(BS_BAD_PARENTS);
+  size_t i;
+  if (group_any_is_spread(group, index->parents, index->count)) return group_leave(call->at, reply);
+  if (group_is_dealt(group, call->at, file)) return group_leave(call->at, reply);
+  group_parents_there(call->at, index->parents, index->count, above);
+  for (i = 0; i < index->record_count; i++) index->there[i] = group_name_there(call->at, index->records[i]);
+  reply = bs_inside_index_records(call->table, call->txn, above, index->count, file, index->bounds, index->bound_count,
+                                  index->there, index->keys, index->record_count);
+  return group_indexed(group, call->at, file, reply);
 }
 
-bs_reply bs_group_index_by(bs_table_group *group, bs_txn txn, const bs_node *parents, size_t count, bs_node file,
-                           const uint64_t *bounds, size_t bound_count) {
-  bs_status status = group == NULL ? BS_NULL_POINTER : group_bad_index(parents, count, bounds, bound_count);
+static bs_reply group_make_index(bs_table_group *group, bs_txn txn, const group_index *index) {
   group_call call;
   bs_reply reply;
-  if (status != BS_DONE) return group_only(status);
   for (;;) {
-    status = group_enter(group, txn, file, BS_BAD_PARENTS, &call);
+    bs_status status = group_enter(group, txn, index->file, BS_BAD_PARENTS, &call);
     if (status != BS_DONE) return group_only(status);
-    reply = group_index_by_once(group, &call, parents, count, file, bounds, bound_count);
+    reply = group_index_once(group, &call, index);
     if (reply.status != BS_NEED_PARENTS) return reply;
     reply = group_intend(group, &call, reply.node);
     if (reply.status != BS_DONE) return reply;
   }
+}
+
+/* Room for so many names; null if memory is refused. */
+static bs_node *group_room_for_names(size_t count) {
+  return count > SIZE_MAX / sizeof(bs_node) ? NULL : (bs_node *)malloc(count * sizeof(bs_node));
+}
+
+bs_reply bs_group_index_records(bs_table_group *group, bs_txn txn, const bs_node *parents, size_t count, bs_node file,
+                                const uint64_t *bounds, size_t bound_count, const bs_node *records,
+                                const uint64_t *keys, size_t record_count) {
+  group_index index = { parents, count, file, bounds, bound_count, records, keys, record_count, NULL };
+  bs_status status = group_bad_index(parents, count, bounds, bound_count);
+  bs_reply reply;
+  if (group == NULL || ((records == NULL || keys == NULL) && record_count != 0)) status = BS_NULL_POINTER;
+  if (status == BS_DONE && record_count != 0) {
+    index.there = group_room_for_names(record_count);
+    if (index.there == NULL) status = BS_NO_MEMORY;
+  }
+  if (status != BS_DONE) return group_only(status);
+  reply = group_make_index(group, txn, &index);
+  free(index.there);
+  return reply;
+}
+
+bs_reply bs_group_index_by(bs_table_group *group, bs_txn txn, const bs_node *parents, size_t count, bs_node file,
+                           const uint64_t *bounds, size_t bound_count) {
+  return bs_group_index_records(group, txn, parents, count, file, bounds, bound_count, NULL, NULL, 0);
 }
 
 /* ------------------------------------------------------------------------------------------------
@@ -1507,6 +1718,14 @@ bs_reply bs_group_release_since(bs_table_group *group, bs_txn txn, const bs_grou
 /* ------------------------------------------------------------------------------------------------
  * Questions.
  */
+
+bs_reply bs_group_file_of_row(bs_table_group *group, bs_node file, uint64_t number) {
+  bs_reply reply = group_only(group_shut(group));
+  if (reply.status != BS_DONE) return reply;
+  if (group_files_named(group, file) == NULL) return group_only(BS_NOT_ROWS);
+  reply.node = group_file_of(group, file, number);
+  return reply;
+}
 
 /* The least mode that covers both. */
 static bs_mode group_join_modes(bs_mode one, bs_mode other) {

@@ -153,8 +153,9 @@ bs_reply bs_inside_release_since(bs_table *table, bs_txn txn, uint64_t savepoint
 bs_reply bs_inside_drop(bs_table *table, bs_txn txn, bs_node node);
 bs_reply bs_inside_split(bs_table *table, bs_txn txn, bs_node interval, uint64_t at);
 bs_reply bs_inside_merge(bs_table *table, bs_txn txn, bs_node interval);
-bs_reply bs_inside_index_by(bs_table *table, bs_txn txn, const bs_node *parents, size_t count, bs_node file,
-                            const uint64_t *bounds, size_t bound_count);
+bs_reply bs_inside_index_records(bs_table *table, bs_txn txn, const bs_node *parents, size_t count, bs_node file,
+                                 const uint64_t *bounds, size_t bound_count, const bs_node *records,
+                                 const uint64_t *keys, size_t record_count);
 bs_reply bs_inside_unlock_row(bs_table *table, bs_txn txn, bs_node file, uint64_t number);
 bs_reply bs_inside_rekey_row(bs_table *table, bs_txn txn, bs_node file, uint64_t number, bs_node index, uint64_t key);
 bs_reply bs_inside_escalate(bs_table *table, bs_txn txn, bs_node node);

@@ -1336,6 +1336,22 @@ bs_reply bs_table_index_by(bs_table *table, bs_txn txn, const bs_node *parents, 
   TABLE_ASK(table, table_make_index_by(table, txn, parents, count, file, bounds, bound_count));
 }
 
+/* An index beside records, with the latch held. A trace has no line for one. */
+static bs_reply table_index_records_now(bs_table *table, bs_txn txn, const bs_node *parents, size_t count, bs_node file,
+                                        const uint64_t *bounds, size_t bound_count, const bs_node *records,
+                                        const uint64_t *keys, size_t record_count) {
+  if (record_count == 0) return table_make_index_by(table, txn, parents, count, file, bounds, bound_count);
+  if (table->is_traced) return bs_call_only(BS_NOT_WRITTEN);
+  return bs_index_records(&table->manager, txn, parents, count, file, bounds, bound_count, records, keys, record_count);
+}
+
+bs_reply bs_table_index_records(bs_table *table, bs_txn txn, const bs_node *parents, size_t count, bs_node file,
+                                const uint64_t *bounds, size_t bound_count, const bs_node *records,
+                                const uint64_t *keys, size_t record_count) {
+  TABLE_ASK(table, table_index_records_now(table, txn, parents, count, file, bounds, bound_count, records, keys,
+                                           record_count));
+}
+
 /* ------------------------------------------------------------------------------------------------
  * Rows by the engine's own numbers.
  */
@@ -2544,9 +2560,10 @@ bs_reply bs_inside_merge(bs_table *table, bs_txn txn, bs_node interval) {
 }
 
 /* It tells nobody. */
-bs_reply bs_inside_index_by(bs_table *table, bs_txn txn, const bs_node *parents, size_t count, bs_node file,
-                            const uint64_t *bounds, size_t bound_count) {
-  return table_make_index_by(table, txn, parents, count, file, bounds, bound_count);
+bs_reply bs_inside_index_records(bs_table *table, bs_txn txn, const bs_node *parents, size_t count, bs_node file,
+                                 const uint64_t *bounds, size_t bound_count, const bs_node *records,
+                                 const uint64_t *keys, size_t record_count) {
+  return table_index_records_now(table, txn, parents, count, file, bounds, bound_count, records, keys, record_count);
 }
 
 bs_reply bs_inside_unlock_row(bs_table *table, bs_txn txn, bs_node file, uint64_t number) {

@@ -66,7 +66,7 @@ extern "C" {
 /* The version of these declarations. The first number rises if programs must be changed, or the second while the first
  * is 0. The second rises if something is added, the third if neither. */
 #define BS_VERSION_MAJOR 0
-#define BS_VERSION_MINOR 32
+#define BS_VERSION_MINOR 33
 #define BS_VERSION_PATCH 0
 
 /* How many transactions can live at once, and so how many notices a call can have. A library can be built for another
@@ -97,7 +97,7 @@ enum bs_statuses {
   BS_NOT_WAITING = 15,    /* the transaction waits for nothing */
   BS_NAME_TAKEN = 16,     /* not answered here: names are the manager's own */
   BS_FILE_IN_USE = 17,    /* the file has records; of bs_add_index: or a row had a node; of bs_drop: or indexes */
-  BS_BAD_KEYS = 18,       /* bounds that do not rise from above 0, too many, or not a key for each index */
+  BS_BAD_KEYS = 18,       /* bounds that do not rise from above 0, too many; not a key for each index, or record */
   BS_WORN_OUT = 19,       /* a counter has reached its end */
   BS_BAD_LINE = 20,       /* not answered here */
   BS_CYCLE = 21,          /* the new parent `node` is the node itself or is below it */
@@ -544,17 +544,18 @@ static inline bs_reply bs_drop(bs_manager *manager, bs_txn txn, bs_node node, bs
   return bs_call_lacks(manager, told) ? bs_call_null() : bs_call_drop(manager, txn, node, told);
 }
 
-/* Makes an index, in `node`, of a file that has no record now, with parents and bounds as bs_add_index takes them. It
- * is the last of the file's indexes. The transaction must hold BS_X on the file and BS_IX or more on each parent, each
- * by a lock on that node itself. It holds the index in BS_X from then on, so nobody locks by the new index until it
- * ends. Notifies nobody. Refused with BS_NO_SUCH_TXN, BS_TXN_WAITING, BS_TXN_CONDEMNED, BS_NO_SUCH_NODE, BS_BAD_PARENTS
- * (also if the file has 7 indexes), BS_NEED_EXCLUSIVE, BS_NEED_PARENTS, BS_FILE_IN_USE, BS_BAD_KEYS, BS_TOO_MANY_NODES
- * (its intervals count); with BS_BAD_NUMBER, first of all, if there are more than 8 parents. Takes memory. Costs a step
- * for each bound. */
+/* Makes an index, in `node`, of a file that has no record now, with parents and bounds as bs_add_index takes them. If
+ * the file has records, bs_index_records makes one (burlapslate_splits.h). It is the last of the file's indexes. The
+ * transaction must hold BS_X on the file and BS_IX or more on each parent, each by a lock on that node itself. It holds
+ * the index in BS_X from then on, so nobody locks by the new index until it ends. Notifies nobody. Refused with
+ * BS_NO_SUCH_TXN, BS_TXN_WAITING, BS_TXN_CONDEMNED, BS_NO_SUCH_NODE, BS_BAD_PARENTS (also if the file has 7 indexes),
+ * BS_NEED_EXCLUSIVE, BS_NEED_PARENTS, BS_FILE_IN_USE, BS_BAD_KEYS, BS_TOO_MANY_NODES (its intervals count); with
+ * BS_BAD_NUMBER, first of all, if there are more than 8 parents. Takes memory. Costs a step for each bound. */
 static inline bs_reply bs_index_by(bs_manager *manager, bs_txn txn, const bs_node *parents, size_t count, bs_node file,
                                    const uint64_t *bounds, size_t bound_count) {
   if (manager == NULL || (parents == NULL && count != 0) || (bounds == NULL && bound_count != 0)) return bs_call_null();
-  return bs_call_index_by(manager, txn, bs_call_nodes(parents), count, file, bs_call_numbers(bounds), bound_count);
+  return bs_call_index_by(manager, txn, bs_call_nodes(parents), count, file, bs_call_numbers(bounds), bound_count,
+                          bs_call_nodes(NULL), 0, bs_call_numbers(NULL), 0);
 }
 
 /* ------------------------------------------------------------------------------------------------

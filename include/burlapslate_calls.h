@@ -72,7 +72,8 @@ bs_reply bs_call_drop(bs_manager *manager, bs_txn txn, bs_node node, bs_notices 
 bs_reply bs_call_split(bs_manager *manager, bs_txn txn, bs_node interval, uint64_t at, bs_notices *told);
 bs_reply bs_call_merge(bs_manager *manager, bs_txn txn, bs_node interval, bs_notices *told);
 bs_reply bs_call_index_by(bs_manager *manager, bs_txn txn, const bs_node *parents, size_t count, bs_node file,
-                          const uint64_t *bounds, size_t bound_count);
+                          const uint64_t *bounds, size_t bound_count, const bs_node *records, size_t record_count,
+                          const uint64_t *keys, size_t key_count);
 bs_reply bs_call_lock_row(bs_manager *manager, bs_txn txn, bs_node file, uint64_t number, const uint64_t *keys,
                           size_t count, bs_mode mode, bs_notices *told);
 bs_reply bs_call_try_row(bs_manager *manager, bs_txn txn, bs_node file, uint64_t number, const uint64_t *keys,
@@ -125,6 +126,9 @@ bs_reply bs_call_path_lacks(const bs_manager *manager, const bs_manager *part, u
                             const struct bs_target *target, const struct bs_marked *marks, size_t count);
 bs_reply bs_call_path_lacks_there(const bs_manager *part, uint32_t slot, const struct bs_target *target,
                                   const struct bs_marked *marks, size_t count);
+bs_reply bs_call_lacks_key(const struct bs_target *target, bs_node file);
+uint32_t bs_call_may_rest(uint32_t commits, uint64_t most, const struct bs_marked *marks, size_t count);
+uint32_t bs_call_takes_up(uint64_t age, uint64_t since);
 void bs_call_join_board(bs_board *joined, const bs_board *added);
 bs_reply bs_call_last_deadlock(const bs_manager *manager, bs_deadlock *deadlock);
 bs_reply bs_call_counters(const bs_manager *manager, bs_counts *counts);

@@ -16,6 +16,14 @@
  * first of them, also if it has BS_S or more on another. And a lock of an inner node in BS_IS or BS_IX is made in the
  * main table: none is needed, since locks below bring their own.
  *
+ * SPREAD FILES. A spread file has its rows in all parts, so that threads that lock rows of one file work in different
+ * parts too. It is an inner node with a file of rows below it in each part. Its rows are dealt to the parts by their
+ * numbers: each part has an even share, also of rows that follow each other. Calls about a row take the name of the
+ * spread file, and are made in the row's part. To lock all rows, lock the spread file itself, as any inner node. It has
+ * no indexes, its rows have no keys, and no other node is made below it. Its file in one part, which
+ * bs_group_file_of_row names, can be locked and escalated alone. A transaction acquires the intentions above its rows in
+ * each of their parts, unless they were kept there (bs_group_keep): without that, short transactions cost twice as much.
+ *
  * WHAT YOU KEEP. What burlapslate_shared.h asks of pointers, memory and threads holds here too. The calls of one
  * transaction, its commit and its abort among them, come from one thread at a time. Names of nodes and transactions are
  * the group's own: use them with no table and no other group.
@@ -31,9 +39,12 @@
  *   - BS_TXN_CONDEMNED: the transaction fell, to end a deadlock, and can only abort;
  *   - BS_NO_SUCH_NODE: the name names no table of the group, or no node there.
  * An inner node in place of a file, an index, an interval or a record is refused with BS_BAD_PARENTS, or, as a file of
- * rows, with BS_NOT_ROWS. Two tables share no node but the inner ones: an index of another part than its file's, for
- * example, is refused with BS_NO_SUCH_NODE. A call that acquires something in the main table first can be refused after
- * that, as for keys that the file cannot have; what it acquired above the node stays.
+ * rows, with BS_NOT_ROWS. So is a spread file, except as the file of a row; as a parent it is refused with
+ * BS_BAD_PARENTS, and a record of it with BS_ROWS_BY_NUMBER, as of any file of rows. Its file in a part is refused with
+ * BS_NOT_ROWS as the file of a row, and with BS_BAD_PARENTS by the calls that would drop it or give it an index. Two
+ * tables share no node but the inner ones: an index of another part than its file's, for example, is refused with
+ * BS_NO_SUCH_NODE. A call that acquires something in the main table first can be refused after that, as for keys that
+ * the file cannot have; what it acquired above the node stays.
  *
  * DEADLOCKS. A cycle of waits within one table is ended by that table, as it arises. A cycle over several tables is
  * ended by a thread that sleeps: it looks after 2 ms, and then after twice as long each time, up to 256 ms, if any
@@ -113,6 +124,11 @@ bs_reply bs_group_add_inner(bs_table_group *group, const bs_node *parents, size_
 bs_reply bs_group_add_file(bs_table_group *group, uint32_t part, const bs_node *parents, size_t count);
 bs_reply bs_group_add_row_file(bs_table_group *group, uint32_t part, const bs_node *parents, size_t count);
 
+/* Makes a spread file in all parts, and answers its inner node. Costs the latches of all tables at once. Refused as
+ * bs_group_add_inner, and with BS_BAD_PARENTS also without parents. After BS_NO_MEMORY some tables may keep nodes that
+ * nobody can name. */
+bs_reply bs_group_add_spread_file(bs_table_group *group, const bs_node *parents, size_t count);
+
 /* Makes an index in the part of its file. If it is made, each call that waits for a row of the file is answered
  * BS_BAD_KEYS: it has no key for the index. */
 bs_reply bs_group_add_index(bs_table_group *group, const bs_node *parents, size_t count, bs_node file,
@@ -158,7 +174,7 @@ bs_reply bs_group_keep(bs_table_group *group, uint32_t most);
 bs_reply bs_group_lock_path(bs_table_group *group, bs_txn txn, bs_node node, bs_mode mode,
                             const struct timespec *until);
 
-/* As bs_table_lock_row_path. */
+/* As bs_table_lock_row_path. `file` may be a spread file here, and in each call about a row. */
 bs_reply bs_group_lock_row_path(bs_table_group *group, bs_txn txn, bs_node file, uint64_t number, const uint64_t *keys,
                                 size_t count, bs_mode mode, const struct timespec *until);
 
@@ -173,7 +189,8 @@ bs_reply bs_group_try_row_path(bs_table_group *group, bs_txn txn, bs_node file, 
 bs_reply bs_group_unlock(bs_table_group *group, bs_txn txn, bs_node node);
 bs_reply bs_group_unlock_row(bs_table_group *group, bs_txn txn, bs_node file, uint64_t number);
 
-/* As bs_table_escalate, of a file, an index or an interval; refused with BS_BAD_PARENTS also for an inner node. */
+/* As bs_table_escalate, of a file, an index or an interval; refused with BS_BAD_PARENTS also for an inner node. In place
+ * of a spread file, escalate its files in parts, or lock the spread file itself in BS_S or BS_X. */
 bs_reply bs_group_escalate(bs_table_group *group, bs_txn txn, bs_node node);
 
 /* Writes a savepoint of a transaction: for each part that it has joined, what bs_mark answers there. It is valid as long
@@ -220,6 +237,13 @@ bs_reply bs_group_drop(bs_table_group *group, bs_txn txn, bs_node node);
 bs_reply bs_group_index_by(bs_table_group *group, bs_txn txn, const bs_node *parents, size_t count, bs_node file,
                            const uint64_t *bounds, size_t bound_count);
 
+/* As bs_table_index_records: `records` are names of the group, and one of another part is refused with BS_BAD_KEYS. The
+ * transaction must hold BS_X on the file and on each index of it; a parent that it lacks, and sleeps for rows, are as of
+ * bs_group_index_by. Takes memory for the names too. */
+bs_reply bs_group_index_records(bs_table_group *group, bs_txn txn, const bs_node *parents, size_t count, bs_node file,
+                                const uint64_t *bounds, size_t bound_count, const bs_node *records,
+                                const uint64_t *keys, size_t record_count);
+
 /* As bs_table_split and bs_table_merge. */
 bs_reply bs_group_split(bs_table_group *group, bs_txn txn, bs_node interval, uint64_t at);
 bs_reply bs_group_merge(bs_table_group *group, bs_txn txn, bs_node interval);
@@ -233,6 +257,10 @@ bs_reply bs_group_merge(bs_table_group *group, bs_txn txn, bs_node interval);
  * Of an inner node it costs the latches of the main table and of the transaction's parts, one after the other; of
  * another node that of its part. Also of a transaction that fell. Refused with BS_NO_SUCH_TXN, BS_NO_SUCH_NODE. */
 bs_reply bs_group_held(bs_table_group *group, bs_txn txn, bs_node node);
+
+/* The file in a part that has a row of a spread file, by the row's number, in `node`. It can be locked, tried, unlocked
+ * and escalated, for the rows of that part. Costs no latch. Refused with BS_NOT_ROWS if `file` is no spread file. */
+bs_reply bs_group_file_of_row(bs_table_group *group, bs_node file, uint64_t number);
 
 /* What the tables of the group have done since it was made, written into `counts`: the sums of what bs_counters tells
  * of each; `most_waiting` and `longest_queue` are the greatest of one table. Copies in the main table count too. Costs

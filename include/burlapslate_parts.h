@@ -93,6 +93,31 @@ static inline bs_reply bs_path_lacks(const bs_manager *manager, const bs_manager
   return manager == part ? bs_call_only(BS_IN_USE) : bs_call_path_lacks(manager, part, slot, &target, marks, count);
 }
 
+/* Whether a call that waits for this target lacks a key after an index of the file was made, in `count`: 1 if it waits
+ * for a row of that file, else 0. A path to write the row passes the index too, and what is above it; each other path
+ * passes what it passed before. Refused with BS_BAD_NUMBER if there is no such mode. */
+static inline bs_reply bs_lacks_key(bs_target target, bs_node file) {
+  return bs_call_lacks_key(&target, file);
+}
+
+/* Whether a transaction that ends in a part may leave locks there that rest for the next transaction of its slot, at most
+ * so many, if the part is marked for these nodes: it commits, some are to be kept, and there is no mark. What rests
+ * belongs to no transaction of the main manager; and on a node for which a part is marked every transaction holds there
+ * what it holds in the part. So release all that rests in a part before you mark it. */
+static inline bool bs_may_rest(bool commits, uint64_t most, const bs_marked *marks, size_t count) {
+  static const bs_marked none = { { 0, 0 }, { 0, 0 } };
+  if (marks == NULL && count != 0) return false;
+  return bs_call_may_rest(commits, most, marks == NULL ? &none : marks, count) != 0;
+}
+
+/* Whether a transaction takes up what rests for its slot, by its own age and `since`: if its work began with it. What is
+ * to rest is given the next age of its slot as its `since`, and has its age in the part if that is smaller. So it is at
+ * most the `since` of the transaction that takes it up; and a transaction that was in the part, with a `since` below that
+ * age, is never the victim in its place. */
+static inline bool bs_takes_up(uint64_t age, uint64_t since) {
+  return bs_call_takes_up(age, since) != 0;
+}
+
 /* Adds to a board who waits for whom on another: then a slot waits for another if it did before, or does on the added
  * board. The ages stay, and the epoch. */
 static inline void bs_join_board(bs_board *joined, const bs_board *added) {

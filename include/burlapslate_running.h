@@ -162,6 +162,7 @@ bs_reply bs_table_metrics(bs_table *table, bool (*write)(void *context, const ch
  *   - A thread of the table's own writes; it takes no signals. If it is late by more than eight megabytes, further
  *     lines are dropped until there is room, and a comment says how many. Only bs_table_trace_end and bs_table_end
  *     await it.
+ *   - No index is made beside records meanwhile (bs_table_index_records).
  *   - A transaction is named t and its slot, a node n and its birth; an interval is its index and its place.
  *   - The trace cannot be played beyond dropped lines, an index whose bounds make a line of more than 256 bytes, or
  *     more than 128 transactions at once. A comment says so, and all later lines are comments too. gltool reads the

@@ -107,6 +107,7 @@ int main(void) {
   TELL(no_phantoms);
   TELL(a_row_moves);
   TELL(what_is_in_the_way);
+  TELL(an_index_is_made_beside_records);
   TELL(an_index_gets_finer_bounds);
   TELL(a_table_is_dropped_and_made_again);
   TELL(a_reader_escalates);

@@ -85,6 +85,7 @@ void a_row_moves(void);
 void what_is_in_the_way(void);
 void an_index_gets_finer_bounds(void);
 void a_table_is_dropped_and_made_again(void);
+void an_index_is_made_beside_records(void);
 
 /* escalation.c */
 void a_reader_escalates(void);

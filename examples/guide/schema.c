@@ -1,9 +1,10 @@
 /*
- * A schema that changes while threads work: an index gets finer bounds, and a table is dropped and made again.
+ * A schema that changes while threads work: an index gets finer bounds, and a table is dropped and made again. An index
+ * is made beside records.
  */
 #include "guide.h"
 
-#include "burlapslate_shared.h"
+#include "burlapslate_splits.h"
 
 #include <pthread.h>
 
@@ -245,5 +246,31 @@ void what_is_in_the_way(void) {
   DONE(bs_index_by(&m, t, &s.indexes, 1, rows, &day, 1));
   DONE(bs_lock_path(&m, t, s.tables, BS_X, &told));
   WANT(bs_drop(&m, t, s.tables, &told).status == BS_HAS_CHILDREN);
+  DONE(bs_end(&m));
+}
+
+/* An index by customer is made beside three orders: the engine names all, in the order of their inserts, with the
+ * customer of each. From then on a reader of some customers keeps writers away from their orders alone. */
+void an_index_is_made_beside_records(void) {
+  static const uint64_t days[3] = { 150, 20, 270 }, customers[3] = { 7, 2, 9 }, bound = 5;
+  bs_manager m;
+  struct shop s;
+  bs_node orders[3], by_customer, some;
+  bs_txn t, reader;
+  size_t i;
+  open_manager(&m, BS_AT_BLOCK, BS_YOUNGEST);
+  s = make_shop(&m);
+  for (i = 0; i < 3; i++) orders[i] = add_order(&m, &s, days[i]);
+  t = begin(&m);
+  DONE(bs_lock_path(&m, t, s.orders, BS_X, &told));
+  DONE(bs_lock_path(&m, t, s.by_day, BS_X, &told));
+  WANT(bs_index_by(&m, t, &s.indexes, 1, s.orders, &bound, 1).status == BS_FILE_IN_USE);
+  by_customer = DONE(bs_index_records(&m, t, &s.indexes, 1, s.orders, &bound, 1, orders, customers, 3)).node;
+  DONE(bs_commit(&m, t, &told));
+  some = DONE(bs_interval_of(&m, by_customer, 6)).node;
+  reader = begin(&m), t = begin(&m);
+  DONE(bs_lock_path(&m, reader, some, BS_S, &told));
+  DONE(bs_lock_path(&m, t, orders[1], BS_X, &told));
+  WANT(same_node(bs_lock_path(&m, t, orders[0], BS_X, &told).node, some));
   DONE(bs_end(&m));
 }

@@ -236,6 +236,7 @@ trace-begins-too-late	s/^  if (!trace_has_only_schema(manager)) return .*//
 trace-takes-records-for-schema	/^static bool trace_has_only_schema(/,/^}/s/kind.status != BS_DONE || kind.count == BS_RECORD/kind.status != BS_DONE/
 trace-reads-what-it-cannot-write	s/^  if (flags < 0 || (flags & O_ACCMODE) == O_RDONLY) return .*/  if (flags < 0) return bs_call_only(BS_BAD_NUMBER);/
 trace-finds-bounds-too-high	/^static uint64_t trace_lowest_key(/,/^}/s/>= place) high = key;/> place) high = key;/
+trace-lacks-an-index-beside-records	/ table_index_records_now(/,/^}/s/^  if (table->is_traced) .*//
 trace-is-begun-twice	/^bs_reply bs_table_trace(/,/^}/s/^  if (table->is_traced) return .*//
 trace-writes-long-lines	s/line->head.is_too_long || trace->length - start > TRACE_LONGEST/line->head.is_too_long/
 trace-keeps-its-memory	/^static void trace_free(/,/^}/s/^  free(trace->ring);//
@@ -373,14 +374,14 @@ group-sees-no-marks	s/^  if (__builtin_expect(t->marks != 0, 0) \&\& /  if (fals
 group-needs-nothing-above-an-index	s/^  target.rows = 1;/  target.rows = 0;/
 group-marks-stay	/ group_end_in_main(/,/^}/s/^  group_clear(.*//
 group-frees-a-slot-early	/ group_end_txn(/,/^}/s/^  bs_status status = group_end_in_parts/  bs_status status = (__atomic_store_n(\&own->is_taken, false, __ATOMIC_RELEASE), BS_DONE) + group_end_in_parts/
-group-rests-beside-a-mark	s/^  if (t->keep != 0 \&\& t->marks == 0) /  if (t->keep != 0) /
+group-rests-beside-a-mark	/ group_end_in(/,/^}/s/t->marks_at, t->marks)/t->marks_at, 0)/
 group-visits-end-none-who-rests	/ group_visit(/,/^}/s/bs_inside_end_resting(t->table)/BS_DONE/
 group-lets-rest-as-old-as-before	/ group_let_rest(/,/^}/s/since = group_next_age(group, own)/since = own->since/
-group-takes-up-what-is-younger	/ group_take_up(/,/^}/s/^  if (own->since == own->age) {/  if (true) {/
+group-takes-up-what-is-younger	/ group_take_up(/,/^}/s/^  if (bs_takes_up(own->age, own->since)) {/  if (true) {/
 group-joins-beside-who-rests	/ group_take_up(/,/^}/s/^  bs_inside_commit(t->table, rests);//
 group-takes-up-what-was-ended	/ group_take_up(/,/^}/s/^  if (reply.status != BS_DONE) return .*/  reply.status = BS_DONE;/
 group-takes-nothing-up	s/^  if ((own->resting >> t->number \& 1) != 0) .*//
-group-aborts-and-keeps	/ group_end_in(/,/^}/{s/^  if (!commits) .*//;s/^  return bs_inside_commit(/  return (commits ? bs_inside_commit : bs_inside_abort)(/}
+group-aborts-and-keeps	/ group_end_in(/,/^}/s/bs_may_rest(commits, /bs_may_rest(true, /
 group-knows-what-it-kept-before	/ group_join(/,/^}/s/^    own->kept\[t->number\].count = 0;//
 group-keeps-on	/^bs_reply bs_group_keep(/,/^}/s/^    if (most == 0) status = .*//
 group-keeps-in-the-first-part	/^bs_reply bs_group_keep(/,/^}/s/part <= group->parts/part <= 1/
@@ -391,9 +392,21 @@ group-tries-keep-the-way	/ group_tries(/,/^}/s/^  manner.keep = keep;/  manner.k
 group-tries-sleep	/ group_tries(/,/^}/s/NULL, false,/NULL, true,/
 group-refused-requests-leave-marks	/ group_lock_more(/,/^}/s/^  if (reply.status != BS_DONE) group_clear(.*//
 group-new-indexes-end-no-sleep	/ group_indexed(/,/^}/s/^    bs_inside_end_sleep(.*//
+group-gives-records-their-own-names	/ group_index_once(/,/^}/s/ = group_name_there(call->at, index->records\[i\]);/ = index->records[i];/
+group-keeps-the-names-of-records	/^bs_reply bs_group_index_records(/,/^}/s/^  free(index.there);//
+group-new-indexes-end-any-sleep	/ group_indexed(/,/^}/s/^    if (bs_lacks_key(.*//
 group-rolls-back-and-keeps	/ group_release_in(/,/^}/s/^  if (kept->count > savepoint) .*//
 group-rolls-back-where-it-was	/^bs_reply bs_group_release_since(/,/^}/s/left = own->used;/left = own->used \& -own->used;/
 group-keeps-what-was-for-an-instant	s/mode | manner->instant, manner->until/mode, manner->until/
+group-tries-in-another-part	/ group_row_path(/,/^}/s/file, number);/file, manner->may_sleep ? number : number + 1);/
+group-deals-to-no-part	/ group_part_of_row(/,/^}/s/ + 1;/;/
+group-unlocks-in-another-part	/ group_enter_row(/,/^}/s/(group, file, number)/(group, file, number + 1)/
+group-makes-nodes-below-a-spread-file	/ group_any_is_spread(/,/^}/s/return true;/continue;/
+group-has-no-room-for-its-files	s/is_spread ? 2 : 1/1/
+group-forgets-spread-files	/ group_make_roll(/,/^}/s/^  if (old != NULL) memcpy.*//
+group-gives-rows-two-names	/ group_is_misnamed(/,/^}/s/bs_group_table(file) != 0/false/
+group-notes-no-files-of-parts	/ group_add_there(/,/^}/s/^  t->dealt |= .*//
+group-drops-files-of-parts	/^bs_reply bs_group_drop(/,/^}/s/^  if (group_is_dealt.*//
 group-ends-one-who-rests	/^bs_status bs_inside_end_resting(/,/^}/s/  } while (reply.status == BS_DONE);/  } while (false);/
 a-refused-list-of-a-session-tells	/^size_t bs_session_run(/,/^}/s/^    table_list_of(table, commands\[0\].told)->count = 0;//
 FAULTS

@@ -209,6 +209,7 @@ static bs_reply lock_for(bs_txn txn, bs_node node, bs_mode mode, uint64_t millis
 /* Each call of a transaction in a part, and one that marks or counts, is refused so. */
 static void calls_of_parts_are_refused(bs_table_group *of, bs_txn txn, bs_status status) {
   bs_node file = { (size_t)1 << 32 | 1, 1 };
+  const uint64_t key = 1;
   bs_group_savepoint savepoint;
   memset(&savepoint, 0, sizeof savepoint);
   ANSWERS(status, bs_group_unlock(of, txn, file));
@@ -216,6 +217,7 @@ static void calls_of_parts_are_refused(bs_table_group *of, bs_txn txn, bs_status
   ANSWERS(status, bs_group_split(of, txn, file, 1));
   ANSWERS(status, bs_group_merge(of, txn, file));
   ANSWERS(status, bs_group_index_by(of, txn, &base, 1, file, NULL, 0));
+  ANSWERS(status, bs_group_index_records(of, txn, &base, 1, file, NULL, 0, &file, &key, 1));
   ANSWERS(status, bs_group_mark(of, txn, &savepoint));
   ANSWERS(status, bs_group_release_since(of, txn, &savepoint));
 }
@@ -254,6 +256,7 @@ static void groups_are_made_and_ended(void) {
 
 /* The same of the calls that change a schema, and of savepoints and counters. */
 static void null_calls_of_parts_are_refused(bs_txn txn) {
+  const uint64_t key = 1;
   bs_group_savepoint savepoint;
   bs_counts counts;
   ANSWERS(BS_NULL_POINTER, bs_group_unlock(NULL, txn, files[1]));
@@ -263,6 +266,11 @@ static void null_calls_of_parts_are_refused(bs_txn txn) {
   ANSWERS(BS_NULL_POINTER, bs_group_index_by(NULL, txn, &base, 1, files[1], NULL, 0));
   ANSWERS(BS_NULL_POINTER, bs_group_index_by(group, txn, NULL, 1, files[1], NULL, 0));
   ANSWERS(BS_NULL_POINTER, bs_group_index_by(group, txn, &base, 1, files[1], NULL, 1));
+  ANSWERS(BS_NULL_POINTER, bs_group_index_records(NULL, txn, &base, 1, files[1], NULL, 0, NULL, NULL, 0));
+  ANSWERS(BS_NULL_POINTER, bs_group_index_records(group, txn, NULL, 1, files[1], NULL, 0, NULL, NULL, 0));
+  ANSWERS(BS_NULL_POINTER, bs_group_index_records(group, txn, &base, 1, files[1], NULL, 1, NULL, NULL, 0));
+  ANSWERS(BS_NULL_POINTER, bs_group_index_records(group, txn, &base, 1, files[1], NULL, 0, records[1], NULL, 1));
+  ANSWERS(BS_NULL_POINTER, bs_group_index_records(group, txn, &base, 1, files[1], NULL, 0, NULL, &key, 1));
   ANSWERS(BS_NULL_POINTER, bs_group_mark(NULL, txn, &savepoint));
   ANSWERS(BS_NULL_POINTER, bs_group_mark(group, txn, NULL));
   ANSWERS(BS_NULL_POINTER, bs_group_release_since(NULL, txn, &savepoint));
@@ -280,6 +288,9 @@ static void null_groups_are_refused(void) {
   ANSWERS(BS_NULL_POINTER, bs_group_keep(NULL, 1));
   ANSWERS(BS_NULL_POINTER, bs_group_add_inner(NULL, NULL, 0));
   ANSWERS(BS_NULL_POINTER, bs_group_add_inner(group, NULL, 1));
+  ANSWERS(BS_NULL_POINTER, bs_group_add_spread_file(NULL, &base, 1));
+  ANSWERS(BS_NULL_POINTER, bs_group_add_spread_file(group, NULL, 1));
+  ANSWERS(BS_NULL_POINTER, bs_group_file_of_row(NULL, base, 1));
   ANSWERS(BS_NULL_POINTER, bs_group_add_file(NULL, 1, &base, 1));
   ANSWERS(BS_NULL_POINTER, bs_group_add_file(group, 1, NULL, 1));
   ANSWERS(BS_NULL_POINTER, bs_group_add_row_file(group, 1, NULL, 1));
@@ -642,6 +653,42 @@ static void schemas_change_in_a_part(void) {
   want_rest(group);
 }
 
+/* An index is made beside the records of a file; each name but theirs, in order of birth, is refused. */
+static void an_index_is_made_beside_records(void) {
+  const uint64_t bound = BOUND, keys[RECORDS] = { 20, BOUND, 3, 200 };
+  bs_txn txn = begun(), reader = begun();
+  bs_node file = files[2], area = area_of(1), all[RECORDS], index;
+  size_t i;
+  for (i = 0; i < RECORDS; i++) all[i] = records[2][i];
+  ANSWERS(BS_NEED_EXCLUSIVE, bs_group_index_records(group, txn, &area, 1, file, &bound, 1, all, keys, RECORDS));
+  DONE(lock_path(txn, file, BS_X));
+  DONE(lock_path(txn, all[1], BS_X));
+  ANSWERS(BS_FILE_IN_USE, bs_group_index_records(group, txn, &area, 1, file, &bound, 1, all, keys, RECORDS));
+  DONE(bs_group_unlock(group, txn, all[1]));
+  ANSWERS(BS_FILE_IN_USE, bs_group_index_records(group, txn, &area, 1, file, &bound, 1, all, keys, 0));
+  ANSWERS(BS_BAD_KEYS, bs_group_index_records(group, txn, &area, 1, file, &bound, 1, all, keys, RECORDS - 1));
+  all[3] = records[1][3];
+  ANSWERS(BS_BAD_KEYS, bs_group_index_records(group, txn, &area, 1, file, &bound, 1, all, keys, RECORDS));
+  all[3] = base;
+  ANSWERS(BS_BAD_KEYS, bs_group_index_records(group, txn, &area, 1, file, &bound, 1, all, keys, RECORDS));
+  all[3] = records[2][2], all[2] = records[2][3];
+  ANSWERS(BS_BAD_KEYS, bs_group_index_records(group, txn, &area, 1, file, &bound, 1, all, keys, RECORDS));
+  ANSWERS(BS_NO_MEMORY, bs_group_index_records(group, txn, &area, 1, file, &bound, 1, all, keys, SIZE_MAX / 8));
+  index = DONE(bs_group_index_records(group, txn, &area, 1, file, &bound, 1, records[2], keys, RECORDS)).node;
+  WANT(bs_group_table(index) == 2 && DONE(bs_group_held(group, txn, index)).mode == BS_X);
+  WANT(held_in(group, 2, txn, area) == BS_IX && !group_slot_at(group, txn.slot)->is_in_main);
+  commit(txn);
+  DONE(lock_path(reader, interval_of(index, 1), BS_S));
+  txn = begun();
+  DONE(lock_path(txn, records[2][0], BS_X));
+  ANSWERS(BS_TIMED_OUT, lock_for(txn, records[2][1], BS_X, 1));
+  DONE(lock_path(txn, records[2][2], BS_X));
+  ANSWERS(BS_TIMED_OUT, lock_for(txn, records[2][3], BS_X, 1));
+  commit(txn);
+  commit(reader);
+  want_rest(group);
+}
+
 /* More than an intention on an inner node is held in the main table; what its holder has below needs it there. */
 static void strong_locks_are_in_main(void) {
   bs_txn txn = begun();
@@ -975,6 +1022,25 @@ static void refused_memory_breaks_no_rule(void) {
   want_rest(group);
 }
 
+/* The same of an index beside records, whose names need memory too. */
+static void refused_memory_makes_no_index_beside_records(void) {
+  const uint64_t keys[RECORDS] = { 20, BOUND, 3, 200 };
+  bs_txn txn = begun();
+  bs_reply reply;
+  long next;
+  DONE(lock_path(txn, files[1], BS_X));
+  DONE(lock_path(txn, areas[2], BS_SIX));
+  for (next = 1, reply.status = BS_NO_MEMORY; reply.status == BS_NO_MEMORY; next++) {
+    refused_allocation = next;
+    reply = bs_group_index_records(group, txn, &areas[2], 1, files[1], keys, 1, records[1], keys, RECORDS);
+    refused_allocation = 0;
+    want_rules(group);
+  }
+  WANT(next > 3 && DONE(bs_group_held(group, txn, DONE(reply).node)).mode == BS_X);
+  commit(txn);
+  want_rest(group);
+}
+
 /* The same of an index, below a node that its transaction has in more than an intention, and of splits and savepoints. */
 static void refused_memory_makes_no_index(void) {
   const uint64_t bound = BOUND;
@@ -1032,7 +1098,8 @@ static void *sleep_for_it(void *place) {
   sleeper *own = (sleeper *)place;
   struct timespec time = bs_after(own->milliseconds), *until = own->milliseconds == 0 ? NULL : &time;
   if (own->is_row) {
-    own->reply = bs_group_lock_row_path(group, own->txn, own->node, own->number, &own->key, 1, own->mode, until);
+    size_t count = bs_group_table(own->node) == 0 ? 0 : 1; /* a spread file has no index */
+    own->reply = bs_group_lock_row_path(group, own->txn, own->node, own->number, &own->key, count, own->mode, until);
   } else {
     own->reply = bs_group_lock_path(group, own->txn, own->node, own->mode, until);
   }
@@ -1888,6 +1955,456 @@ static void ends_come_between_looks(void) {
 }
 
 /* ------------------------------------------------------------------------------------------------
+ * Stories of spread files.
+ */
+
+static bs_node add_spread(void) {
+  return DONE(bs_group_add_spread_file(group, &areas[1], 1)).node;
+}
+
+/* The file that has a row. */
+static bs_node file_of(bs_node spread, uint64_t number) {
+  return DONE(bs_group_file_of_row(group, spread, number)).node;
+}
+
+/* The first row in a part, from this number on. */
+static uint64_t row_in(bs_node spread, uint32_t part, uint64_t number) {
+  while (bs_group_table(file_of(spread, number)) != part) number++;
+  return number;
+}
+
+static bs_reply lock_dealt(bs_txn txn, bs_node spread, uint64_t number, bs_mode mode, const struct timespec *until) {
+  return bs_group_lock_row_path(group, txn, spread, number, NULL, 0, mode, until);
+}
+
+static bs_reply try_dealt(bs_txn txn, bs_node spread, uint64_t number, bs_mode mode) {
+  return bs_group_try_row_path(group, txn, spread, number, NULL, 0, mode, BS_KEEP_NOTHING);
+}
+
+/* Starts a thread that requests a row, and waits until it sleeps in this table. */
+static void sleep_for_dealt(sleeper *own, uint32_t table, bs_txn txn, bs_node spread, uint64_t number, bs_mode mode) {
+  memset(own, 0, sizeof *own);
+  own->is_row = true;
+  own->number = number;
+  own->txn = txn;
+  own->node = spread;
+  own->mode = mode;
+  start(&own->thread, sleep_for_it, own);
+  while (!sleeps_in(table, txn)) nap();
+  want_rules(group);
+}
+
+/* Of so many parts each has an even share of rows whose numbers have equal steps. */
+static void want_even_shares(uint32_t parts, uint64_t step) {
+  uint32_t shares[BS_MOST_PARTS + 1] = { 0 }, i, part;
+  for (i = 0; i < 64 * parts; i++) {
+    part = group_part_of_row(i * step, parts);
+    WANT(part >= 1 && part <= parts);
+    shares[part]++;
+  }
+  for (part = 1; part <= parts; part++) WANT(shares[part] >= 32 && shares[part] <= 96);
+}
+
+/* Each part has a file below the inner node, which is its rows' own. */
+static void rows_are_dealt_to_all_parts(void) {
+  bs_node spread = add_spread(), other = add_spread();
+  uint32_t parts, part;
+  for (parts = 1; parts <= BS_MOST_PARTS; parts++) {
+    const uint64_t steps[] = { 1, 2, 10, 1000, parts, 2 * parts, (uint64_t)parts << 16, 4096, 65536, (uint64_t)1 << 32,
+                               (uint64_t)1 << 40, (uint64_t)1 << 48 };
+    size_t i;
+    for (i = 0; i < sizeof steps / sizeof steps[0]; i++) want_even_shares(parts, steps[i]);
+  }
+  WANT(bs_group_table(spread) == 0 && !group_is_node(spread, other));
+  for (part = 1; part <= PARTS; part++) {
+    bs_node file = file_of(spread, row_in(spread, part, 0)), there = DONE(bs_group_name_in(group, file, part)).node;
+    const bs_manager *m = bs_group_hold(group, part);
+    bs_node above = DONE(bs_parent(m, there, 0)).node;
+    WANT(bs_kind(m, there).count == BS_FILE && bs_kind(m, above).count == BS_INNER);
+    WANT(bs_parent(m, there, 1).status != BS_DONE);
+    DONE(bs_group_let_go(group, part));
+    WANT(group_is_node(DONE(bs_group_name_of(group, above, part)).node, spread));
+    WANT(group_is_node(DONE(bs_group_name_of(group, there, part)).node, file));
+    WANT(group_is_node(file, file_of(spread, row_in(spread, part, 1000))));
+    WANT(!group_is_node(file, file_of(other, row_in(other, part, 0))));
+  }
+  group_take_all(group); /* The question needs no latch. */
+  WANT(bs_group_table(file_of(spread, 7)) == group_part_of_row(7, PARTS));
+  group_release_all(group);
+  want_rest(group);
+}
+
+/* A row needs its part alone, with what is above the spread file: here two areas. */
+static void rows_need_one_part(void) {
+  bs_node spread = DONE(bs_group_add_spread_file(group, areas, 2)).node;
+  bs_txn txn = begun(), strong = begun();
+  uint32_t table, part = bs_group_table(file_of(spread, 7));
+  DONE(lock_dealt(txn, spread, 7, BS_X, NULL));
+  for (table = 0; table <= PARTS; table++) {
+    bs_mode mode = table == part ? BS_IX : BS_NL;
+    WANT(held_in(group, table, txn, spread) == mode && held_in(group, table, txn, base) == mode);
+    WANT(held_in(group, table, txn, areas[0]) == mode && held_in(group, table, txn, areas[1]) == mode);
+  }
+  WANT(!group_slot_at(group, txn.slot)->is_in_main && group->spread == 0);
+  ANSWERS(BS_TIMED_OUT, lock_for(strong, areas[1], BS_S, 1));
+  commit(txn);
+  commit(strong);
+  want_rest(group);
+}
+
+/* A row is locked, tried and unlocked in its part, with the intentions above it there. */
+static void rows_are_locked_in_their_parts(void) {
+  bs_node spread = add_spread();
+  bs_txn txn = begun(), other = begun();
+  uint64_t number;
+  uint32_t table;
+  for (number = 0; number < 40; number++) {
+    bs_node file = file_of(spread, number), row = DONE(lock_dealt(txn, spread, number, BS_X, NULL)).node;
+    uint32_t part = bs_group_table(file);
+    WANT(bs_group_table(row) == part && DONE(bs_group_held(group, txn, row)).mode == BS_X);
+    WANT(held_in(group, part, txn, file) == BS_IX && held_in(group, part, txn, spread) == BS_IX);
+    WANT(group_is_node(ANSWERS(BS_WOULD_BLOCK, try_dealt(other, spread, number, BS_S)).node, row));
+    ANSWERS(BS_TIMED_OUT, lock_dealt(other, spread, number, BS_S, &at_once));
+    DONE(try_dealt(other, spread, number + 1000, BS_S));
+    DONE(bs_group_unlock_row(group, txn, spread, number));
+    ANSWERS(BS_NO_SUCH_NODE, bs_group_unlock_row(group, txn, spread, number));
+    DONE(try_dealt(other, spread, number, BS_X));
+    ANSWERS(BS_WOULD_BLOCK, try_dealt(txn, spread, number, BS_S));
+    ANSWERS(BS_TIMED_OUT, lock_dealt(txn, spread, number, BS_X, &at_once));
+  }
+  for (table = 0; table <= PARTS; table++) WANT(held_in(group, table, other, spread) == (table == 0 ? BS_NL : BS_IX));
+  WANT(!group_slot_at(group, txn.slot)->is_in_main && DONE(bs_group_held(group, other, spread)).mode == BS_IX);
+  commit(other);
+  commit(txn);
+  want_rest(group);
+}
+
+/* In a part the file is escalated and locked for the rows there. */
+static void files_of_parts_are_escalated(void) {
+  bs_node spread = add_spread();
+  bs_txn txn = begun(), other = begun();
+  uint64_t here = row_in(spread, 2, 0), too = row_in(spread, 2, here + 1), far = row_in(spread, 3, 0);
+  bs_node file = file_of(spread, here), row = DONE(lock_dealt(txn, spread, here, BS_X, NULL)).node;
+  bs_reply reply;
+  DONE(lock_dealt(txn, spread, far, BS_X, NULL));
+  reply = DONE(bs_group_escalate(group, txn, file));
+  WANT(reply.mode == BS_X && reply.released == 1);
+  ANSWERS(BS_NO_SUCH_NODE, bs_group_held(group, txn, row));
+  WANT(group_is_node(ANSWERS(BS_WOULD_BLOCK, try_dealt(other, spread, too, BS_S)).node, file));
+  DONE(lock_dealt(other, spread, row_in(spread, 3, far + 1), BS_X, NULL));
+  DONE(lock_path(other, file_of(spread, row_in(spread, 1, 0)), BS_S));
+  ANSWERS(BS_WOULD_BLOCK, try_dealt(txn, spread, row_in(spread, 1, 0), BS_X));
+  DONE(try_dealt(txn, spread, row_in(spread, 1, 0), BS_S));
+  ANSWERS(BS_WOULD_BLOCK, bs_group_try_path(group, other, spread, BS_S, BS_KEEP_WAY));
+  commit(txn);
+  DONE(bs_group_unlock(group, other, file_of(spread, row_in(spread, 1, 0))));
+  commit(other);
+  want_rest(group);
+}
+
+/* Below a spread file nothing is made but its files, and it has nothing of a file but rows. */
+static void wrong_graphs_of_spread_files_are_refused(void) {
+  bs_node spread = add_spread(), file = file_of(spread, row_in(spread, 1, 0)), two[2], none = { 77, 3 };
+  two[0] = base;
+  two[1] = spread;
+  ANSWERS(BS_BAD_PARENTS, bs_group_add_spread_file(group, NULL, 0));
+  ANSWERS(BS_BAD_PARENTS, bs_group_add_spread_file(group, &spread, 1));
+  ANSWERS(BS_NO_SUCH_NODE, bs_group_add_spread_file(group, &none, 1));
+  ANSWERS(BS_NO_SUCH_NODE, bs_group_add_spread_file(group, &files[1], 1));
+  ANSWERS(BS_BAD_NUMBER, bs_group_add_spread_file(group, &base, 9));
+  ANSWERS(BS_BAD_PARENTS, bs_group_add_inner(group, two, 2));
+  ANSWERS(BS_BAD_PARENTS, bs_group_add_file(group, 1, &spread, 1));
+  ANSWERS(BS_BAD_PARENTS, bs_group_add_row_file(group, 0, two, 2));
+  ANSWERS(BS_BAD_PARENTS, bs_group_add_index(group, &base, 1, spread, NULL, 0));
+  ANSWERS(BS_BAD_PARENTS, bs_group_add_index(group, &spread, 1, files[1], NULL, 0));
+  ANSWERS(BS_BAD_PARENTS, bs_group_add_index(group, &base, 1, file, NULL, 0));
+  ANSWERS(BS_BAD_PARENTS, bs_group_add_file(group, 1, &file, 1));
+  ANSWERS(BS_ROWS_BY_NUMBER, bs_group_adopt(group, spread, NULL, 0));
+  ANSWERS(BS_ROWS_BY_NUMBER, bs_group_adopt(group, file, NULL, 0));
+  ANSWERS(BS_BAD_PARENTS, bs_group_forget(group, spread));
+  WANT(bs_group_hold(group, 1) != NULL);
+  ANSWERS(BS_IN_USE, bs_group_add_spread_file(group, &base, 1));
+  ANSWERS(BS_IN_USE, bs_group_file_of_row(group, spread, 1));
+  DONE(bs_group_let_go(group, 1));
+  want_rest(group);
+}
+
+/* Each wrong use of a spread file by a transaction. */
+static void wrong_uses_of_spread_files_are_refused(void) {
+  bs_node spread = add_spread(), file = file_of(spread, row_in(spread, 1, 0)), late = { spread.key, spread.birth + 1 };
+  bs_txn txn = begun();
+  uint64_t key = 5;
+  ANSWERS(BS_ROWS_BY_NUMBER, bs_group_insert(group, txn, spread, NULL, 0));
+  ANSWERS(BS_ROWS_BY_NUMBER, bs_group_insert(group, txn, file, NULL, 0));
+  ANSWERS(BS_BAD_PARENTS, bs_group_unlock(group, txn, spread));
+  ANSWERS(BS_BAD_PARENTS, bs_group_escalate(group, txn, spread));
+  ANSWERS(BS_BAD_PARENTS, bs_group_drop(group, txn, spread));
+  ANSWERS(BS_BAD_PARENTS, bs_group_index_by(group, txn, &base, 1, spread, NULL, 0));
+  ANSWERS(BS_BAD_KEYS, bs_group_lock_row_path(group, txn, spread, 1, &key, 1, BS_S, NULL));
+  ANSWERS(BS_BAD_KEYS, bs_group_try_row_path(group, txn, spread, 1, &key, 1, BS_S, BS_KEEP_WAY));
+  ANSWERS(BS_BAD_NUMBER, lock_dealt(txn, spread, 1, BS_X + 1, NULL));
+  ANSWERS(BS_NOT_ROWS, lock_dealt(txn, late, 1, BS_X, NULL));
+  ANSWERS(BS_NOT_ROWS, bs_group_file_of_row(group, base, 1));
+  ANSWERS(BS_NOT_ROWS, bs_group_file_of_row(group, late, 1));
+  ANSWERS(BS_NOT_ROWS, bs_group_file_of_row(group, row_files[1], 1));
+  ANSWERS(BS_NOT_ROWS, bs_group_file_of_row(group, file, 1));
+  ANSWERS(BS_NO_SUCH_NODE, bs_group_unlock_row(group, txn, spread, 1));
+  ANSWERS(BS_NO_SUCH_NODE, bs_group_rekey_row(group, txn, spread, 1, indexes[1], 5));
+  commit(txn);
+  ANSWERS(BS_NO_SUCH_TXN, lock_dealt(txn, spread, 1, BS_X, NULL));
+  ANSWERS(BS_NO_SUCH_TXN, bs_group_unlock_row(group, txn, spread, 1));
+  want_rest(group);
+}
+
+/* The file in a part stays as it is, and a row has no second name by it. */
+static void files_of_parts_stay_as_they_are(void) {
+  bs_node spread = add_spread();
+  uint64_t number = row_in(spread, 1, 0);
+  bs_node file = file_of(spread, number);
+  bs_txn txn = begun();
+  DONE(lock_dealt(txn, spread, number, BS_X, NULL));
+  ANSWERS(BS_NOT_ROWS, lock_dealt(txn, file, number, BS_X, NULL));
+  ANSWERS(BS_NOT_ROWS, try_dealt(txn, file, number, BS_X));
+  ANSWERS(BS_NOT_ROWS, bs_group_unlock_row(group, txn, file, number));
+  ANSWERS(BS_NOT_ROWS, bs_group_rekey_row(group, txn, file, number, indexes[1], 5));
+  ANSWERS(BS_BAD_PARENTS, bs_group_rekey_row(group, txn, spread, number, indexes[1], 5));
+  ANSWERS(BS_NO_SUCH_NODE, bs_group_rekey_row(group, txn, spread, number, indexes[2], 5));
+  DONE(bs_group_unlock_row(group, txn, spread, number));
+  DONE(lock_path(txn, file, BS_X));
+  DONE(lock_path(txn, row_files[1], BS_X));
+  ANSWERS(BS_BAD_PARENTS, bs_group_drop(group, txn, file));
+  ANSWERS(BS_BAD_PARENTS, bs_group_index_by(group, txn, &base, 1, file, NULL, 0));
+  ANSWERS(BS_BAD_PARENTS, bs_group_index_by(group, txn, &spread, 1, row_files[1], NULL, 0));
+  DONE(lock_dealt(txn, spread, number, BS_X, NULL));
+  DONE(bs_group_lock_row_path(group, txn, row_files[1], 1, (const uint64_t[]){ 5 }, 1, BS_X, NULL));
+  commit(txn);
+  want_rest(group);
+}
+
+/* Other files of rows serve as ever, whatever keys their names have in the part. */
+static void other_files_stay_free(void) {
+  bs_node spread = add_spread();
+  bs_txn txn = begun();
+  const uint64_t key = 5;
+  size_t i;
+  WANT(group->tables[1].dealt != 0 && bs_group_table(spread) == 0);
+  for (i = 0; i < 64; i++) {
+    bs_node file = DONE(bs_group_add_row_file(group, 1, &areas[1], 1)).node;
+    DONE(bs_group_add_index(group, &base, 1, file, NULL, 0));
+    DONE(bs_group_lock_row_path(group, txn, file, 7, &key, 1, BS_X, NULL));
+    DONE(bs_group_unlock_row(group, txn, file, 7));
+    file = DONE(bs_group_add_row_file(group, 1, &areas[1], 1)).node;
+    DONE(lock_path(txn, file, BS_X));
+    DONE(bs_group_drop(group, txn, file));
+  }
+  commit(txn);
+  want_rest(group);
+}
+
+/* More than an intention on the whole and a row of each part wait for each other; the same on an area above it. */
+static void spread_files_are_locked_as_a_whole(void) {
+  bs_node spread = add_spread(), whole[2];
+  uint32_t i;
+  whole[0] = spread;
+  whole[1] = areas[1];
+  for (i = 0; i < 2 * PARTS; i++) {
+    uint32_t part = 1 + i % PARTS;
+    uint64_t number = row_in(spread, part, 10 * i), too = row_in(spread, part, number + 1);
+    bs_txn writer = begun(), reader = begun(), strong = begun(), last = begun();
+    sleeper own;
+    DONE(lock_dealt(writer, spread, number, BS_X, NULL));
+    DONE(lock_dealt(reader, spread, too, BS_S, NULL));
+    sleep_in(&own, 0, strong, whole[i / PARTS], BS_S);
+    WANT(marks_in(group, part) == 1 && held_in(group, 0, writer, spread) == (i < PARTS ? BS_IX : BS_NL));
+    commit(writer);
+    wakes_with(&own, BS_DONE);
+    DONE(try_dealt(last, spread, number, BS_S));
+    DONE(bs_group_unlock_row(group, last, spread, number));
+    writer = begun();
+    sleep_for_dealt(&own, 0, writer, spread, number, BS_X);
+    DONE(lock_dealt(strong, spread, number, BS_X, NULL));
+    WANT(DONE(bs_group_held(group, strong, whole[i / PARTS])).mode == BS_SIX);
+    commit(strong);
+    wakes_with(&own, BS_DONE);
+    commit(writer);
+    sleep_in(&own, 0, last, whole[i / PARTS], BS_X);
+    commit(reader);
+    wakes_with(&own, BS_DONE);
+    reader = begun();
+    sleep_for_dealt(&own, 0, reader, spread, too, BS_S);
+    ANSWERS(BS_WOULD_BLOCK, try_dealt(strong = begun(), spread, number + 100, BS_S));
+    commit(last);
+    wakes_with(&own, BS_DONE);
+    commit(strong);
+    commit(reader);
+    want_rest(group);
+  }
+}
+
+/* Two that wait for each other's rows in two parts: the younger falls. */
+static void cycles_over_rows_end(void) {
+  bs_node spread = add_spread();
+  bs_txn old = begun(), young = begun();
+  uint64_t one = row_in(spread, 1, 0), two = row_in(spread, 2, 0);
+  sleeper own;
+  DONE(lock_dealt(old, spread, one, BS_X, NULL));
+  DONE(lock_dealt(young, spread, two, BS_X, NULL));
+  sleep_for_dealt(&own, 2, old, spread, two, BS_X);
+  ANSWERS(BS_VICTIM, lock_dealt(young, spread, one, BS_X, NULL));
+  ANSWERS(BS_TXN_CONDEMNED, try_dealt(young, spread, two, BS_S));
+  ANSWERS(BS_TXN_CONDEMNED, bs_group_unlock_row(group, young, spread, two));
+  DONE(bs_group_abort(group, young));
+  wakes_with(&own, BS_DONE);
+  commit(old);
+  want_rest(group);
+}
+
+/* What a commit keeps in a part serves for each row there, and a lock of the whole ends it. */
+static void intentions_on_spread_files_are_kept(void) {
+  bs_node spread = add_spread();
+  bs_txn txn = begun();
+  uint64_t number = row_in(spread, 1, 0);
+  bs_counts before, after;
+  keep(16);
+  DONE(lock_dealt(txn, spread, number, BS_X, NULL));
+  commit(txn);
+  WANT(rest_in(1, txn.slot) == 4);
+  txn = begun();
+  DONE(bs_group_counters(group, &before));
+  DONE(lock_dealt(txn, spread, row_in(spread, 1, number + 1), BS_X, NULL));
+  DONE(bs_group_counters(group, &after));
+  WANT(after.granted == before.granted + 1);
+  commit(txn);
+  WANT(rest_in(1, txn.slot) == 4);
+  DONE(lock_path(txn = begun(), spread, BS_S));
+  WANT(rest_in(1, txn.slot) == 0);
+  commit(txn);
+  want_rest(group);
+}
+
+/* Whatever memory is refused, there is either a spread file in all parts, or no name of one. */
+static void refused_memory_makes_no_spread_file(void) {
+  bs_txn txn = begun();
+  uint32_t made, part;
+  for (made = 0; made < 20; made++) {
+    uint32_t before = group->tables[0].count;
+    bs_reply reply;
+    long next;
+    for (next = 1, reply.status = BS_NO_MEMORY; reply.status == BS_NO_MEMORY; next++) {
+      refused_allocation = next;
+      reply = bs_group_add_spread_file(group, &areas[made % AREAS], 1);
+      refused_allocation = 0;
+      want_rules(group);
+      WANT(group->tables[0].count == before + (reply.status == BS_DONE ? 1 : 0));
+    }
+    WANT(next > 3);
+    DONE(reply);
+    for (part = 1; part <= PARTS; part++) DONE(lock_dealt(txn, reply.node, row_in(reply.node, part, 0), BS_X, NULL));
+  }
+  commit(txn);
+  want_rest(group);
+}
+
+/* How many nodes a table has. */
+static uint64_t nodes_in(bs_table_group *of, uint32_t table) {
+  uint64_t nodes = bs_len(bs_group_hold(of, table)).count;
+  DONE(bs_group_let_go(of, table));
+  return nodes;
+}
+
+/* A part that has room for the inner node alone. */
+static void full_parts_get_no_spread_file(void) {
+  bs_table_group *small = NULL;
+  bs_options options;
+  bs_node root;
+  memset(&options, 0, sizeof options);
+  options.nodes = 4;
+  DONE(bs_group_make(&small, &options, 2));
+  root = DONE(bs_group_add_inner(small, NULL, 0)).node;
+  DONE(bs_group_add_file(small, 2, &root, 1));
+  DONE(bs_group_add_file(small, 2, &root, 1));
+  ANSWERS(BS_TOO_MANY_NODES, bs_group_add_spread_file(small, &root, 1));
+  WANT(nodes_in(small, 0) == 1 && nodes_in(small, 1) == 1 && nodes_in(small, 2) == 3);
+  DONE(bs_group_add_inner(small, &root, 1));
+  ANSWERS(BS_TOO_MANY_NODES, bs_group_add_inner(small, &root, 1));
+  DONE(bs_group_end(small));
+  ANSWERS(BS_NO_MANAGER, bs_group_add_spread_file(small, &root, 1));
+  ANSWERS(BS_NO_MANAGER, bs_group_file_of_row(small, root, 1));
+  DONE(bs_group_free(&small));
+}
+
+/* Tellers move money between accounts, which are rows of one spread file, while auditors read all of them at once. */
+enum { ACCOUNTS = 24, TELLERS = 14, AUDITORS = 2, TRANSFERS = 300, MONEY = 100 };
+
+static bs_node bank;
+static uint64_t accounts[ACCOUNTS]; /* each read and written with its row */
+static uint32_t tellers_left;       /* atomic */
+
+typedef struct clerk {
+  pthread_t thread;
+  pcg dice;
+  uint64_t done;
+} clerk;
+
+/* Whether a transaction gets an account in BS_X; else it is tried in vain, or a victim. */
+static bool has_account(clerk *own, bs_txn txn, uint64_t number) {
+  bool tries = pcg_below(&own->dice, 4) == 0;
+  bs_reply reply = tries ? try_dealt(txn, bank, number, BS_X) : lock_dealt(txn, bank, number, BS_X, NULL);
+  if (reply.status != BS_WOULD_BLOCK && reply.status != BS_VICTIM) DONE(reply);
+  return reply.status == BS_DONE;
+}
+
+static void *teller(void *place) {
+  clerk *own = (clerk *)place;
+  while (own->done < TRANSFERS) {
+    uint64_t low = pcg_below(&own->dice, ACCOUNTS - 1), high = low + 1 + pcg_below(&own->dice, ACCOUNTS - 1 - low);
+    bs_txn txn = begun();
+    if (!has_account(own, txn, low) || !has_account(own, txn, high)) {
+      DONE(bs_group_abort(group, txn));
+      continue;
+    }
+    accounts[low]++;
+    accounts[high]--;
+    commit(txn);
+    own->done++;
+  }
+  __atomic_fetch_sub(&tellers_left, 1, __ATOMIC_SEQ_CST);
+  return NULL;
+}
+
+static void *auditor(void *place) {
+  clerk *own = (clerk *)place;
+  while (own->done == 0 || __atomic_load_n(&tellers_left, __ATOMIC_SEQ_CST) > 0) {
+    bs_txn txn = begun();
+    uint64_t sum = 0;
+    size_t i;
+    DONE(lock_path(txn, bank, BS_S));
+    for (i = 0; i < ACCOUNTS; i++) sum += accounts[i];
+    WANT(sum == ACCOUNTS * MONEY);
+    commit(txn);
+    own->done++;
+    nap();
+  }
+  return NULL;
+}
+
+static void threads_share_a_spread_file(void) {
+  static clerk clerks[TELLERS + AUDITORS];
+  size_t i;
+  bank = add_spread();
+  tellers_left = TELLERS;
+  for (i = 0; i < ACCOUNTS; i++) accounts[i] = MONEY;
+  memset(clerks, 0, sizeof clerks);
+  for (i = 0; i < TELLERS + AUDITORS; i++) {
+    clerks[i].dice = pcg_new(7, i);
+    start(&clerks[i].thread, i < TELLERS ? teller : auditor, &clerks[i]);
+  }
+  for (i = 0; i < 40; i++) WANT(!group_is_node(add_spread(), bank));
+  for (i = 0; i < TELLERS + AUDITORS; i++) join(clerks[i].thread);
+  want_rest(group);
+}
+
+/* ------------------------------------------------------------------------------------------------
  * A crowd: threads make random transactions, and each lock that is granted is checked against a shadow, which counts who
  * has what.
  */
@@ -1904,6 +2421,8 @@ typedef struct shade {
 static shade of_base, of_areas[AREAS], of_quarters[AREAS], of_files[PARTS + 1], of_row_files[PARTS + 1], of_crossed;
 static shade of_records[PARTS + 1][RECORDS], of_rows[PARTS + 1][ROWS], of_crossed_records[RECORDS];
 static bs_node crossed, crossed_records[RECORDS]; /* a file below two areas */
+static bs_node dealt;                             /* a spread file below an area */
+static shade of_dealt, of_dealt_in[PARTS + 1], of_dealt_rows[2 * ROWS];
 
 /* A thread of the crowd. */
 typedef struct crowd_thread {
@@ -2011,9 +2530,23 @@ static bs_mode some_mode(crowd_thread *own) {
   return modes[draw(own, 5)];
 }
 
-static void touch_inner(crowd_thread *own, bool *fell) {
-  uint32_t area = draw(own, AREAS), depth = draw(own, 3);
+/* The spread file as a whole. */
+static void touch_dealt(crowd_thread *own, bool *fell) {
   bs_mode mode = some_mode(own);
+  if (!request(own, dealt, mode, fell)) return;
+  own->strong++;
+  below(own, &of_base, is_write(mode));
+  below(own, &of_areas[1], is_write(mode));
+  has(own, &of_dealt, mode);
+}
+
+static void touch_inner(crowd_thread *own, bool *fell) {
+  uint32_t area = draw(own, AREAS), depth = draw(own, 4);
+  bs_mode mode = some_mode(own);
+  if (depth == 3) {
+    touch_dealt(own, fell);
+    return;
+  }
   if (!request(own, depth == 0 ? base : depth == 1 ? areas[area] : quarters[area], mode, fell)) return;
   own->strong++;
   if (depth > 0) below(own, &of_base, is_write(mode));
@@ -2059,6 +2592,28 @@ static void touch_row(crowd_thread *own, bool *fell) {
   has(own, &of_rows[part][row], writes ? BS_X : BS_S);
 }
 
+/* A row of the spread file, by its number, or its file in a part. */
+static void touch_dealt_row(crowd_thread *own, bool *fell) {
+  uint32_t row = draw(own, 2 * ROWS), part = bs_group_table(file_of(dealt, row)), drawn = draw(own, 10);
+  bool writes = draw(own, 2) == 0;
+  struct timespec time;
+  bs_mode mode = writes ? BS_X : BS_S;
+  bs_reply reply;
+  if (drawn == 0) {
+    reply = bs_group_lock_path(group, own->txn, file_of(dealt, row), mode, some_time(own, &time));
+  } else if (drawn < 3) {
+    reply = bs_group_try_row_path(group, own->txn, dealt, row, NULL, 0, mode, draw(own, 2));
+  } else {
+    reply = bs_group_lock_row_path(group, own->txn, dealt, row, NULL, 0, mode, some_time(own, &time));
+  }
+  if (!was_granted(own, reply, fell)) return;
+  below(own, &of_base, writes);
+  below(own, &of_areas[1], writes);
+  below(own, &of_dealt, writes);
+  if (drawn > 0) below(own, &of_dealt_in[part], writes);
+  has(own, drawn > 0 ? &of_dealt_rows[row] : &of_dealt_in[part], mode);
+}
+
 /* A record of a file below two areas. Who reads needs one of them, and it is not known here which. */
 static void touch_crossed(crowd_thread *own, bool *fell) {
   uint32_t record = draw(own, RECORDS);
@@ -2085,10 +2640,12 @@ static void touch_new(crowd_thread *own, bool *fell) {
 
 static void touch_escalated(crowd_thread *own) {
   uint32_t part = 1 + draw(own, PARTS);
-  bs_reply reply = bs_group_escalate(group, own->txn, files[part]);
+  bool is_dealt = draw(own, 2) == 0;
+  bs_node file = is_dealt ? file_of(dealt, row_in(dealt, part, 0)) : files[part];
+  bs_reply reply = bs_group_escalate(group, own->txn, file);
   if (reply.status == BS_NOT_HELD || reply.status == BS_WOULD_BLOCK) return;
   DONE(reply);
-  has(own, &of_files[part], reply.mode);
+  has(own, is_dealt ? &of_dealt_in[part] : &of_files[part], reply.mode);
 }
 
 /* Has a node of a file of rows in BS_X, or the file, within a millisecond. */
@@ -2128,6 +2685,7 @@ static void touch_something(crowd_thread *own, bool *fell) {
   else if (drawn < strong_share + 220) touch_escalated(own);
   else if (drawn < strong_share + 240) touch_schema(own, fell);
   else if (drawn < 600) touch_record(own, fell);
+  else if (drawn < 800) touch_dealt_row(own, fell);
   else touch_row(own, fell);
 }
 
@@ -2197,6 +2755,7 @@ static void *in_crowd(void *place) {
 static void make_crossed(void) {
   bs_txn txn = begun();
   size_t i;
+  dealt = add_spread();
   crossed = DONE(bs_group_add_file(group, 2, areas, 2)).node;
   for (i = 0; i < RECORDS; i++) crossed_records[i] = DONE(bs_group_insert(group, txn, crossed, NULL, 0)).node;
   commit(txn);
@@ -2257,13 +2816,13 @@ static const struct {
 } stories[] = {
   STORY(null_groups_are_refused), STORY(wrong_graphs_are_refused), STORY(wrong_requests_are_refused),
   STORY(wrong_changes_are_refused), STORY(changes_need_their_locks), STORY(nodes_are_unlocked), STORY(intervals_are_split_and_merged),
-  STORY(schemas_change_in_a_part),
+  STORY(schemas_change_in_a_part), STORY(an_index_is_made_beside_records),
   STORY(who_holds_a_table_is_refused), STORY(names_are_translated), STORY(one_part_needs_no_other),
   STORY(begins_have_ages), STORY_ALONE(records_come_and_go), STORY(rows_have_numbers), STORY(strong_locks_are_in_main),
   STORY(inserts_are_tried), STORY(paths_are_tried), STORY(row_paths_are_tried), STORY(instants_are_released), STORY(nodes_are_made_at_any_time), STORY(many_marks_are_reached),
   STORY_ALONE(answers_are_those_of_a_table),
   STORY(refused_memory_makes_no_group), STORY(refused_memory_breaks_no_rule),
-  STORY(refused_memory_makes_no_index),
+  STORY(refused_memory_makes_no_index), STORY(refused_memory_makes_no_index_beside_records),
   STORY(instants_are_awaited), STORY(strong_waits_for_records_of_any_part), STORY(records_wait_for_strong),
   STORY(sleepers_are_visited),
   STORY(rows_that_wait_are_visited), STORY(new_indexes_end_paths), STORY(readers_that_wait_are_visited),
@@ -2276,7 +2835,13 @@ static const struct {
   STORY_ALONE(each_part_has_what_rests), STORY_ALONE(only_intentions_rest),
   STORY_ALONE(strong_locks_end_what_rests), STORY_ALONE(who_rests_is_in_nobodys_way), STORY_ALONE(aborts_keep_nothing),
   STORY_ALONE(what_rests_is_as_young_as_the_next), STORY_ALONE(work_that_is_tried_again_joins),
-  STORY_ALONE(slots_take_turns),
+  STORY_ALONE(slots_take_turns), STORY(rows_are_dealt_to_all_parts), STORY(rows_need_one_part),
+  STORY(rows_are_locked_in_their_parts), STORY(files_of_parts_are_escalated),
+  STORY(wrong_graphs_of_spread_files_are_refused), STORY(wrong_uses_of_spread_files_are_refused),
+  STORY(files_of_parts_stay_as_they_are), STORY(other_files_stay_free), STORY(spread_files_are_locked_as_a_whole),
+  STORY(cycles_over_rows_end), STORY_ALONE(intentions_on_spread_files_are_kept),
+  STORY(refused_memory_makes_no_spread_file), STORY(full_parts_get_no_spread_file),
+  STORY(threads_share_a_spread_file),
 };
 
 static void play_stories(uint32_t keeps) {

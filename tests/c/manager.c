@@ -1,7 +1,7 @@
 /*
  * Stories of a few transactions over a manager, with every answer that is wanted: work that begins again or joins, the
  * last deadlock, what is counted, paths, adopted rows, a schema that changes, rows by number, intervals that are split
- * and merged, limits and watchers. Each is a function that ends the program with status 1 at the first answer that is
+ * and merged, an index beside records, limits and watchers. Each is a function that ends the program with status 1 at the first answer that is
  * not as wanted, and else prints its name. What scripts can ask is in tests/scripts.
  */
 #include "burlapslate_parts.h"
@@ -1413,6 +1413,285 @@ static void a_row_follows_its_interval(void) {
 }
 
 /* ------------------------------------------------------------------------------------------------
+ * An index beside records.
+ */
+
+/* Three records of a file with two indexes, by their births, and their keys for a third index, which is parted at 20. */
+static bs_node named[3];
+static const uint64_t by_third[3] = { 25, 7, 20 }, third_bound = 20;
+
+/* The first transaction holds the file, both indexes and the records, which it has inserted, in X. */
+static void open_inserted(void) {
+  static const uint64_t keys[3][2] = { { 1, 12 }, { 15, 2 }, { 3, 4 } };
+  size_t i;
+  open_indexes();
+  begin_two();
+  LOCKS_PATH(a, file, BS_X);
+  LOCKS_PATH(a, first, BS_X);
+  LOCKS_PATH(a, second, BS_X);
+  for (i = 0; i < 2; i++) {
+    LOCKS_PATH(a, interval(first, i), BS_IX);
+    LOCKS_PATH(a, interval(second, i), BS_IX);
+  }
+  for (i = 0; i < 3; i++) named[i] = DONE(bs_insert(m, a, file, keys[i], 2)).node;
+}
+
+/* It has released the records. */
+static void open_named(void) {
+  size_t i;
+  open_inserted();
+  for (i = 0; i < 3; i++) QUIET(BS_DONE, bs_unlock(m, a, named[i], &told));
+}
+
+/* Makes a third index of a file beside so many records, below a node and parted at a bound. */
+static bs_reply make_third(bs_txn txn, bs_node parent, bs_node of, uint64_t bound, const bs_node *all, size_t count) {
+  return bs_index_records(m, txn, &parent, 1, of, &bound, 1, all, by_third, count);
+}
+
+/* What a record has for the two indexes that it had before is what it had then. */
+static void keeps_its_place(bs_node of, uint64_t by_first, uint64_t by_second) {
+  WANT(DONE(bs_key(m, of, 0)).count == by_first && DONE(bs_key(m, of, 1)).count == by_second);
+  WANT(same_node(DONE(bs_parent(m, of, 0)).node, file));
+  WANT(same_node(DONE(bs_parent(m, of, 1)).node, DONE(bs_interval_of(m, first, by_first)).node));
+  WANT(same_node(DONE(bs_parent(m, of, 2)).node, DONE(bs_interval_of(m, second, by_second)).node));
+}
+
+/* The index is the last of the file's, held in X by its maker alone, and each record is in the interval of its key. */
+static void an_index_is_made_beside_records(void) {
+  uint64_t accepted, locks;
+  bs_node third;
+  size_t i;
+  open_named();
+  LOCKS_PATH(b, db, BS_IS);
+  accepted = accepted_by(m);
+  locks = lock_count(a);
+  third = DONE(make_third(a, db, file, third_bound, named, 3)).node;
+  WANT(accepted_by(m) == accepted + 1 && lock_count(a) == locks + 1);
+  WANT(same_node(DONE(bs_lock_at(m, a, locks)).node, third) && same_node(DONE(bs_index(m, file, 2)).node, third));
+  HOLDS(a, third, BS_X);
+  for (i = 0; i < 3; i++) {
+    WANT(DONE(bs_key(m, named[i], 2)).count == by_third[i] && bs_key(m, named[i], 3).status == BS_NO_PLACE);
+    WANT(same_node(DONE(bs_parent(m, named[i], 3)).node, interval(third, by_third[i] >= third_bound)));
+    WANT(bs_parent(m, named[i], 4).status == BS_NO_PLACE);
+  }
+  keeps_its_place(named[0], 1, 12);
+  keeps_its_place(named[1], 15, 2);
+  keeps_its_place(named[2], 3, 4);
+  WAITS(b, third, BS_IS);
+  DONE(bs_commit(m, a, &told));
+  WANT(is_granted(b, third, BS_IS));
+  end_manager();
+}
+
+/* What its maker may do to a record is what it may have done before; others may do nothing, before and after. */
+static void no_effective_mode_is_another_beside_records(void) {
+  size_t i;
+  open_named();
+  LOCKS_PATH(b, db, BS_IS);
+  for (i = 0; i < 3; i++) WANT(effect(a, named[i]) == BS_X && effect(b, named[i]) == BS_NL);
+  DONE(make_third(a, db, file, third_bound, named, 3));
+  for (i = 0; i < 3; i++) WANT(effect(a, named[i]) == BS_X && effect(b, named[i]) == BS_NL);
+  end_manager();
+}
+
+/* A reader of an interval of the new index keeps writers away from the records there, and from no others. */
+static void an_interval_beside_records_is_read(void) {
+  bs_node third, upper;
+  open_named();
+  third = DONE(make_third(a, db, file, third_bound, named, 3)).node;
+  upper = interval(third, 1);
+  QUIET(BS_DONE, bs_commit(m, a, &told));
+  LOCKS_PATH(b, upper, BS_S);
+  WANT(effect(b, named[0]) == BS_S && effect(b, named[1]) == BS_NL && effect(b, named[2]) == BS_S);
+  a = begin();
+  LOCKS_PATH(a, named[1], BS_X);
+  WAITS_AT(a, named[0], BS_X, upper);
+  DONE(bs_commit(m, b, &told));
+  WANT(is_granted(a, upper, BS_IX));
+  LOCKS_PATH(a, named[0], BS_X);
+  end_manager();
+}
+
+/* A record that is inserted, rekeyed or deleted afterwards has a key for the new index like any other. */
+static void records_live_on_beside_an_index(void) {
+  static const uint64_t keys[3] = { 1, 2, 30 };
+  bs_node third, later;
+  open_named();
+  third = DONE(make_third(a, db, file, third_bound, named, 3)).node;
+  LOCKS_PATH(a, interval(third, 0), BS_IX);
+  ANSWERS(BS_BAD_KEYS, bs_insert(m, a, file, keys, 2));
+  WANT(same_node(ANSWERS(BS_NEED_PARENTS, bs_insert(m, a, file, keys, 3)).node, interval(third, 1)));
+  LOCKS_PATH(a, interval(third, 1), BS_IX);
+  later = DONE(bs_insert(m, a, file, keys, 3)).node;
+  WANT(same_node(DONE(bs_parent(m, later, 3)).node, interval(third, 1)));
+  LOCKS(a, named[1], BS_X);
+  QUIET(BS_DONE, bs_rekey(m, a, named[1], third, 40, &told));
+  WANT(same_node(DONE(bs_parent(m, named[1], 3)).node, interval(third, 1)));
+  QUIET(BS_DONE, bs_delete(m, a, named[1], &told));
+  QUIET(BS_DONE, bs_delete(m, a, later, &told));
+  ANSWERS(BS_FILE_IN_USE, bs_drop(m, a, third, &told));
+  LOCKS(a, named[0], BS_X);
+  LOCKS(a, named[2], BS_X);
+  QUIET(BS_DONE, bs_delete(m, a, named[0], &told));
+  QUIET(BS_DONE, bs_delete(m, a, named[2], &told));
+  QUIET(BS_DONE, bs_drop(m, a, third, &told));
+  end_manager();
+}
+
+/* Of a file that has no records it is bs_index_by, whose locks are enough then. */
+static void an_index_beside_no_records(void) {
+  open_index();
+  a = begin();
+  LOCKS_PATH(a, file, BS_X);
+  WANT(same_node(DONE(bs_index(m, file, 0)).node, first));
+  WANT(bs_held(m, a, first).mode == BS_NL);
+  second = DONE(bs_index_records(m, a, &db, 1, file, NULL, 0, NULL, NULL, 0)).node;
+  HOLDS(a, second, BS_X);
+  WANT(same_node(DONE(bs_index(m, file, 1)).node, second));
+  end_manager();
+}
+
+/* A list of records is refused whole, and nothing has changed. */
+static void refuses_records(bs_status status, const bs_node *all, size_t count) {
+  uint64_t accepted = accepted_by(m), nodes = bs_len(m).count;
+  ANSWERS(status, make_third(a, db, file, third_bound, all, count));
+  WANT(accepted_by(m) == accepted && bs_len(m).count == nodes && bs_index(m, file, 2).status == BS_NO_PLACE);
+  WANT(bs_key(m, named[0], 2).status == BS_NO_PLACE && bs_parent(m, named[0], 3).status == BS_NO_PLACE);
+}
+
+static void all_records_are_named_in_order(void) {
+  bs_node all[4], strange;
+  open_named();
+  strange = DONE(bs_adopt(m, make_file(), NULL, 0)).node;
+  refuses_records(BS_FILE_IN_USE, named, 0);
+  refuses_records(BS_BAD_KEYS, named, 2);
+  refuses_records(BS_BAD_KEYS, named + 1, 2);
+  all[0] = named[0], all[1] = named[0], all[2] = named[2];
+  refuses_records(BS_BAD_KEYS, all, 3);
+  all[0] = named[1], all[1] = named[0];
+  refuses_records(BS_BAD_KEYS, all, 3);
+  all[0] = named[0], all[1] = named[1], all[2] = strange;
+  refuses_records(BS_BAD_KEYS, all, 3);
+  all[2] = interval(first, 0);
+  refuses_records(BS_BAD_KEYS, all, 3);
+  all[2] = no_node;
+  refuses_records(BS_BAD_KEYS, all, 3);
+  all[2] = named[2], all[2].birth++;
+  refuses_records(BS_BAD_KEYS, all, 3);
+  DONE(make_third(a, db, file, third_bound, named, 3));
+  end_manager();
+}
+
+/* Beneath the header's call the two lists have a length each: a key for each record is refused as anything else. */
+static void each_record_has_a_key(void) {
+  static const uint64_t keys[4] = { 1, 2, 3, 4 };
+  open_named();
+  ANSWERS(BS_BAD_KEYS, bs_call_index_by(m, a, &db, 1, file, keys, 0, named, 3, keys, 2));
+  ANSWERS(BS_BAD_KEYS, bs_call_index_by(m, a, &db, 1, file, keys, 0, named, 3, keys, 4));
+  DONE(bs_call_index_by(m, a, &db, 1, file, keys, 0, named, 3, keys, 3));
+  end_manager();
+}
+
+/* The names of the records take memory before anything else is looked at, but the number of parents. */
+static void names_of_records_take_memory(void) {
+  bs_node many[9] = { { 0, 0 } };
+  open_named();
+  refused_allocation = 1;
+  ANSWERS(BS_BAD_NUMBER, bs_index_records(m, no_txn, many, 9, no_node, NULL, 0, named, by_third, 3));
+  WANT(refused_allocation == 1);
+  ANSWERS(BS_NO_MEMORY, make_third(no_txn, no_node, no_node, 0, named, 3));
+  WANT(refused_allocation == 0);
+  ANSWERS(BS_NO_SUCH_TXN, make_third(no_txn, no_node, no_node, 0, named, 3));
+  end_manager();
+}
+
+/* Each refusal comes before those that are wrong as well. */
+static void an_index_beside_records_is_refused(void) {
+  static const uint64_t zero = 0;
+  bs_node many[9] = { { 0, 0 } }, area, reversed[3];
+  open_refused();
+  area = DONE(bs_add_inner(m, NULL, 0)).node;
+  reversed[0] = seven, reversed[1] = five, reversed[2] = no_node;
+  ANSWERS(BS_NULL_POINTER, bs_index_records(NULL, a, &db, 1, file, NULL, 0, reversed, by_third, 3));
+  ANSWERS(BS_NULL_POINTER, bs_index_records(m, a, NULL, 1, file, NULL, 0, reversed, by_third, 3));
+  ANSWERS(BS_NULL_POINTER, bs_index_records(m, a, &db, 1, file, NULL, 1, reversed, by_third, 3));
+  ANSWERS(BS_NULL_POINTER, bs_index_records(m, a, &db, 1, file, NULL, 0, NULL, by_third, 3));
+  ANSWERS(BS_NULL_POINTER, bs_index_records(m, a, &db, 1, file, NULL, 0, reversed, NULL, 3));
+  ANSWERS(BS_BAD_NUMBER, bs_index_records(m, no_txn, many, 9, no_node, &zero, 1, reversed, by_third, 3));
+  ANSWERS(BS_NO_SUCH_TXN, make_third(no_txn, no_node, no_node, 0, reversed, 3));
+  ANSWERS(BS_TXN_WAITING, make_third(b, no_node, no_node, 0, reversed, 3));
+  ANSWERS(BS_TXN_CONDEMNED, make_third(c, no_node, no_node, 0, reversed, 3));
+  ANSWERS(BS_NO_SUCH_NODE, make_third(a, no_node, first, 0, reversed, 3));
+  ANSWERS(BS_NO_SUCH_NODE, make_third(a, first, no_node, 0, reversed, 3));
+  ANSWERS(BS_BAD_PARENTS, make_third(a, first, file, 0, reversed, 3));
+  ANSWERS(BS_BAD_PARENTS, make_third(a, area, first, 0, reversed, 3));
+  ANSWERS(BS_BAD_PARENTS, bs_index_records(m, a, NULL, 0, file, &zero, 1, reversed, by_third, 3));
+  LOCKS_PATH(a, file, BS_SIX);
+  LOCKS_PATH(a, first, BS_X);
+  ANSWERS(BS_NEED_EXCLUSIVE, make_third(a, area, file, 0, reversed, 3));
+  LOCKS_PATH(a, file, BS_X);
+  QUIET(BS_DONE, bs_unlock(m, a, first, &told));
+  LOCKS_PATH(a, low, BS_IX);
+  LOCKS_PATH(a, five, BS_X);
+  ANSWERS(BS_NEED_EXCLUSIVE, make_third(a, area, file, 0, reversed, 3));
+  LOCKS_PATH(a, first, BS_X);
+  WANT(same_node(ANSWERS(BS_NEED_PARENTS, make_third(a, area, file, 0, reversed, 3)).node, area));
+  LOCKS(a, area, BS_IX);
+  ANSWERS(BS_FILE_IN_USE, make_third(a, area, file, 0, reversed, 3));
+  QUIET(BS_DONE, bs_unlock(m, a, five, &told));
+  ANSWERS(BS_BAD_KEYS, make_third(a, area, file, 0, reversed, 2));
+  reversed[0] = five, reversed[1] = seven;
+  ANSWERS(BS_BAD_KEYS, make_third(a, area, file, 0, reversed, 2));
+  DONE(make_third(a, area, file, 1, reversed, 2));
+  end_manager();
+  ANSWERS(BS_NO_MANAGER, make_third(a, area, file, 1, reversed, 2));
+}
+
+/* A manager of six nodes, whose indexes have one bound at most; and the eighth index of a file. */
+static void the_limits_of_a_manager_hold_beside_records(void) {
+  static const bs_options options = { BS_AT_BLOCK, BS_YOUNGEST, 4, 6, 1 };
+  static const uint64_t bounds[2] = { 10, 20 };
+  size_t i;
+  DONE(bs_make(m, &options));
+  db = DONE(bs_add_inner(m, NULL, 0)).node;
+  file = make_file();
+  for (i = 0; i < 2; i++) named[i] = DONE(bs_adopt(m, file, NULL, 0)).node;
+  a = begin();
+  LOCKS_PATH(a, file, BS_X);
+  ANSWERS(BS_BAD_KEYS, bs_index_records(m, a, &db, 1, file, bounds, 2, named, by_third, 2));
+  ANSWERS(BS_TOO_MANY_NODES, bs_index_records(m, a, &db, 1, file, bounds, 1, named, by_third, 2));
+  DONE(bs_index_records(m, a, &db, 1, file, NULL, 0, named, by_third, 2));
+  end_manager();
+  open_named();
+  for (i = 2; i < 7; i++) DONE(bs_index_records(m, a, &db, 1, file, NULL, 0, named, by_third, 3));
+  ANSWERS(BS_BAD_PARENTS, bs_index_records(m, a, &db, 1, file, NULL, 0, named, by_third, 3));
+  WANT(DONE(bs_key(m, named[2], 6)).count == by_third[2] && bs_parent(m, named[2], 8).status == BS_NO_PLACE);
+  end_manager();
+}
+
+/* A row that its transaction has unlocked by its node keeps that, and it gets a key like a record. */
+static void an_index_beside_rows(void) {
+  static const uint64_t keys[2] = { 5, 30 };
+  bs_node row;
+  open_rows();
+  a = begin();
+  LOCKS_PATH(a, file, BS_X);
+  LOCKS_PATH(a, first, BS_X);
+  LOCKS_PATH(a, low, BS_IX);
+  row = QUIET(BS_DONE, bs_lock_row(m, a, file, 7, keys, 1, BS_X, &told)).node;
+  ANSWERS(BS_FILE_IN_USE, make_third(a, db, file, third_bound, &row, 1));
+  QUIET(BS_DONE, bs_unlock(m, a, row, &told));
+  ANSWERS(BS_FILE_IN_USE, make_third(a, db, file, third_bound, NULL, 0));
+  second = DONE(bs_index_records(m, a, &db, 1, file, &third_bound, 1, &row, keys + 1, 1)).node;
+  WANT(DONE(bs_key(m, row, 1)).count == 30);
+  LOCKS_PATH(a, interval(second, 1), BS_IX);
+  WANT(same_node(QUIET(BS_DONE, bs_lock_row(m, a, file, 7, keys, 2, BS_X, &told)).node, row));
+  QUIET(BS_DONE, bs_unlock_row(m, a, file, 7, &told));
+  DONE(make_third(a, db, file, third_bound, NULL, 0));
+  end_manager();
+}
+
+/* ------------------------------------------------------------------------------------------------
  * Limits, slots and boards.
  */
 
@@ -1684,6 +1963,20 @@ static void tell_of_intervals(void) {
   TELL(a_row_follows_its_interval);
 }
 
+static void tell_of_records_beside_an_index(void) {
+  TELL(an_index_is_made_beside_records);
+  TELL(no_effective_mode_is_another_beside_records);
+  TELL(an_interval_beside_records_is_read);
+  TELL(records_live_on_beside_an_index);
+  TELL(an_index_beside_no_records);
+  TELL(all_records_are_named_in_order);
+  TELL(each_record_has_a_key);
+  TELL(names_of_records_take_memory);
+  TELL(an_index_beside_records_is_refused);
+  TELL(the_limits_of_a_manager_hold_beside_records);
+  TELL(an_index_beside_rows);
+}
+
 static void tell_of_limits_and_watchers(void) {
   TELL(one_transaction_holds_many_nodes);
   TELL(a_transaction_takes_the_lowest_free_slot);
@@ -1700,6 +1993,7 @@ int main(void) {
   tell_of_nodes();
   tell_of_rows();
   tell_of_intervals();
+  tell_of_records_beside_an_index();
   tell_of_limits_and_watchers();
   return 0;
 }

@@ -5,7 +5,7 @@
  * of its headers, and it takes no memory.
  *
  * A command is a bs_command. All kinds are carried out but BS_DO_TRY_PATH and BS_DO_TRY_ROW, which only a shared table
- * has. The reply is that of the manager's call of the same name.
+ * has. The reply is that of the manager's call of the same name. A BS_DO_INDEX_BY with keys is bs_index_records.
  *
  * The lists name a node by its birth. Births are counted from 1.
  *
@@ -91,6 +91,7 @@ typedef struct naive {
   size_t gone_count;
   bs_node gone[NAIVE_GONE]; /* the names of the last nodes that were removed, the last one last */
   bs_notices told;          /* by the last command */
+  const bs_node *records;   /* those that the next BS_DO_INDEX_BY names, as many as it has keys; null if it has none */
 } naive;
 
 /* Makes a manager with no nodes and no transactions. Only the first two options can be 0. */

@@ -179,6 +179,7 @@ static bool splits() {
   if (bs_table_lock_path(table, txn, interval, BS_X, NULL).status != BS_DONE) return false;
   if (bs_split(NULL, txn, interval, 7, NULL).status != BS_NULL_POINTER) return false;
   if (bs_merge(NULL, txn, interval, NULL).status != BS_NULL_POINTER) return false;
+  if (bs_index_records(NULL, txn, NULL, 0, interval, NULL, 0, NULL, NULL, 0).status != BS_NULL_POINTER) return false;
   if (bs_table_split(table, txn, interval, 7, NULL).status != BS_DONE) return false;
   if (bs_table_merge(table, txn, interval, NULL).status != BS_DONE) return false;
   return bs_table_end(table).status == BS_DONE && bs_table_free(&table).status == BS_DONE;

@@ -96,6 +96,27 @@ static bs_reply comes_to(enum form form, bs_status status) {
   return form == SLEEPS ? BACK(&sleeper, status) : HEARD(&heard, status);
 }
 
+/* An index is made while a call waits for the file: it has no key for that, and is answered so after its grant. */
+static void an_index_is_made_meanwhile(void) {
+  enum form form;
+  for (form = SLEEPS; form < FORMS; form++) {
+    bs_txn holder, waiter;
+    set_up(BS_AT_BLOCK);
+    holder = begin();
+    waiter = begin();
+    DONE(bs_table_lock_path(table, holder, rows, BS_X, NULL));
+    sets_out(form, waiter, BS_X);
+    WANT(waits_for(waiter, rows));
+    DONE(bs_table_index_records(table, holder, &root, 1, rows, NULL, 0, NULL, NULL, 0));
+    WANT(waits_for(waiter, rows));
+    DONE(bs_table_commit(table, holder, NULL));
+    comes_to(form, BS_BAD_KEYS);
+    holds(waiter, rows, BS_IX);
+    WANT(ASK(table, bs_row_node, rows, ROW).status == BS_NO_SUCH_NODE);
+    close_table();
+  }
+}
+
 /* Somebody holds a node above the row, or the row: the call waits for it, and goes on after that. */
 static void it_waits_for(enum form form, int place) {
   bs_txn holder, waiter;
@@ -592,6 +613,7 @@ int main(int count, char **words) {
   TELL(it_takes_the_new_interval_meanwhile);
   TELL(it_follows_a_split);
   TELL(it_ends_at_a_merge);
+  TELL(an_index_is_made_meanwhile);
   TELL(its_file_is_dropped);
   TELL(it_ends_before_it_has_the_row);
   TELL(it_is_a_victim_above_its_row);

@@ -1,10 +1,10 @@
 /*
  * Random schemas over a manager of the library, compared with the manager of plain lists of naive.h: tables, indexes,
- * records and rows are made, changed and removed, and intervals split and merged. Both get every command, and must
- * answer and tell the same. After each command the transactions, their locks and the queues must be the same; after
- * each change of the schema also every node, with its parents, keys, indexes and intervals. Neither knows a removed
- * node. By the end each kind of command was accepted and refused, and every answer to a drop, to an index by a
- * transaction, to a split and to a merge has occurred.
+ * records and rows are made, changed and removed, indexes made beside records, and intervals split and merged. Both
+ * get every command, and must answer and tell the same. After each command the transactions, their locks and the queues
+ * must be the same; after each change of the schema also every node, with its parents, keys, indexes and intervals.
+ * Neither knows a removed node. By the end each kind of command was accepted and refused, and every answer to a drop,
+ * to an index by a transaction, with and without records, to a split and to a merge has occurred.
  *
  *   schemas [DRAWS]   how many times each scenario draws its work, 6000 if none is given
  *
@@ -59,6 +59,9 @@ static unsigned long told_gone, told_split, told_merged;
 /* How often each kind of command was refused memory. */
 static unsigned long refusals[KINDS];
 
+/* How often an index beside records had each answer, and was refused memory. */
+static unsigned long beside_records[STATUSES], refusals_beside_records;
+
 /* Ends the program at a difference. */
 static void wanted(const char *differs, const bs_command *c) {
   if (differs == NULL) return;
@@ -79,7 +82,9 @@ static bs_reply made_of_nodes(const bs_command *c) {
     case BS_DO_ADD_ROW_FILE: return bs_add_row_file(&m, c->parents, c->parent_count);
     case BS_DO_ADD_INDEX: return bs_add_index(&m, c->parents, c->parent_count, c->file, c->bounds, c->bound_count);
     case BS_DO_INDEX_BY:
-      return bs_index_by(&m, c->txn, c->parents, c->parent_count, c->file, c->bounds, c->bound_count);
+      return c->key_count == 0 ? bs_index_by(&m, c->txn, c->parents, c->parent_count, c->file, c->bounds, c->bound_count)
+                               : bs_index_records(&m, c->txn, c->parents, c->parent_count, c->file, c->bounds,
+                                                  c->bound_count, n.records, c->keys, c->key_count);
     case BS_DO_INSERT: return bs_insert(&m, c->txn, c->file, c->keys, c->key_count);
     case BS_DO_ADOPT: return bs_adopt(&m, c->file, c->keys, c->key_count);
     case BS_DO_DELETE: return bs_delete(&m, c->txn, c->node, &told);
@@ -173,6 +178,7 @@ static const char *looks(void) {
 static void count(const bs_command *c, bs_reply reply) {
   size_t i;
   tally[c->kind][reply.status]++;
+  if (c->kind == BS_DO_INDEX_BY && c->key_count > 0) beside_records[reply.status]++;
   for (i = 0; i < told.count; i++) {
     if (c->kind == BS_DO_DROP && told.at[i].kind == BS_TOLD_GONE) told_gone++;
     if (c->kind == BS_DO_SPLIT && told.at[i].kind == BS_TOLD_MOVED) told_split++;
@@ -213,6 +219,7 @@ static bs_reply made_in_spite(const bs_command *c) {
   refused_allocation = 0;
   if (came.status != BS_NO_MEMORY) return came;
   refusals[c->kind]++;
+  if (c->kind == BS_DO_INDEX_BY && c->key_count > 0) refusals_beside_records++;
   wanted(takes_no_memory(c) ? "a command that takes no memory is refused it" : NULL, c);
   wanted(same_number("how many are told in spite of a refusal", told.count, 0), c);
   if (c->kind == BS_DO_LOCK_PATH) return made(c); /* What was locked on the way stays. */
@@ -287,8 +294,8 @@ static bs_node some_parent(void) {
 }
 
 /* The lists of a command, while it is made. */
-static bs_node parents[2];
-static uint64_t bounds[MOST_BOUNDS + 1], keys[BS_MOST_PARENTS];
+static bs_node parents[2], records[NAIVE_NODES + 1];
+static uint64_t bounds[MOST_BOUNDS + 1], keys[NAIVE_NODES + 1];
 
 /* Mostly one inner node, or two, which may be one. */
 static void some_parents(bs_command *c) {
@@ -316,6 +323,30 @@ static void some_keys(bs_command *c) {
   }
   if (seldom(24)) keys[c->key_count++] = 1;
   c->keys = keys;
+}
+
+/* The records of a file by rising births, up to some, and their number. */
+static size_t records_of(bs_node file, bs_node *all) {
+  size_t i, count = 0;
+  for (i = 0; i < n.node_count; i++) {
+    if (n.nodes[i].kind == BS_RECORD && n.nodes[i].file == file.birth) all[count++] = n.nodes[i].name;
+  }
+  return count;
+}
+
+/* Mostly all records of a file, with a key for each; else one is missing, named twice or out of place, or another node
+ * is named. */
+static void some_records(bs_command *c) {
+  size_t count = records_of(c->file, records), drawn = count == 0 ? 12 : draw(12), at = draw(count + 1), i;
+  bs_node last = records[count == 0 ? 0 : count - 1];
+  if (drawn == 0) count--;
+  if (drawn == 1) records[count++] = last;
+  if (drawn == 2) records[count - 1] = records[0], records[0] = last;
+  if (drawn == 3) records[at < count ? at : 0] = some_node();
+  for (i = 0; i < count; i++) keys[i] = draw(KEYS);
+  n.records = records;
+  c->keys = keys;
+  c->key_count = count;
 }
 
 /* Mostly this one; else a transaction that has ended. */
@@ -391,12 +422,9 @@ static void reaches_all(bs_txn txn, const bs_command *c) {
 
 /* Deletes the records of a file, as far as their locks are granted. */
 static void empties(bs_txn txn, bs_node file) {
-  bs_node records[NAIVE_NODES];
-  size_t i, all = 0;
-  for (i = 0; i < n.node_count; i++) {
-    if (n.nodes[i].kind == BS_RECORD && n.nodes[i].file == file.birth) records[all++] = n.nodes[i].name;
-  }
-  for (i = 0; i < all && reaches(txn, records[i], BS_X); i++) asks(bs_do_at(BS_DO_DELETE, txn, records[i], BS_NL));
+  bs_node its[NAIVE_NODES];
+  size_t i, all = records_of(file, its);
+  for (i = 0; i < all && reaches(txn, its[i], BS_X); i++) asks(bs_do_at(BS_DO_DELETE, txn, its[i], BS_NL));
 }
 
 /* Locks what a drop of a node needs. */
@@ -444,14 +472,36 @@ static void indexes(bs_txn txn) {
   asks(c);
 }
 
+/* Locks the indexes of a file, and mostly releases what is held of its records, for an index beside them. */
+static void clears(bs_txn txn, bs_node file) {
+  bs_node its[NAIVE_NODES];
+  size_t i, all = 0;
+  for (i = 0; i < n.node_count; i++) {
+    if (n.nodes[i].kind == BS_INDEX && n.nodes[i].file == file.birth) its[all++] = n.nodes[i].name;
+  }
+  for (i = 0; i < all && !seldom(12); i++) reaches(txn, its[i], BS_X);
+  all = records_of(file, its);
+  if (all > 0 && seldom(4)) reaches(txn, its[draw(all)], BS_S);
+  for (i = 0; i < all && !seldom(12); i++) {
+    if (naive_held(&n, txn.slot, its[i].birth) != BS_NL) asks(bs_do_at(BS_DO_UNLOCK, txn, its[i], BS_NL));
+  }
+}
+
 static void indexes_by(bs_txn txn) {
   bs_command c = bs_do(BS_DO_INDEX_BY, txn);
+  const naive_node *record = naive_find(&n, some(BS_RECORD));
   c.file = some_file();
+  if (record != NULL && record->kind == BS_RECORD && !seldom(3)) c.file = naive_born(&n, record->file)->name;
   some_parents(&c);
   some_bounds(&c);
   if (!seldom(6)) reaches(txn, c.file, BS_X);
   if (!seldom(3)) reaches_all(txn, &c);
-  if (seldom(3)) empties(txn, c.file);
+  if (seldom(3)) {
+    empties(txn, c.file);
+  } else if (!seldom(4)) {
+    clears(txn, c.file);
+    some_records(&c);
+  }
   c.txn = name(txn);
   asks(c);
 }
@@ -766,6 +816,16 @@ static void all_came(uint32_t kind, const bs_status *statuses, size_t all) {
   }
 }
 
+/* The same of an index beside records. */
+static void all_came_beside_records(void) {
+  size_t i;
+  for (i = 0; i < sizeof of_indexes / sizeof of_indexes[0]; i++) {
+    bool has_come = beside_records[of_indexes[i]] > 0;
+    if (!has_come) wanted(say("an index beside records was never answered %s", bs_text(of_indexes[i])), NULL);
+  }
+  if (refusals_beside_records == 0) wanted("an index beside records was never refused memory", NULL);
+}
+
 /* Whether only a table has commands of this kind. */
 static bool is_of_tables(uint32_t kind) {
   return kind == BS_DO_TRY_PATH || kind == BS_DO_TRY_ROW || (kind > BS_DO_RENEW && kind < BS_DO_SPLIT);
@@ -798,6 +858,7 @@ static void all_refusals_came(void) {
 static void tally_is_full(void) {
   all_came(BS_DO_DROP, of_drops, sizeof of_drops / sizeof of_drops[0]);
   all_came(BS_DO_INDEX_BY, of_indexes, sizeof of_indexes / sizeof of_indexes[0]);
+  all_came_beside_records();
   all_came(BS_DO_SPLIT, of_splits, sizeof of_splits / sizeof of_splits[0]);
   all_came(BS_DO_MERGE, of_merges, sizeof of_merges / sizeof of_merges[0]);
   if (told_gone == 0) wanted("nobody was told that a dropped node is gone", NULL);

@@ -1637,6 +1637,67 @@ static void an_index_is_made_again(void) {
   close_table();
 }
 
+/* An index is made beside two records, while a writer sleeps on its way to one of them. After its grant it acquires the
+ * interval that the record has by then. */
+static void an_index_is_made_beside_records(void) {
+  static const uint64_t bound = 10, keys[2] = { 5, 20 };
+  struct requester one;
+  bs_node records[2], index;
+  bs_txn a, b;
+  set_up(BS_AT_BLOCK);
+  records[0] = low, records[1] = high;
+  a = begin(), b = begin();
+  DONE(bs_table_lock_path(table, a, file, BS_X, NULL));
+  ANSWERS(BS_NEED_EXCLUSIVE, bs_table_index_records(table, a, &root, 1, file, &bound, 1, records, keys, 2));
+  DONE(bs_table_lock_path(table, a, by_key, BS_X, NULL));
+  send_by_path(&one, b, high, BS_X);
+  ANSWERS(BS_FILE_IN_USE, bs_table_index_by(table, a, &root, 1, file, &bound, 1));
+  ANSWERS(BS_BAD_KEYS, bs_table_index_records(table, a, &root, 1, file, &bound, 1, records, keys, 1));
+  index = DONE(bs_table_index_records(table, a, &root, 1, file, &bound, 1, records, keys, 2)).node;
+  holds(a, index, BS_X);
+  WANT(ASK(table, bs_key, low, 1).count == 5 && ASK(table, bs_key, high, 1).count == 20);
+  DONE(bs_table_commit(table, a, NULL));
+  back(&one, BS_DONE);
+  holds(b, high, BS_X);
+  holds(b, DONE(ASK(table, bs_interval, index, 1)).node, BS_IX);
+  holds(b, DONE(ASK(table, bs_interval, index, 0)).node, BS_NL);
+  close_table();
+}
+
+/* Whether there is an nth allocation of an index beside records, which is refused: then nothing has changed. */
+static bool refuses_an_index_beside_records(long n) {
+  static const uint64_t keys[2] = { 5, 20 };
+  bs_node records[2];
+  uint64_t accepted;
+  bool refused;
+  bs_reply reply;
+  bs_txn a;
+  set_up(BS_AT_BLOCK);
+  records[0] = low, records[1] = high;
+  a = begin();
+  DONE(bs_table_lock_path(table, a, file, BS_X, NULL));
+  DONE(bs_table_lock_path(table, a, by_key, BS_X, NULL));
+  accepted = accepted_in(table);
+  refused_allocation = n;
+  reply = bs_table_index_records(table, a, &root, 1, file, keys, 1, records, keys, 2);
+  refused = refused_allocation == 0;
+  refused_allocation = 0;
+  if (reply.status == BS_NO_MEMORY) {
+    WANT(accepted_in(table) == accepted && ASK(table, bs_index, file, 1).status == BS_NO_PLACE);
+    WANT(ASK(table, bs_key, high, 1).status == BS_NO_PLACE && ASK(table, bs_parent, high, 2).status == BS_NO_PLACE);
+    reply = bs_table_index_records(table, a, &root, 1, file, keys, 1, records, keys, 2);
+  }
+  WANT(same_node(ASK(table, bs_index, file, 1).node, DONE(reply).node));
+  close_table();
+  return refused;
+}
+
+static void an_index_beside_records_needs_memory(void) {
+  long n = 1;
+  while (refuses_an_index_beside_records(n)) n++;
+  WANT(n > 2);
+}
+
 static void rows_that_change(void) {
   bs_reply reply;
   bs_node row;
@@ -3817,7 +3878,17 @@ static void a_table_by_options(void) {
   DONE(bs_table_free(&t));
 }
 
-/* If there is no table, each call is refused with this status. */
+/* If there is no table, each call is refused with this status: those that change a schema. */
+static void refuses_changes(bs_table *none, bs_status status, bs_txn t) {
+  static const uint64_t key = 1;
+  told.count = 1;
+  ANSWERS(status, bs_table_drop(none, t, root, &told));
+  WANT(told.count == 0);
+  ANSWERS(status, bs_table_index_by(none, t, &root, 1, file, NULL, 0));
+  ANSWERS(status, bs_table_index_records(none, t, &root, 1, file, NULL, 0, &low, &key, 1));
+}
+
+/* And all others. */
 static void refuses_all(bs_table *none, bs_status status, bs_txn t) {
   bs_watcher watcher = BS_NO_WATCHER_HERE;
   bs_command list[2];
@@ -3826,9 +3897,7 @@ static void refuses_all(bs_table *none, bs_status status, bs_txn t) {
   told.count = 1;
   ANSWERS(status, bs_table_commit(none, t, &told));
   WANT(told.count == 0);
-  told.count = 1;
-  ANSWERS(status, bs_table_drop(none, t, root, &told));
-  WANT(told.count == 0);
+  refuses_changes(none, status, t);
   ANSWERS(status, bs_table_begin(none));
   ANSWERS(status, bs_table_begin_in_turn(none, NULL));
   ANSWERS(status, bs_table_begin_again(none, 1));
@@ -3843,7 +3912,6 @@ static void refuses_all(bs_table *none, bs_status status, bs_txn t) {
   ANSWERS(status, bs_table_try_path(none, t, root, BS_X, BS_KEEP_WAY));
   ANSWERS(status, bs_table_try_path(none, t, root, BS_X, 2));
   ANSWERS(status, bs_table_try_row(none, t, file, 1, NULL, 1, BS_X));
-  ANSWERS(status, bs_table_index_by(none, t, &root, 1, file, NULL, 0));
   ANSWERS(status, bs_table_watch(none, &watcher));
   ANSWERS(status, bs_table_watch_thread(none, 0));
   ANSWERS(status, bs_table_dump(none, text));
@@ -4124,6 +4192,8 @@ int main(int count, char **words) {
   TELL(how_a_sleep_for_a_row_ends);
   TELL(a_file_of_rows_is_dropped);
   TELL(an_index_is_made_again);
+  TELL(an_index_is_made_beside_records);
+  TELL(an_index_beside_records_needs_memory);
   TELL(rows_that_change);
   TELL(other_keys_granted_by_a_victim);
   TELL(two_paths_to_one_row);

@@ -1503,6 +1503,22 @@ static void paths_lack_intentions(void) {
   DONE(bs_end(&part));
 }
 
+/* Which sleeps a new index ends, what may rest beside which marks, and who takes it up. */
+static void rows_lack_keys_and_some_rest(void) {
+  bs_node file = { 7, 3 }, other = { 7, 4 };
+  bs_target row = { file, BS_S, 1 }, whole = { file, BS_X, 0 };
+  const bs_marked mark = { { 1, 1 }, { 1, 2 } };
+  WANT(DONE(bs_lacks_key(row, file)).count == 1 && DONE(bs_lacks_key(row, other)).count == 0);
+  row.mode = BS_X;
+  WANT(DONE(bs_lacks_key(row, file)).count == 1 && DONE(bs_lacks_key(whole, file)).count == 0);
+  row.mode = 6;
+  WANT(bs_lacks_key(row, file).status == BS_BAD_NUMBER);
+  WANT(bs_may_rest(true, 1, NULL, 0) && bs_may_rest(true, UINT64_MAX, &mark, 0));
+  WANT(!bs_may_rest(true, 1, &mark, 1) && !bs_may_rest(true, 1, NULL, 1));
+  WANT(!bs_may_rest(false, 1, NULL, 0) && !bs_may_rest(true, 0, NULL, 0));
+  WANT(bs_takes_up(9, 9) && !bs_takes_up(9, 8));
+}
+
 /* One waits for another in one manager, and that for it in another manager. */
 static void boards_are_joined(void) {
   static bs_board joined, one;
@@ -1757,6 +1773,56 @@ static bool refuses_an_index(long n) {
 
 static void refused_allocations_of_indexes(void) {
   WANT(allocations_of(refuses_an_index) > 2);
+}
+
+enum { BESIDE = 5 };
+
+/* Whether a file has so many indexes, and each of its records a key for each and a parent more. */
+static bool have_indexes(const bs_manager *m, bs_node file, const bs_node *records, size_t count) {
+  size_t i;
+  for (i = 0; i < BESIDE; i++) {
+    if (bs_key(m, records[i], count).status != BS_NO_PLACE || bs_parent(m, records[i], count).status != BS_DONE) return false;
+    if (bs_parent(m, records[i], count + 1).status != BS_NO_PLACE) return false;
+    if (count > 0 && bs_key(m, records[i], count - 1).count != 10 * i) return false;
+  }
+  return bs_index(m, file, count).status == BS_NO_PLACE;
+}
+
+/* Makes an index of a file beside its records, which has so many indexes. */
+static void index_beside_in_spite(bs_manager *m, bs_txn t, bs_node file, const bs_node *records, size_t count) {
+  static const uint64_t bounds[2] = { 10, 20 }, keys[BESIDE] = { 0, 10, 20, 30, 40 };
+  bs_node root = bs_parent(m, file, 0).node;
+  uint64_t before = accepted_by(m), nodes = bs_len(m).count;
+  bs_reply made = bs_index_records(m, t, &root, 1, file, bounds, 2, records, keys, BESIDE);
+  if (made.status == BS_NO_MEMORY) {
+    WANT(accepted_by(m) == before && bs_len(m).count == nodes && have_indexes(m, file, records, count));
+    made = bs_index_records(m, t, &root, 1, file, bounds, 2, records, keys, BESIDE);
+  }
+  DONE(made);
+  WANT(accepted_by(m) == before + 1 && bs_len(m).count == nodes + 4 && have_indexes(m, file, records, count + 1));
+}
+
+/* Whether there is an nth allocation of four indexes that are made beside records, which is refused. */
+static bool refuses_an_index_beside_records(long n) {
+  bs_manager m = BS_NO_MANAGER_HERE;
+  bs_node root = begin_manager(&m, BS_AT_BLOCK), file = DONE(bs_add_file(&m, &root, 1)).node, records[BESIDE];
+  bs_txn a = begin(&m);
+  bool refused;
+  size_t i;
+  DONE(bs_lock_path(&m, a, file, BS_X, &told));
+  for (i = 0; i < BESIDE; i++) records[i] = DONE(bs_adopt(&m, file, NULL, 0)).node;
+  refused_allocation = n;
+  for (i = 0; i < 4; i++) index_beside_in_spite(&m, a, file, records, i);
+  refused = refused_allocation == 0;
+  refused_allocation = 0;
+  DONE(bs_commit(&m, a, &told));
+  for (i = 0; i < BESIDE; i++) DONE(bs_forget(&m, records[i]));
+  DONE(bs_end(&m));
+  return refused;
+}
+
+static void refused_allocations_beside_records(void) {
+  WANT(allocations_of(refuses_an_index_beside_records) > 2);
 }
 
 /* A call whose allocation is refused changes nothing. */
@@ -2098,6 +2164,7 @@ int main(void) {
   TELL(names_that_name_nothing);
   TELL(a_part_is_visited);
   TELL(paths_lack_intentions);
+  TELL(rows_lack_keys_and_some_rest);
   TELL(boards_are_joined);
   TELL(visits_are_refused);
   TELL(a_refused_call_tells_nobody);
@@ -2105,6 +2172,7 @@ int main(void) {
   TELL(everybody_is_told);
   TELL(refused_allocations);
   TELL(refused_allocations_of_indexes);
+  TELL(refused_allocations_beside_records);
   TELL(refused_allocations_of_splits);
   TELL(refused_allocations_of_rows);
   TELL(refused_allocations_of_row_files);

@@ -406,6 +406,27 @@ static void intervals_change(void) {
   end_trace_with("split t0 n3.0 at 60\n= ok\n= told t2 moved\n");
 }
 
+/* A trace has no line for an index beside records: there is none while it lasts. One of a file without records has. */
+static void indexes_beside_records(void) {
+  static const uint64_t bound = 10, key = 150;
+  bs_node top, books, added;
+  bs_txn one;
+  begin_trace(BS_AT_BLOCK);
+  top = add_root();
+  books = DONE(bs_table_add_file(table, &top, 1)).node;
+  one = begin();
+  DONE(bs_table_lock_path(table, one, books, BS_X, NULL));
+  added = DONE(bs_table_insert(table, one, books, NULL, 0)).node;
+  DONE(bs_table_unlock(table, one, added, NULL));
+  ANSWERS(BS_NOT_WRITTEN, bs_table_index_records(table, one, &top, 1, books, &bound, 1, &added, &key, 1));
+  ANSWERS(BS_NOT_WRITTEN, bs_table_index_records(table, one, NULL, 1, books, &bound, 1, NULL, NULL, 1));
+  WANT(ASK(table, bs_index, books, 0).status == BS_NO_PLACE);
+  DONE(bs_table_forget(table, added));
+  DONE(bs_table_index_records(table, one, &top, 1, books, &bound, 1, NULL, NULL, 0));
+  DONE(bs_table_commit(table, one, NULL));
+  end_trace();
+}
+
 /* A whole transaction is one list, with a wait that is awaited. */
 static void lists(void) {
   bs_command list[6];
@@ -862,6 +883,7 @@ int main(int count, char **words) {
   TELL(rows_come_and_go);
   TELL(rows_with_what_is_above_them);
   TELL(nodes_change);
+  TELL(indexes_beside_records);
   TELL(intervals_change);
   TELL(lists);
   TELL(begins_in_turn);

@@ -97,6 +97,10 @@ other_keys = 38
 abbrev pub no_manager : ℕ
 no_manager = 65
 
+-- the status of a call that lacks memory
+abbrev pub no_memory : ℕ
+no_memory = 1
+
 -- a number names nothing, or a count is out of range
 abbrev pub bad_number : ℕ
 bad_number = 66

@@ -4,4 +4,5 @@ pub mod Deadlocks
 pub mod Listings
 pub mod Looks
 pub mod Passing
+pub mod Rests
 pub mod Visits

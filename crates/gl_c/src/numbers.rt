@@ -12,6 +12,9 @@ use gl_waits::Victims;
 /// The call was done, or the question answered.
 pub(crate) const DONE: u32 = 0;
 
+/// The allocator refused.
+pub(crate) const NO_MEMORY: u32 = 1;
+
 /// The transaction waits for the lock.
 pub(crate) const WAITING: u32 = 32;
 

@@ -7,4 +7,5 @@ mod listings;
 pub(crate) mod look;
 pub(crate) mod passing;
 mod queries;
+mod rests;
 pub(crate) mod visits;

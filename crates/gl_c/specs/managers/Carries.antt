@@ -1,5 +1,5 @@
 -- A call from C: what it does, and what C gets.
-use Rattle.std.specs.Prelude.{◌≡◌, ℕ, Bool, true, [], ◌<◌, ◌≤◌, List, Option, Some, None, length, map}
+use Rattle.std.specs.Prelude.{◌≡◌, ◌⊎◌, ℕ, Bool, true, [], ◌<◌, ◌≤◌, List, Option, Some, None, length, map}
 use denote.Bor.{Bor}
 use Rattle.gl_modes.specs.declared.node.NodeId.{NodeId}
 use Rattle.gl_slots.specs.declared.slots.Slots.{Slots}
@@ -85,6 +85,10 @@ Asks (Some g) call r s' = (g' : GuardedView) × (s' ≡ Some g') × Answers g ca
 abbrev pub Where : {A : Type 0} → Option A → (A → Type 0) → Type 0 → Type 0
 Where None then other = other
 Where (Some a) then other = then a
+
+-- a call with the names of these nodes is made, or declined since memory for the names is lacking
+abbrev pub Naming : List Node → (Bor (List NodeId) → Type 0) → Type 0 → Type 0
+Naming ns then lacks = ((ids : Bor (List NodeId)) × (ids.now ≡ map node_id ns) × then ids) ⊎ lacks
 
 -- the parents that C names, as a command needs them: at most 8
 pub record Under (ps : List Node) (then : Bor (List NodeId) → Type 0) (other : Type 0) : Type 0 where

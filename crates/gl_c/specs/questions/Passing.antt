@@ -1,5 +1,5 @@
--- Replies to what a path in a part lacks in the main manager, what a transaction has to copy of its own, and whether marks may be cleared.
-use Rattle.std.specs.Prelude.{◌≡◌, ◌⊎◌, ℕ, not, ◌==◌, List, map, Option, Some, None}
+-- Replies to what a path in a part lacks in the main manager, what a transaction has to copy of its own, when marks may be cleared, and who lacks a key.
+use Rattle.std.specs.Prelude.{◌≡◌, ◌⊎◌, ℕ, not, ◌==◌, if◌then◌else◌, List, map, Option, Some, None}
 use Rattle.gl_modes.specs.declared.mode.Mode.{Mode}
 use Rattle.gl_modes.specs.declared.node.NodeId.{NodeId}
 use Rattle.gl_modes.specs.declared.refusal.Refusal.TheVariants as no
@@ -10,7 +10,7 @@ use Rattle.gl_catalog.specs.Manager.{state_of}
 use Rattle.gl_catalog.specs.Paths.{intention}
 use Rattle.gl_parts.specs.declared.passing.Mark.{Mark as TheMark}
 use Rattle.gl_parts.specs.declared.passing.Target.{Target as TheTarget}
-use Rattle.gl_parts.specs.Passing.{IsFirst, Lacks, MayClear}
+use Rattle.gl_parts.specs.Passing.{IsFirst, Lacks, MayClear, is_row_of}
 use Rattle.gl_parts.specs.Visiting.{own_copy}
 use Rattle.gl_c.specs.declared.answers.reply.Reply.{Reply}
 use Rattle.gl_c.specs.declared.questions.passing.Mark.{Mark}
@@ -95,3 +95,9 @@ abbrev pub AsksMayClear : Option GuardedView → NodeId → ℕ → Reply → Op
 AsksMayClear None n in_progress r s' = Declines None no_manager r s'
 AsksMayClear (Some g) n in_progress r s' =
     Unless (first_refusal (group_tests (state_of g.manager) n)) r (TellsMayClear (state_of g.manager) n in_progress r) × (s' ≡ Some g)
+
+-- Who lacks a key.
+
+-- 1 for a row of the file, else 0, if the number names a mode
+abbrev pub TellsLacksKey : Target → NodeId → Reply → Type 0
+TellsLacksKey x f r = Where (mode_at x.mode) (λ m. r ≡ count_reply (if is_row_of f (target_id x m) then 1 else 0)) (r ≡ status_reply bad_number)

@@ -1,5 +1,5 @@
 //! Several managers that work as one: what a path in a part lacks in the main manager, what a transaction
-//! has to copy of its own, and whether marks may be cleared. The calls change nothing.
+//! has to copy of its own, whether marks may be cleared, and who lacks a key. The calls change nothing.
 
 ghost use Rattle.std.specs.Option.{option_map};
 ghost use Rattle.std.specs.Prelude.{◌≡◌, None};
@@ -7,8 +7,8 @@ ghost use Rattle.gl_graph.specs.Refusals.{first_refusal};
 ghost use Rattle.gl_model.specs.Calls.{group_tests};
 ghost use Rattle.gl_catalog.specs.Manager.{state_of};
 ghost use Rattle.gl_c.specs.managers.Handle.{guarded_in};
-ghost use Rattle.gl_c.specs.questions.Passing.{AnswersLack, AnswersOwn, AsksLack, AsksMayClear, AsksOwn, FindsLack, TellsMayClear, lack_reply};
-ghost use Rattle.gl_c.specs.questions.Passing.{own_reply, target_id};
+ghost use Rattle.gl_c.specs.questions.Passing.{AnswersLack, AnswersOwn, AsksLack, AsksMayClear, AsksOwn, FindsLack, TellsLacksKey, TellsMayClear};
+ghost use Rattle.gl_c.specs.questions.Passing.{lack_reply, own_reply, target_id};
 ghost use Rattle.gl_c.specs.questions.Visits.{Unless};
 ghost use Rattle.gl_c.specs.Names.{node_id};
 
@@ -19,7 +19,7 @@ use crate::numbers::{BAD_NUMBER, DONE, NO_PLACE, mode_at, mode_number, slot_at};
 use crate::questions::visits::refusal_of;
 use gl_catalog::Manager;
 use gl_modes::{Mode, NodeId, Refusal};
-use gl_parts::{Marked, first_lack, intention, may_clear, own_copy};
+use gl_parts::{Marked, first_lack, intention, lacks_key, may_clear, own_copy};
 use std::alloc::{AllocError, Global};
 
 /// A node for which a part is marked, by its names in the main manager and in the part.
@@ -115,6 +115,17 @@ pub extern "C" fn bs_call_may_clear(manager: &mut Handle, node: Node, in_progres
     ensures { AsksMayClear (guarded_in manager.old) (node_id node) in_progress result (guarded_in manager.new) }
 {
     manager.may_clear(node.id(), in_progress)
+}
+
+/// Whether a call that waits for this target lacks a key after an index of a file was made.
+#[unsafe(no_mangle)]
+pub extern "C" fn bs_call_lacks_key(target: &Target, file: Node) -> Reply
+    ensures { TellsLacksKey target.now (node_id file) result }
+{
+    match mode_at(target.mode) {
+        Some(mode) => Reply::with_count(u64::from(lacks_key(target.id(mode), file.id()))),
+        None => Reply::with_status(BAD_NUMBER),
+    }
 }
 
 /// The reply for what a path lacks.

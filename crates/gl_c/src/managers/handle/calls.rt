@@ -81,6 +81,11 @@ impl Handle {
         }
     }
 
+    /// What memory is asked of.
+    pub(crate) fn alloc(&self) -> Global {
+        self.alloc
+    }
+
     /// Whether there is a session.
     pub(crate) fn has_session(&self) -> bool
         ensures { result ≡ is_some (guarded_in self.now) }
