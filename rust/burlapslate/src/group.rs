@@ -164,6 +164,42 @@ impl Group {
         node_of(self.group.add_row_file(self.part(part)?, parents))
     }
 
+    /// Makes a spread file: an inner node, which is answered, with a file of rows below it in each part. Its rows are
+    /// dealt to the parts by their numbers: each part has an even share, also of rows that follow each other. So threads
+    /// that lock rows of one file work in different parts. Costs the latches of all tables at once.
+    ///
+    /// The file of a [`Row`] may be a spread file: each call about the row is made in the row's part. To lock all rows,
+    /// lock the spread file itself in `S` or `X`, as any inner node. It has no indexes, and its rows have no keys.
+    /// [`file_of_row`](Group::file_of_row) names its file in one part, which can be locked and escalated alone.
+    ///
+    /// A transaction acquires the intentions above its rows in each of their parts, unless they were kept there
+    /// ([`keep`](Group::keep)): without that, short transactions cost twice as much.
+    ///
+    /// Refused as [`add_inner`](Group::add_inner), and with [`BadParents`](Refusal::BadParents) also without parents. A
+    /// spread file as a parent is refused with [`BadParents`](Refusal::BadParents), and a record of it with
+    /// [`RowsByNumber`](Refusal::RowsByNumber). Its file in a part is refused with [`NotRows`](Refusal::NotRows) as the
+    /// file of a row, and with [`BadParents`](Refusal::BadParents) by the calls that would drop it or give it an index.
+    ///
+    /// ```
+    /// # use burlapslate::{Group, Mode, Row, RowLocked, Stop};
+    /// # let group = Group::new(4)?;
+    /// # let db = group.add_inner(&[])?;
+    /// let orders = group.add_spread_file(&[db])?;
+    /// let mut session = group.begin()?;
+    /// for number in 0..100 {
+    ///     let locked = session.lock_row_path(Row { file: orders, number }, &[], Mode::X)?;
+    ///     assert_eq!(locked, RowLocked::Own(Mode::X));
+    /// }
+    /// session.commit()?;
+    /// let mut report = group.begin()?;
+    /// report.lock_path(orders, Mode::S)?; // It reads all rows, in all parts.
+    /// report.commit()?;
+    /// # Ok::<(), Stop>(())
+    /// ```
+    pub fn add_spread_file(&self, parents: &[Node]) -> Result<Node, Refusal> {
+        node_of(self.group.add_spread_file(parents))
+    }
+
     /// As [`Manager::add_index`], in the part of the file. If it is made, each call that waits for a row of the file is
     /// refused with [`BadKeys`](Refusal::BadKeys): it has no key for the index.
     pub fn add_index(&self, parents: &[Node], file: Node, bounds: &[u64]) -> Result<Node, Refusal> {
@@ -308,6 +344,27 @@ impl Group {
     ) -> Result<T, Refusal> {
         let asked = self.group.with(self.table(table)?, ask);
         asked.ok_or(Refusal::InUse)
+    }
+
+    /// The file in a part that has a row of a spread file ([`add_spread_file`](Group::add_spread_file)). Costs no latch.
+    ///
+    /// Refused with [`NotRows`](Refusal::NotRows) if the row's file is no spread file.
+    ///
+    /// ```
+    /// # use burlapslate::{Group, Mode, Row, RowLocked, Stop};
+    /// # let group = Group::new(4)?;
+    /// # let db = group.add_inner(&[])?;
+    /// let orders = group.add_spread_file(&[db])?;
+    /// let row = Row { file: orders, number: 7 };
+    /// let mut session = group.begin()?;
+    /// assert_eq!(session.lock_row_path(row, &[], Mode::X)?, RowLocked::Own(Mode::X));
+    /// let file = group.file_of_row(row)?;
+    /// assert_eq!(session.held(file), Ok(Mode::IX));
+    /// assert_eq!(session.escalate(file)?.mode, Mode::X); // For all rows of that part.
+    /// # Ok::<(), Stop>(())
+    /// ```
+    pub fn file_of_row(&self, row: Row) -> Result<Node, Refusal> {
+        node_of(self.group.file_of_row(row))
     }
 
     /// What the tables of the group have been doing since it was made: the sums of [`Manager::counters`] of each.
@@ -814,6 +871,28 @@ impl<'g> GroupSession<'g> {
         bounds: &[u64],
     ) -> Result<Tried<Node>, Refusal> {
         Tried::of_made(&self.transaction.index_by(parents, file, bounds))
+    }
+
+    /// A new index of a file beside its records, as [`Manager::index_records`], in the part of the file. What the
+    /// transaction lacks on a parent, and what it may have to wait for, are as of [`index_by`](GroupSession::index_by).
+    ///
+    /// Refused as [`Manager::index_records`], but never with [`NeedParents`](Refusal::NeedParents).
+    pub fn index_records(
+        &mut self,
+        parents: &[Node],
+        file: Node,
+        bounds: &[u64],
+        records: &[Node],
+        keys: &[u64],
+    ) -> Result<Tried<Node>, Refusal> {
+        if records.len() != keys.len() {
+            return Err(Refusal::BadKeys);
+        }
+        Tried::of_made(
+            &self
+                .transaction
+                .index_records(parents, file, bounds, records, keys),
+        )
     }
 
     /// The mode in which the transaction holds a node; of an inner node the supremum of what it holds in all tables, with

@@ -868,6 +868,56 @@ impl Manager {
         let reply = sys::index_by(self.pinned.place_mut(), txn, parents, file, bounds);
         accepted(reply).map(|reply| reply.node)
     }
+
+    /// A new index of a file beside its records, as [`index_by`](Manager::index_by) makes one of a file that
+    /// has none. `records` are all records of the file in order of birth, which is the order of their
+    /// inserts: the manager lists none, so keep their names. Each gets the key at its place as its last key,
+    /// and the interval of that key as its last parent. Without records it is
+    /// [`index_by`](Manager::index_by).
+    ///
+    /// The transaction needs [`X`](Mode::X) on the file and on each index of the file, and
+    /// [`IX`](Mode::IX) or greater on each parent. So nobody else reads or writes a record. It may hold none
+    /// itself: release them first. It holds the new index in `X` from then on.
+    ///
+    /// Refused as [`index_by`](Manager::index_by); with [`FileInUse`](Refusal::FileInUse) if the transaction
+    /// holds a record; with [`BadKeys`](Refusal::BadKeys) also if a record is missing, named twice or out of
+    /// order, or a name is not of a record of the file, and first of all if there is not a key for each.
+    /// Takes memory. It tells nobody. Costs a step for each bound and each record.
+    ///
+    /// ```
+    /// # use burlapslate::{Detect, Manager, Mode, Refusal, SLOTS};
+    /// # let mut m = Manager::new(Detect::AtBlock, SLOTS)?;
+    /// # let shop = m.add_inner(&[])?;
+    /// # let orders = m.add_file(&[shop])?;
+    /// let txn = m.begin()?;
+    /// m.lock_path(txn, orders, Mode::X)?;
+    /// let (one, other) = (m.insert(txn, orders, &[])?, m.insert(txn, orders, &[])?);
+    /// let (records, keys) = ([one, other], [120, 7]);
+    /// let in_use = m.index_records(txn, &[shop], orders, &[100], &records, &keys);
+    /// assert_eq!(in_use, Err(Refusal::FileInUse));
+    /// m.unlock(txn, one)?;
+    /// m.unlock(txn, other)?;
+    /// let by_day = m.index_records(txn, &[shop], orders, &[100], &records, &keys)?;
+    /// assert_eq!(m.key(one, 0), Some(120));
+    /// assert_eq!(m.parent(other, 1), Some(m.interval_of(by_day, 7)?));
+    /// # Ok::<(), burlapslate::Refusal>(())
+    /// ```
+    pub fn index_records(
+        &mut self,
+        txn: Txn,
+        parents: &[Node],
+        file: Node,
+        bounds: &[u64],
+        records: &[Node],
+        keys: &[u64],
+    ) -> Result<Node, Refusal> {
+        if records.len() != keys.len() {
+            return Err(Refusal::BadKeys);
+        }
+        let place = self.pinned.place_mut();
+        let reply = sys::index_records(place, txn, parents, file, bounds, records, keys);
+        accepted(reply).map(|reply| reply.node)
+    }
 }
 
 /// # Rows by the engine's own numbers

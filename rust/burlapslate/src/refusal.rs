@@ -79,7 +79,7 @@ pub enum Refusal {
     TooLate,
     /// The table has no trace.
     NoTrace,
-    /// A trace could not be written to its end.
+    /// A trace could not be written to its end; or it has no line for this call.
     NotWritten,
 }
 

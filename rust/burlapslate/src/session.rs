@@ -963,6 +963,26 @@ impl<'t> Session<'t> {
         ))
     }
 
+    /// As [`Manager::index_records`](crate::Manager::index_records). While the table is traced
+    /// ([`Table::trace`](crate::Table::trace)), a call that names records is refused with
+    /// [`NotWritten`](Refusal::NotWritten), whatever else is wrong with it: a trace has no line for it.
+    pub fn index_records(
+        &mut self,
+        parents: &[Node],
+        file: Node,
+        bounds: &[u64],
+        records: &[Node],
+        keys: &[u64],
+    ) -> Result<Node, Refusal> {
+        if records.len() != keys.len() {
+            return Err(Refusal::BadKeys);
+        }
+        let (table, txn) = (self.call(), self.txn);
+        node_of(shared::index_records(
+            &table, txn, parents, file, bounds, records, keys,
+        ))
+    }
+
     /// Commits, wakes the waiters that are granted by it, and lets its rows go. If the commit is refused,
     /// because the transaction was condemned or another thread ended it, the session is aborted.
     ///

@@ -429,6 +429,10 @@ unsafe extern "C" {
         file: Node,
         bounds: *const u64,
         bound_count: usize,
+        records: *const Node,
+        record_count: usize,
+        keys: *const u64,
+        key_count: usize,
     ) -> Reply;
 
     fn bs_call_lock_row(
@@ -580,17 +584,32 @@ pub(crate) fn index_by(
     file: Node,
     bounds: &[u64],
 ) -> Reply {
-    let (above, count) = (nodes(parents), parents.len());
+    index_records(manager, txn, parents, file, bounds, &[], &[])
+}
+
+pub(crate) fn index_records(
+    manager: &mut Place,
+    txn: Txn,
+    parents: &[Node],
+    file: Node,
+    bounds: &[u64],
+    records: &[Node],
+    keys: &[u64],
+) -> Reply {
     // SAFETY: the counts are the lists' own.
     unsafe {
         bs_call_index_by(
             manager,
             txn,
-            above,
-            count,
+            nodes(parents),
+            parents.len(),
             file,
             numbers(bounds),
             bounds.len(),
+            nodes(records),
+            records.len(),
+            numbers(keys),
+            keys.len(),
         )
     }
 }

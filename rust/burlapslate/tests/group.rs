@@ -203,6 +203,122 @@ fn files_are_in_parts() {
     }
 }
 
+/// A row of a spread file is locked, tried, unlocked and escalated in its part.
+#[test]
+fn rows_of_spread_files_are_in_all_parts() {
+    let w = World::new();
+    let file = w.group.add_spread_file(&[w.area]).unwrap();
+    assert_eq!(Group::table_of(file), 0);
+    let row = |number| Row { file, number };
+    let within = |number| w.group.file_of_row(row(number)).unwrap();
+    for part in 1..=PARTS {
+        let share = (0..30).filter(|number| Group::table_of(within(*number)) == part);
+        assert!((8..=12).contains(&share.count()));
+    }
+    let (mut first, mut second) = (w.begin(), w.begin());
+    for number in 0..30 {
+        let locked = first.lock_row_path(row(number), &[], Mode::X);
+        assert_eq!(locked, Ok(RowLocked::Own(Mode::X)));
+        assert_eq!(first.held(within(number)), Ok(Mode::IX));
+        let tried = second.try_lock_row_path(row(number), &[], Mode::S, Keep::Nothing);
+        let Ok(Tried::WouldBlock(node)) = tried else {
+            panic!("{tried:?}");
+        };
+        assert_eq!(first.held(node), Ok(Mode::X));
+        assert_eq!(Group::table_of(node), Group::table_of(within(number)));
+        let late = second.lock_row_path_timeout(row(number), &[], Mode::S, Duration::ZERO);
+        assert_eq!(late, Err(Stop::TimedOut));
+    }
+    first.unlock_row(row(7)).unwrap();
+    assert_eq!(first.unlock_row(row(7)), Err(Refusal::NoSuchNode));
+    let locked = second.lock_row_path(row(7), &[], Mode::X);
+    assert_eq!(locked, Ok(RowLocked::Own(Mode::X)));
+    second.commit().unwrap();
+    assert_eq!(first.held(file), Ok(Mode::IX));
+    let escalated = first.escalate(within(7)).unwrap();
+    assert_eq!((escalated.mode, escalated.kept), (Mode::X, 0));
+    assert_eq!(first.held(within(7)), Ok(Mode::X));
+    first.commit().unwrap();
+}
+
+#[test]
+fn spread_files_are_locked_as_a_whole() {
+    let w = World::new();
+    let file = w.group.add_spread_file(&[w.area]).unwrap();
+    for number in 0..6 {
+        let row = Row { file, number };
+        let (mut writer, mut reader) = (w.begin(), w.begin());
+        let own = |mode| Ok(RowLocked::Own(mode));
+        assert_eq!(writer.lock_row_path(row, &[], Mode::X), own(Mode::X));
+        let reads = reader.txn();
+        thread::scope(|scope| {
+            let reading = scope.spawn(|| reader.lock_path(file, Mode::S));
+            w.await_wait(0, reads);
+            writer.commit().unwrap();
+            assert_eq!(reading.join().unwrap(), Ok(Mode::S));
+        });
+        let mut late = w.begin();
+        let tried = late.try_lock_row_path(row, &[], Mode::X, Keep::Nothing);
+        assert_eq!(tried, Ok(Tried::WouldBlock(file)));
+        assert_eq!(late.lock_row_path(row, &[], Mode::S), own(Mode::S));
+        reader.commit().unwrap();
+        assert_eq!(late.lock_row_path(row, &[], Mode::X), own(Mode::X));
+        late.commit().unwrap();
+    }
+}
+
+#[test]
+fn wrong_uses_of_spread_files_are_refused() {
+    let w = World::new();
+    let group = &w.group;
+    let file = group.add_spread_file(&[w.area]).unwrap();
+    let wrong = Err(Refusal::BadParents);
+    for parents in [&[][..], &[file], &[w.base, file], &[w.base, w.base]] {
+        assert_eq!(group.add_spread_file(parents), wrong);
+    }
+    assert_eq!(group.add_spread_file(&[w.base; 9]), Err(Refusal::BadNumber));
+    assert_eq!(group.add_inner(&[file]), wrong);
+    assert_eq!(group.add_file(&[file]), wrong);
+    assert_eq!(group.add_row_file_in(1, &[file]), wrong);
+    let mut session = w.begin();
+    for number in 0..6 {
+        let within = group.file_of_row(Row { file, number }).unwrap();
+        assert_eq!(group.add_index(&[w.base], within, &[]), wrong);
+        let part = Group::table_of(within);
+        assert_eq!(group.add_file_in(part, &[within]), wrong);
+        let direct = Row {
+            file: within,
+            number,
+        };
+        assert_eq!(group.file_of_row(direct), Err(Refusal::NotRows));
+        let end = session.lock_row_path(direct, &[], Mode::S);
+        assert_eq!(end, Err(Stop::Refused(Refusal::NotRows)));
+        assert_eq!(session.unlock_row(direct), Err(Refusal::NotRows));
+        session.lock_path(within, Mode::X).unwrap();
+        assert_eq!(session.drop_node(within), Err(Refusal::BadParents));
+        let made = session.index_by(&[w.base], within, &[]);
+        assert_eq!(made, Err(Refusal::BadParents));
+    }
+    for node in [file, group.file_of_row(Row { file, number: 1 }).unwrap()] {
+        assert_eq!(session.insert(node, &[]), Err(Refusal::RowsByNumber));
+        assert_eq!(group.adopt(node, &[]), Err(Refusal::RowsByNumber));
+    }
+    assert_eq!(session.escalate(file), Err(Refusal::BadParents));
+    assert_eq!(session.unlock(file), Err(Refusal::BadParents));
+    assert_eq!(session.drop_node(file), Err(Refusal::BadParents));
+    let row = Row { file, number: 1 };
+    let end = session.lock_row_path(row, &[5], Mode::S);
+    assert_eq!(end, Err(Stop::Refused(Refusal::BadKeys)));
+    let keyed = session.rekey_row(row, w.row_indexes[0], 1);
+    assert_eq!(keyed, Err(Refusal::NoSuchNode));
+    let base = Row {
+        file: w.base,
+        number: 1,
+    };
+    assert_eq!(group.file_of_row(base), Err(Refusal::NotRows));
+    session.commit().unwrap();
+}
+
 #[test]
 fn wrong_graphs_are_refused() {
     let w = World::new();
@@ -689,6 +805,36 @@ fn schemas_change() {
     assert_eq!(own, Ok(RowLocked::Own(Mode::X)));
     assert_eq!(other.held(w.interval(3, finer, 1)), Ok(Mode::IX));
     other.commit().unwrap();
+}
+
+/// Records of the file's part alone are named, by their names in the group.
+#[test]
+fn an_index_is_made_beside_records() {
+    let w = World::new();
+    let (mut session, mut reader) = (w.begin(), w.begin());
+    let ([low, high], file) = (w.records[1], w.files[1]);
+    for node in [file, w.indexes[1]] {
+        session.lock_path(node, Mode::X).unwrap();
+    }
+    let mut made_over = |records: &[Node], keys: &[u64]| {
+        session.index_records(&[w.base], file, &[10], records, keys)
+    };
+    let strange = w.records[0][1];
+    for (records, keys) in [([low, high], &[7][..]), ([low, strange], &[7, 10])] {
+        assert_eq!(made_over(&records, keys), Err(Refusal::BadKeys));
+    }
+    let index = made(made_over(&[low, high], &[7, 10]));
+    assert_eq!(Group::table_of(index), 2);
+    assert_eq!(session.held(index), Ok(Mode::X));
+    session.commit().unwrap();
+    let upper = w.interval(2, index, 1);
+    reader.lock_path(upper, Mode::S).unwrap();
+    let mut writer = w.begin();
+    assert_eq!(writer.lock_path(low, Mode::X), Ok(Mode::X));
+    let tried = writer.try_lock_path(high, Mode::X, Keep::Nothing);
+    assert_eq!(tried, Ok(Tried::WouldBlock(upper)));
+    writer.commit().unwrap();
+    reader.commit().unwrap();
 }
 
 /// An index tries what the transaction lacks on the parents, and what it got of that stays.
@@ -1417,8 +1563,27 @@ fn an_area_is_read_against_writers_below() {
     });
 }
 
+/// How many accounts there are.
+const ACCOUNTS: usize = 2 * PARTS;
+
+/// Accounts that are rows of these files by turns, with these keys, and a node above all of them.
+struct Accounts {
+    above: Node,
+    files: Vec<Node>,
+    keys: &'static [u64],
+}
+
+impl Accounts {
+    fn row(&self, place: usize) -> Row {
+        Row {
+            file: self.files[place % self.files.len()],
+            number: place as u64,
+        }
+    }
+}
+
 /// Moves one from an account to another, by rows in parts that may differ.
-fn transfer(w: &World, sums: &[AtomicI64], from: usize, to: usize) {
+fn transfer(w: &World, accounts: &Accounts, sums: &[AtomicI64], from: usize, to: usize) {
     let mut since = u64::MAX;
     loop {
         let mut session = match w.group.begin_again(since) {
@@ -1431,11 +1596,7 @@ fn transfer(w: &World, sums: &[AtomicI64], from: usize, to: usize) {
         };
         since = since.min(session.txn().age());
         let mut moves = |place: usize, by: i64| {
-            let row = Row {
-                file: w.row_files[place % PARTS],
-                number: place as u64,
-            };
-            let locked = session.lock_row_path(row, &[place as u64], Mode::X)?;
+            let locked = session.lock_row_path(accounts.row(place), accounts.keys, Mode::X)?;
             assert_eq!(locked, RowLocked::Own(Mode::X));
             let seen = sums[place].load(Ordering::Relaxed);
             thread::yield_now();
@@ -1457,19 +1618,32 @@ fn transfer(w: &World, sums: &[AtomicI64], from: usize, to: usize) {
     }
 }
 
-/// A crowd moves money between accounts of all parts, with deadlocks, and who reads the base sees a whole sum.
+/// A crowd moves money between accounts of all parts, with deadlocks, and who reads the base sees a whole sum. The same
+/// with accounts of a spread file, which is read as a whole.
 #[test]
 fn a_crowd_keeps_the_sum() {
-    for keeps in [0, 16] {
+    for (keeps, is_spread) in [(0, false), (16, false), (0, true), (16, true)] {
         let w = World::with(6);
         w.group.keep(keeps).unwrap();
-        crowd(&w);
+        let spread = w.group.add_spread_file(&[w.area]).unwrap();
+        let accounts = match is_spread {
+            true => Accounts {
+                above: spread,
+                files: vec![spread],
+                keys: &[],
+            },
+            false => Accounts {
+                above: w.base,
+                files: w.row_files.to_vec(),
+                keys: &[5],
+            },
+        };
+        crowd(&w, &accounts);
         w.group.keep(0).unwrap();
     }
 }
 
-fn crowd(w: &World) {
-    const ACCOUNTS: usize = 2 * PARTS;
+fn crowd(w: &World, accounts: &Accounts) {
     let sums = [const { AtomicI64::new(100) }; ACCOUNTS];
     let left = AtomicUsize::new(4);
     thread::scope(|scope| {
@@ -1479,7 +1653,7 @@ fn crowd(w: &World) {
                 for round in 0..100 {
                     let from = (7 * thread + 3 * round) % ACCOUNTS;
                     let to = (from + 1 + (thread + round) % (ACCOUNTS - 1)) % ACCOUNTS;
-                    transfer(w, sums, from, to);
+                    transfer(w, accounts, sums, from, to);
                 }
                 left.fetch_sub(1, Ordering::Relaxed);
             });
@@ -1488,7 +1662,7 @@ fn crowd(w: &World) {
             let mut reads = 0;
             while left.load(Ordering::Relaxed) > 0 || reads == 0 {
                 let mut session = w.begin();
-                match session.lock_path(w.base, Mode::S) {
+                match session.lock_path(accounts.above, Mode::S) {
                     Ok(_) => {
                         let sum = |sum: &AtomicI64| sum.load(Ordering::Relaxed);
                         assert_eq!(sums.iter().map(sum).sum::<i64>(), 100 * ACCOUNTS as i64);

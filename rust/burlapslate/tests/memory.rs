@@ -332,6 +332,11 @@ fn run_scenario(n: usize) -> bool {
         let index = in_spite(&mut m, left, |m| m.index_by(txn, &[root], other, bounds));
         in_spite(&mut m, left, |m| m.drop_node(txn, index).map(|_| ()));
     }
+    let record = in_spite(&mut m, left, |m| m.adopt(other, &[]));
+    in_spite(&mut m, left, |m| {
+        m.index_records(txn, &[root], other, &[10], &[record], &[7])
+    });
+    assert_eq!(m.key(record, 0), Some(7));
     let file = in_spite(&mut m, left, |m| m.add_row_file(&[root]));
     in_spite(&mut m, left, |m| m.try_lock(txn, file, Mode::IX));
     for number in 0..10 {

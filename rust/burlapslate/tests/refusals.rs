@@ -9,7 +9,7 @@ use burlapslate::{
 use common::{ask, at_block, begin, grant, refused_lock, store, wait, Store};
 
 /// What each command of a transaction on a node is refused with.
-fn of_each(m: &mut Manager, txn: Txn, s: &Store) -> [Option<Refusal>; 13] {
+fn of_each(m: &mut Manager, txn: Txn, s: &Store) -> [Option<Refusal>; 14] {
     [
         m.lock(txn, s.root, Mode::IS).err(),
         m.try_lock(txn, s.root, Mode::IS).err(),
@@ -22,6 +22,8 @@ fn of_each(m: &mut Manager, txn: Txn, s: &Store) -> [Option<Refusal>; 13] {
         m.move_node(txn, s.file, &[s.root]).err(),
         m.drop_node(txn, s.file).err(),
         m.index_by(txn, &[s.root], s.file, &[]).err(),
+        m.index_records(txn, &[s.root], s.file, &[], &[s.low], &[1])
+            .err(),
         m.split(txn, s.below, 50).err(),
         m.merge(txn, s.below).err(),
     ]
@@ -35,9 +37,9 @@ fn a_transaction_that_waits_or_is_condemned() {
     grant(&mut m, a, &[root], Mode::S);
     grant(&mut m, b, &[root], Mode::S);
     wait(&mut m, a, root, Mode::X);
-    assert_eq!(of_each(&mut m, a, &s), [Some(Refusal::TxnWaiting); 13]);
+    assert_eq!(of_each(&mut m, a, &s), [Some(Refusal::TxnWaiting); 14]);
     assert_eq!(ask(&mut m, b, root, Mode::X), Asked::Victim);
-    assert_eq!(of_each(&mut m, b, &s), [Some(Refusal::TxnCondemned); 13]);
+    assert_eq!(of_each(&mut m, b, &s), [Some(Refusal::TxnCondemned); 14]);
     assert_eq!(m.cancel(b).unwrap_err(), Refusal::TxnCondemned);
 }
 
@@ -47,7 +49,7 @@ fn a_transaction_that_has_ended() {
     let s = store(&mut m, root);
     let [a] = begin(&mut m);
     assert!(m.abort(a).unwrap().is_empty());
-    assert_eq!(of_each(&mut m, a, &s), [Some(Refusal::NoSuchTxn); 13]);
+    assert_eq!(of_each(&mut m, a, &s), [Some(Refusal::NoSuchTxn); 14]);
     assert_eq!(m.cancel(a).unwrap_err(), Refusal::NoSuchTxn);
     assert_eq!(m.abort(a).unwrap_err(), Refusal::NoSuchTxn);
     assert_eq!(m.settle(a).unwrap_err(), Refusal::NoSuchTxn);
@@ -443,6 +445,45 @@ fn indexes_by_a_transaction_are_nodes() {
     assert_eq!(m.len(), 6);
     assert!(m.drop_node(a, index).unwrap().is_empty());
     assert!(m.index_by(a, &[root], file, &[1, 2]).is_ok());
+}
+
+/// An index beside records is refused in this order.
+#[test]
+fn indexes_beside_records() {
+    let (mut m, root) = at_block();
+    let s = store(&mut m, root);
+    let area = m.add_inner(&[]).unwrap();
+    let other = m.add_file(&[root]).unwrap();
+    let strange = m.adopt(other, &[]).unwrap();
+    let (all, above) = ([s.low, s.high], [root, area]);
+    let [a] = begin(&mut m);
+    let refused = |m: &mut Manager, parents: &[Node], records: &[Node], keys: &[u64]| {
+        m.index_records(a, parents, s.file, &[10], records, keys)
+            .unwrap_err()
+    };
+    let keys = &[5, 10][..];
+    assert_eq!(refused(&mut m, &[], &all, &[5]), Refusal::BadKeys);
+    assert_eq!(refused(&mut m, &[s.file], &all, keys), Refusal::BadParents);
+    grant(&mut m, a, &[root], Mode::IX);
+    grant(&mut m, a, &[s.file], Mode::X);
+    grant(&mut m, a, &[s.index, s.below], Mode::IX);
+    grant(&mut m, a, &[s.low], Mode::X);
+    assert_eq!(refused(&mut m, &above, &all, keys), Refusal::NeedExclusive);
+    grant(&mut m, a, &[s.index], Mode::X);
+    let lacking = Refusal::NeedParents(area);
+    assert_eq!(refused(&mut m, &above, &all, keys), lacking);
+    grant(&mut m, a, &[area], Mode::IX);
+    assert_eq!(refused(&mut m, &above, &all, keys), Refusal::FileInUse);
+    assert!(m.unlock(a, s.low).unwrap().is_empty());
+    assert_eq!(refused(&mut m, &above, &[], &[]), Refusal::FileInUse);
+    for wrong in [[s.high, s.low], [s.low; 2], [s.low, strange], [root; 2]] {
+        assert_eq!(refused(&mut m, &above, &wrong, keys), Refusal::BadKeys);
+    }
+    assert_eq!(refused(&mut m, &above, &all[..1], &[5]), Refusal::BadKeys);
+    assert_eq!(m.index(s.file, 1), Ok(None));
+    assert_eq!(m.key(s.low, 1), None);
+    let index = m.index_records(a, &above, s.file, &[10], &all, keys);
+    assert_eq!(m.index(s.file, 1).map(Option::unwrap), index);
 }
 
 /// Rows that were adopted keep no index away that a transaction makes, as long as none stands.

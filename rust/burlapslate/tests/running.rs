@@ -361,6 +361,27 @@ fn metrics_are_whole_or_an_error() {
     table.write_metrics(whole).unwrap();
 }
 
+/// An index beside records is made by a table without a trace.
+#[test]
+fn a_trace_has_no_line_for_an_index_beside_records() {
+    let sink = std::fs::OpenOptions::new()
+        .write(true)
+        .open("/dev/null")
+        .unwrap();
+    let (table, db) = table();
+    let file = table.add_file(&[db]).unwrap();
+    table.trace(&sink).unwrap();
+    let mut writer = table.begin().unwrap();
+    writer.lock_path(file, Mode::X).unwrap();
+    let record = writer.insert(file, &[]).unwrap();
+    writer.unlock(record).unwrap();
+    let mut index = || writer.index_records(&[db], file, &[], &[record], &[7]);
+    assert_eq!(index(), Err(Refusal::NotWritten));
+    assert_eq!(table.end_trace(), Ok(0));
+    index().unwrap();
+    writer.commit().unwrap();
+}
+
 #[test]
 fn a_trace_is_a_script() {
     let path = std::env::temp_dir().join(format!("burlapslate-{}.script", std::process::id()));

@@ -602,6 +602,31 @@ fn an_index_is_made_again() {
     assert_eq!(m.place(interval), Ok(2));
 }
 
+/// Each record gets the key at its place, and is read by the new index from then on.
+#[test]
+fn an_index_is_made_beside_records() {
+    let (mut m, root) = at_block();
+    let s = store(&mut m, root);
+    let [a, b] = begin(&mut m);
+    grant(&mut m, a, &[root], Mode::IX);
+    grant(&mut m, a, &[s.file, s.index], Mode::X);
+    let records = [s.low, s.high];
+    let index = m.index_records(a, &[root], s.file, &[10], &records, &[7, 10]);
+    let index = index.unwrap();
+    assert_eq!(m.held(a, index), Ok(Mode::X));
+    assert_eq!(m.index(s.file, 1), Ok(Some(index)));
+    for (record, keys, place) in [(s.low, [50, 7], 0), (s.high, [200, 10], 1)] {
+        assert_eq!([0, 1].map(|place| m.key(record, place).unwrap()), keys);
+        assert_eq!(m.parent(record, 2), m.interval(index, place));
+    }
+    nobody(m.commit(a).unwrap());
+    let upper = m.interval(index, 1).unwrap();
+    grant(&mut m, b, &[root, index], Mode::IS);
+    grant(&mut m, b, &[upper], Mode::S);
+    assert_eq!(m.effective(b, s.high), Ok(Mode::S));
+    assert_eq!(m.effective(b, s.low), Ok(Mode::NL));
+}
+
 /// Two managers share nothing.
 #[test]
 fn two_managers() {

@@ -276,6 +276,32 @@ fn an_index_of_rows_is_made_again() {
     );
 }
 
+/// A writer that sleeps on its way to a record acquires the interval that it has in a new index, too.
+#[test]
+fn an_index_is_made_beside_records() {
+    let s = Store::new(Detect::AtBlock);
+    let (mut a, mut b) = (s.begin(), s.begin());
+    let (name, records) = (b.txn(), [s.low, s.high]);
+    a.lock_path(s.file, Mode::X).unwrap();
+    let index_records = |a: &mut Session<'_>, keys: &[u64]| {
+        a.index_records(&[s.root], s.file, &[10], &records, keys)
+    };
+    assert_eq!(index_records(&mut a, &[7, 10]), Err(Refusal::NeedExclusive));
+    assert_eq!(index_records(&mut a, &[7]), Err(Refusal::BadKeys));
+    a.lock_path(s.index, Mode::X).unwrap();
+    let index = thread::scope(|scope| {
+        let sleeper = scope.spawn(|| b.lock_path(s.high, Mode::X));
+        s.await_wait(name);
+        let index = index_records(&mut a, &[7, 10]).unwrap();
+        a.commit().unwrap();
+        assert_eq!(sleeper.join().unwrap(), Ok(Mode::X));
+        index
+    });
+    let [lower, upper] = [0, 1].map(|place| s.table.with(|m| m.interval(index, place)).unwrap());
+    assert_eq!(s.held(name, upper), Mode::IX);
+    assert_eq!(s.held(name, lower), Mode::NL);
+}
+
 #[test]
 fn a_file_moves() {
     let s = Store::new(Detect::AtBlock);

@@ -54,6 +54,7 @@ unsafe extern "C" {
         parents: *const Node,
         count: usize,
     ) -> Reply;
+    fn bs_group_add_spread_file(group: &Shared, parents: *const Node, count: usize) -> Reply;
     fn bs_group_add_index(
         group: &Shared,
         parents: *const Node,
@@ -129,10 +130,23 @@ unsafe extern "C" {
         bounds: *const u64,
         bound_count: usize,
     ) -> Reply;
+    fn bs_group_index_records(
+        group: &Shared,
+        txn: Txn,
+        parents: *const Node,
+        count: usize,
+        file: Node,
+        bounds: *const u64,
+        bound_count: usize,
+        records: *const Node,
+        keys: *const u64,
+        record_count: usize,
+    ) -> Reply;
     fn bs_group_split(group: &Shared, txn: Txn, interval: Node, at: u64) -> Reply;
     fn bs_group_merge(group: &Shared, txn: Txn, interval: Node) -> Reply;
     fn bs_group_held(group: &Shared, txn: Txn, node: Node) -> Reply;
 
+    safe fn bs_group_file_of_row(group: &Shared, file: Node, number: u64) -> Reply;
     safe fn bs_group_counters(group: &Shared, counts: &mut Counters) -> Reply;
     safe fn bs_group_hold(group: &Shared, table: u32) -> Option<NonNull<Place>>;
     safe fn bs_group_let_go(group: &Shared, table: u32) -> Reply;
@@ -187,6 +201,11 @@ impl Group {
         unsafe { bs_group_add_row_file(self.shared(), part, nodes(parents), parents.len()) }
     }
 
+    pub(crate) fn add_spread_file(&self, parents: &[Node]) -> Reply {
+        // SAFETY: the count is the list's own.
+        unsafe { bs_group_add_spread_file(self.shared(), nodes(parents), parents.len()) }
+    }
+
     pub(crate) fn add_index(&self, parents: &[Node], file: Node, bounds: &[u64]) -> Reply {
         let (group, above, count) = (self.shared(), nodes(parents), parents.len());
         // SAFETY: the counts are the lists' own.
@@ -204,6 +223,10 @@ impl Group {
 
     pub(crate) fn keep(&self, most: u32) -> Reply {
         bs_group_keep(self.shared(), most)
+    }
+
+    pub(crate) fn file_of_row(&self, row: Row) -> Reply {
+        bs_group_file_of_row(self.shared(), row.file, row.number)
     }
 
     pub(crate) fn counters(&self) -> Result<Counters, Refusal> {
@@ -403,6 +426,33 @@ impl<'g> Transaction<'g> {
         let (above, count, start) = (nodes(parents), parents.len(), numbers(bounds));
         // SAFETY: no other thread is in a call of this transaction, and the counts are the lists' own.
         unsafe { bs_group_index_by(group, txn, above, count, file, start, bounds.len()) }
+    }
+
+    /// There must be as many keys as records.
+    pub(crate) fn index_records(
+        &mut self,
+        parents: &[Node],
+        file: Node,
+        bounds: &[u64],
+        records: &[Node],
+        keys: &[u64],
+    ) -> Reply {
+        assert_eq!(records.len(), keys.len());
+        // SAFETY: no other thread is in a call of this transaction, and the counts are the lists' own.
+        unsafe {
+            bs_group_index_records(
+                self.shared(),
+                self.name,
+                nodes(parents),
+                parents.len(),
+                file,
+                numbers(bounds),
+                bounds.len(),
+                nodes(records),
+                numbers(keys),
+                keys.len(),
+            )
+        }
     }
 
     pub(crate) fn held(&self, node: Node) -> Reply {

@@ -229,6 +229,18 @@ unsafe extern "C" {
         bounds: *const u64,
         bound_count: usize,
     ) -> Reply;
+    fn bs_table_index_records(
+        table: &Shared,
+        txn: Txn,
+        parents: *const Node,
+        count: usize,
+        file: Node,
+        bounds: *const u64,
+        bound_count: usize,
+        records: *const Node,
+        keys: *const u64,
+        record_count: usize,
+    ) -> Reply;
 
     fn bs_table_lock_row(
         table: &Shared,
@@ -508,6 +520,34 @@ pub(crate) fn index_by(
     let (below, bound_count) = (numbers(bounds), bounds.len());
     // SAFETY: the counts are the lists' own.
     unsafe { bs_table_index_by(table, txn, above, count, file, below, bound_count) }
+}
+
+/// There must be as many keys as records.
+pub(crate) fn index_records(
+    table: &Shared,
+    txn: Txn,
+    parents: &[Node],
+    file: Node,
+    bounds: &[u64],
+    records: &[Node],
+    keys: &[u64],
+) -> Reply {
+    assert_eq!(records.len(), keys.len());
+    // SAFETY: the counts are the lists' own.
+    unsafe {
+        bs_table_index_records(
+            table,
+            txn,
+            nodes(parents),
+            parents.len(),
+            file,
+            numbers(bounds),
+            bounds.len(),
+            nodes(records),
+            numbers(keys),
+            keys.len(),
+        )
+    }
 }
 
 pub(crate) fn insert(table: &Shared, txn: Txn, file: Node, keys: &[u64]) -> Reply {
