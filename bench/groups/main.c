@@ -1,37 +1,39 @@
 /*
  * What threads do a second with a table and with a group of tables, by turns in one program: each transaction locks a
- * record of the thread's own in BS_X, in a file of the thread's own, by its path from the data base, and commits.
+ * record of the thread's own in BS_X, in a file of the thread's own, by its path from the data base, and commits; or it
+ * locks in BS_X four of 10,000 rows of a file that all threads use.
  *
  *   groups [SECONDS [PARTS]]    for 1, 2, 4 and 16 threads prints a row for each side, the median of five turns, each as
  *                               long as this (0.3): transactions a second, and how many times those of the table by calls
  *
  * The sides are a table by calls, the same with each transaction in one list, a group, the group when it keeps intentions
- * (bs_group_keep), and the group while a transaction that only reads has BS_S on an area where none of the threads works.
- * PARTS is 16 if it is not named.
+ * (bs_group_keep), and the group while a transaction that only reads has BS_S on an area where none of the threads
+ * works; and with the rows of one file a table by calls, the group with a spread file, and that when it keeps
+ * intentions. The rows are drawn, and locked by rising number, so that no transaction is a victim. PARTS is 16 if it is
+ * not named.
  */
 #include "burlapslate_group.h"
+#include "burlapslate_rows.h"
 
 #include <pthread.h>
 #include <stdio.h>
 #include <stdlib.h>
 #include <string.h>
 
-enum { MOST_THREADS = 16, TURNS = 5, SIDES = 5, COUNTS = 4, KEPT = 16 };
+enum { MOST_THREADS = 16, TURNS = 5, SIDES = 8, COUNTS = 4, KEPT = 16, ROWS = 10000, DRAWN = 4 };
 
 static const size_t counts[COUNTS] = { 1, 2, 4, 16 };
-static const char *const sides[SIDES] = { "table, by calls", "table, in a list", "group", "group, intentions kept",
-                                          "group, one area in S" };
 
 static bs_table *table;
 static bs_table_group *group;
-static bs_node in_table[MOST_THREADS], in_group[MOST_THREADS], idle_area;
+static bs_node in_table[MOST_THREADS], in_group[MOST_THREADS], idle_area, file_in_table, file_in_group;
 static volatile bool is_over;
 
 static struct worker {
   pthread_t thread;
   size_t number;
   int side;
-  uint64_t done;
+  uint64_t done, dice;
 } __attribute__((aligned(128))) workers[MOST_THREADS];
 
 static bs_reply done(bs_reply reply, int line) {
@@ -42,13 +44,15 @@ static bs_reply done(bs_reply reply, int line) {
 
 #define DONE(call) done((call), __LINE__)
 
-static void by_calls(bs_node record) {
+static void by_calls(struct worker *own) {
+  bs_node record = in_table[own->number];
   bs_txn txn = DONE(bs_table_begin(table)).txn;
   DONE(bs_table_lock_path(table, txn, record, BS_X, NULL));
   DONE(bs_table_commit(table, txn, NULL));
 }
 
-static void in_list(bs_node record) {
+static void in_list(struct worker *own) {
+  bs_node record = in_table[own->number];
   bs_command list[3];
   list[0] = bs_do(BS_DO_BEGIN, bs_begun());
   list[1] = bs_do_at(BS_DO_LOCK_PATH, bs_begun(), record, BS_X);
@@ -56,18 +60,62 @@ static void in_list(bs_node record) {
   if (bs_table_run(table, list, 3) != 3) exit(1);
 }
 
-static void in_a_group(bs_node record) {
+static void in_a_group(struct worker *own) {
+  bs_node record = in_group[own->number];
   bs_txn txn = DONE(bs_group_begin(group)).txn;
   DONE(bs_group_lock_path(group, txn, record, BS_X, NULL));
   DONE(bs_group_commit(group, txn));
 }
 
+/* Draws four rows, by rising number: one of each quarter. */
+static void draw(struct worker *own, uint64_t *rows) {
+  size_t i;
+  for (i = 0; i < DRAWN; i++) {
+    own->dice = own->dice * UINT64_C(6364136223846793005) + UINT64_C(1442695040888963407);
+    rows[i] = ROWS / DRAWN * i + (own->dice >> 33) % (ROWS / DRAWN);
+  }
+}
+
+static void rows_by_calls(struct worker *own) {
+  uint64_t rows[DRAWN];
+  bs_txn txn = DONE(bs_table_begin(table)).txn;
+  size_t i;
+  draw(own, rows);
+  for (i = 0; i < DRAWN; i++) DONE(bs_table_lock_row_path(table, txn, file_in_table, rows[i], NULL, 0, BS_X, NULL));
+  DONE(bs_table_commit(table, txn, NULL));
+}
+
+static void rows_in_a_group(struct worker *own) {
+  uint64_t rows[DRAWN];
+  bs_txn txn = DONE(bs_group_begin(group)).txn;
+  size_t i;
+  draw(own, rows);
+  for (i = 0; i < DRAWN; i++) DONE(bs_group_lock_row_path(group, txn, file_in_group, rows[i], NULL, 0, BS_X, NULL));
+  DONE(bs_group_commit(group, txn));
+}
+
+/* The sides. */
+static const struct {
+  const char *name;
+  void (*make_one)(struct worker *own); /* one transaction */
+  int beside;                           /* the side with which it is compared */
+  uint32_t kept;
+  bool has_reader;
+} sides[SIDES] = {
+  { "table, by calls", by_calls, 0, 0, false },
+  { "table, in a list", in_list, 0, 0, false },
+  { "group", in_a_group, 0, 0, false },
+  { "group, intentions kept", in_a_group, 0, KEPT, false },
+  { "group, one area in S", in_a_group, 0, 0, true },
+  { "table, rows of a file", rows_by_calls, 5, 0, false },
+  { "group, spread file", rows_in_a_group, 5, 0, false },
+  { "spread file, kept", rows_in_a_group, 5, KEPT, false },
+};
+
 static void *work(void *place) {
   struct worker *own = place;
   while (!is_over) {
-    if (own->side == 0) by_calls(in_table[own->number]);
-    else if (own->side == 1) in_list(in_table[own->number]);
-    else in_a_group(in_group[own->number]);
+    sides[own->side].make_one(own);
     own->done++;
   }
   return NULL;
@@ -87,6 +135,7 @@ static void make_scene(uint32_t parts) {
     in_table[i] = DONE(bs_table_insert(table, txn, file, NULL, 0)).node;
   }
   DONE(bs_table_commit(table, txn, NULL));
+  file_in_table = DONE(bs_table_add_row_file(table, &area, 1)).node;
   DONE(bs_group_make(&group, NULL, parts));
   base = DONE(bs_group_add_inner(group, NULL, 0)).node;
   area = DONE(bs_group_add_inner(group, &base, 1)).node;
@@ -97,6 +146,7 @@ static void make_scene(uint32_t parts) {
     in_group[i] = DONE(bs_group_insert(group, txn, file, NULL, 0)).node;
   }
   DONE(bs_group_commit(group, txn));
+  file_in_group = DONE(bs_group_add_spread_file(group, &area, 1)).node;
 }
 
 static double turn(int side, size_t threads, double seconds) {
@@ -104,14 +154,18 @@ static double turn(int side, size_t threads, double seconds) {
   uint64_t all = 0;
   bs_txn reader = { 0, 0 };
   size_t i;
-  DONE(bs_group_keep(group, side == 3 ? KEPT : 0));
-  if (side == 4) DONE(bs_group_lock_path(group, reader = DONE(bs_group_begin(group)).txn, idle_area, BS_S, NULL));
+  DONE(bs_group_keep(group, sides[side].kept));
+  if (sides[side].has_reader) {
+    reader = DONE(bs_group_begin(group)).txn;
+    DONE(bs_group_lock_path(group, reader, idle_area, BS_S, NULL));
+  }
   is_over = false;
   clock_gettime(CLOCK_MONOTONIC, &from);
   for (i = 0; i < threads; i++) {
     workers[i].number = i;
     workers[i].side = side;
     workers[i].done = 0;
+    workers[i].dice = i;
     if (pthread_create(&workers[i].thread, NULL, work, &workers[i]) != 0) exit(1);
   }
   nanosleep(&rest, NULL);
@@ -121,7 +175,7 @@ static double turn(int side, size_t threads, double seconds) {
     all += workers[i].done;
   }
   clock_gettime(CLOCK_MONOTONIC, &to);
-  if (side == 4) DONE(bs_group_commit(group, reader));
+  if (sides[side].has_reader) DONE(bs_group_commit(group, reader));
   return (double)all / ((double)(to.tv_sec - from.tv_sec) + (double)(to.tv_nsec - from.tv_nsec) / 1e9);
 }
 
@@ -141,8 +195,8 @@ int main(int count, char **words) {
     }
     for (side = 0; side < SIDES; side++) {
       qsort(figures[side], TURNS, sizeof figures[side][0], by_size);
-      printf("%8zu  %-24s%12.0f%8.2f\n", counts[i], sides[side], figures[side][TURNS / 2],
-             figures[side][TURNS / 2] / figures[0][TURNS / 2]);
+      printf("%8zu  %-24s%12.0f%8.2f\n", counts[i], sides[side].name, figures[side][TURNS / 2],
+             figures[side][TURNS / 2] / figures[sides[side].beside][TURNS / 2]);
     }
   }
   DONE(bs_group_end(group));
