@@ -31,10 +31,11 @@
  * group is. No other node is made below a spread file, so a node below it in a part is its file there. Such a file gets
  * no index, is not dropped, and is not taken as the file of a row: so a row has one node.
  *
- * NEW INDEXES. A path to write a row passes each node above the indexes of its file. So a path that waits in a part
- * passes more after an index is made, and may lack that in the main table. Its wait ends with BS_BAD_KEYS as the index is
- * made, with the latch held: it has no key for it. Otherwise it would go on if another index was dropped meanwhile, so
- * that the file has as many as before. No other call makes a path that waits pass more.
+ * NEW INDEXES. A path to write a row or a record passes each node above the indexes of its file. So a path that waits in
+ * a part passes more after an index is made, and may lack that in the main table. Its wait ends as the index is made, with
+ * the latch held: that for a row with BS_BAD_KEYS, since it has no key for it. Otherwise it would go on if another index
+ * was dropped meanwhile, so that the file has as many as before. A path to a record by its node begins anew, and so
+ * requests what it lacks by now. No other call makes a path that waits pass more.
  *
  * BEFORE A SLEEP in the main table all that a transaction holds in its parts on inner nodes is copied there, since
  * nobody can copy it while it waits.
@@ -732,14 +733,24 @@ static bs_status group_part_of(bs_table_group *group, bs_node node, bs_status in
   return status == BS_DONE ? inner : status;
 }
 
-/* Leaves a part after a call for an index of a file that was answered so. If it was made, each sleep that lacks a key for
- * it ends. */
+/* How the sleep of a call for this target ends after an index of this file was made: with BS_BAD_KEYS if it lacks a key
+ * for it; with BS_MOVED if it waits for a record of the file by its node, so that its path begins anew. BS_DONE: it
+ * passes what it passed, and sleeps on. */
+static bs_status group_end_by_index(const group_table *t, bs_target target, bs_node file) {
+  if (bs_lacks_key(target, file).count != 0) return BS_BAD_KEYS;
+  if (target.rows == 0 && group_is_node(bs_parent(t->manager, target.node, 0).node, file)) return BS_MOVED;
+  return BS_DONE;
+}
+
+/* Leaves a part after a call for an index of a file that was answered so. If it was made, each sleep ends whose path
+ * would pass more since then. */
 static bs_reply group_indexed(bs_table_group *group, const group_table *t, bs_node file, bs_reply reply) {
   uint32_t slot;
   for (slot = 0; reply.status == BS_DONE && slot < group->most; slot++) {
+    bs_status end;
     if (!bs_inside_sleeps(t->table, slot)) continue;
-    if (bs_lacks_key(group_slot_at(group, slot)->target, file).count == 0) continue;
-    bs_inside_end_sleep(t->table, slot, BS_BAD_KEYS);
+    end = group_end_by_index(t, group_slot_at(group, slot)->target, file);
+    if (end != BS_DONE) bs_inside_end_sleep(t->table, slot, end);
   }
   return group_leave(t, reply);
 }
@@ -1352,8 +1363,12 @@ static inline bs_reply group_path(bs_table_group *group, bs_txn txn, bs_node nod
 bs_reply bs_group_lock_path(bs_table_group *group, bs_txn txn, bs_node node, bs_mode mode,
                             const struct timespec *until) {
   group_manner manner = group_until(until);
+  bs_reply reply;
   manner.instant = mode & BS_INSTANT;
-  return group_path(group, txn, node, mode & ~(bs_mode)BS_INSTANT, &manner);
+  do {
+    reply = group_path(group, txn, node, mode & ~(bs_mode)BS_INSTANT, &manner);
+  } while (__builtin_expect(reply.status == BS_MOVED, 0));
+  return reply;
 }
 
 bs_reply bs_group_try_path(bs_table_group *group, bs_txn txn, bs_node node, bs_mode mode, uint32_t keep) {

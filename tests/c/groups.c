@@ -1356,6 +1356,34 @@ static void new_roots_end_paths(void) {
   want_rest(group);
 }
 
+/* A path that waits for a record begins anew as an index is made beside it: so it waits for who reads the parent of that
+ * index, though it had no lock to request there before. Paths to other nodes wait on. */
+static void paths_to_records_begin_anew(void) {
+  const uint64_t keys[RECORDS] = { 0, 0, 0, 0 };
+  bs_txn maker = begun(), reader = begun(), writer = begun(), third = begun();
+  bs_node root = DONE(bs_group_add_inner(group, NULL, 0)).node, other = DONE(bs_group_add_file(group, 1, &root, 1)).node;
+  sleeper reads, writes, goes_on;
+  DONE(lock_path(maker, files[1], BS_X));
+  DONE(lock_path(maker, other, BS_IX));
+  sleep_in(&writes, 1, writer, records[1][0], BS_X);
+  sleep_in(&goes_on, 1, third, files[1], BS_IX);
+  sleep_in(&reads, 0, reader, root, BS_S);
+  WANT(group_is_marked(&group->tables[1], (uint32_t)root.key) && held_in(group, 0, writer, root) == BS_NL);
+  DONE(bs_group_index_records(group, maker, &root, 1, files[1], NULL, 0, records[1], keys, RECORDS));
+  while (!sleeps_in(0, writer)) nap();
+  WANT(sleeps_in(1, third));
+  commit(maker);
+  wakes_with(&reads, BS_DONE);
+  wakes_with(&goes_on, BS_DONE);
+  WANT(sleeps_in(0, writer) && held_in(group, 1, writer, root) == BS_NL);
+  commit(reader);
+  wakes_with(&writes, BS_DONE);
+  WANT(held_in(group, 1, writer, root) == BS_IX);
+  commit(writer);
+  commit(third);
+  want_rest(group);
+}
+
 /* An unlock, a split, a merge and a drop end waits in the part, as in a table. After a split, who waits for a row waits
  * for the interval of its key. */
 static void changes_end_waits(void) {
@@ -2827,6 +2855,7 @@ static const struct {
   STORY(sleepers_are_visited),
   STORY(rows_that_wait_are_visited), STORY(new_indexes_end_paths), STORY(readers_that_wait_are_visited),
   STORY(indexes_need_what_is_above), STORY(other_indexes_end_paths), STORY(new_roots_end_paths),
+  STORY(paths_to_records_begin_anew),
   STORY(changes_end_waits), STORY_ALONE(savepoints_are_of_parts), STORY(counters_are_summed),
   STORY(marks_stay_for_requests_above),
   STORY(times_leave_no_marks), STORY(cycles_over_parts_end), STORY(cycles_over_main_end), STORY(one_of_a_cycle_falls),
