@@ -2446,11 +2446,23 @@ typedef struct shade {
   uint64_t reads, writes;    /* below it */
 } shade;
 
-static shade of_base, of_areas[AREAS], of_quarters[AREAS], of_files[PARTS + 1], of_row_files[PARTS + 1], of_crossed;
-static shade of_records[PARTS + 1][RECORDS], of_rows[PARTS + 1][ROWS], of_crossed_records[RECORDS];
-static bs_node crossed, crossed_records[RECORDS]; /* a file below two areas */
+static shade of_base, of_areas[AREAS], of_quarters[AREAS], of_files[PARTS + 1], of_row_files[PARTS + 1];
+static shade of_records[PARTS + 1][RECORDS], of_rows[PARTS + 1][ROWS];
 static bs_node dealt;                             /* a spread file below an area */
 static shade of_dealt, of_dealt_in[PARTS + 1], of_dealt_rows[2 * ROWS];
+
+enum { CROSSED = 200, INDEXES = 3 };
+
+/* A file below the first areas, one or two, with its indexes and the areas of those, which the holder of the file in BS_X
+ * changes. */
+typedef struct crossed_file {
+  bs_node node, records[RECORDS], indexes[INDEXES];
+  uint32_t parents, areas[INDEXES], index_count;
+  shade of, of_records[RECORDS];
+} crossed_file;
+
+static crossed_file crossed[CROSSED];
+static uint32_t crossed_now; /* atomic: the one that is used; after it has all its indexes the next is */
 
 /* A thread of the crowd. */
 typedef struct crowd_thread {
@@ -2642,18 +2654,59 @@ static void touch_dealt_row(crowd_thread *own, bool *fell) {
   has(own, drawn > 0 ? &of_dealt_rows[row] : &of_dealt_in[part], mode);
 }
 
-/* A record of a file below two areas. Who reads needs one of them, and it is not known here which. */
+/* This thread has something below such a file. Who reads needs one of its parents, and it is not known here which. */
+static void above_crossed(crowd_thread *own, const crossed_file *file, bool writes) {
+  uint32_t i;
+  below(own, &of_base, writes);
+  if (!writes) return;
+  for (i = 0; i < file->parents; i++) below(own, &of_areas[i], true);
+  for (i = 0; i < file->index_count; i++) below(own, &of_areas[file->areas[i]], true);
+}
+
+static crossed_file *crossed_file_of_now(void) {
+  return &crossed[__atomic_load_n(&crossed_now, __ATOMIC_SEQ_CST)];
+}
+
+/* A record of such a file. */
 static void touch_crossed(crowd_thread *own, bool *fell) {
   uint32_t record = draw(own, RECORDS);
+  crossed_file *file = crossed_file_of_now();
   bool writes = draw(own, 2) == 0;
-  if (!request(own, crossed_records[record], writes ? BS_X : BS_S, fell)) return;
-  below(own, &of_base, writes);
-  if (writes) {
-    below(own, &of_areas[0], true);
-    below(own, &of_areas[1], true);
+  if (!request(own, file->records[record], writes ? BS_X : BS_S, fell)) return;
+  above_crossed(own, file, writes);
+  below(own, &file->of, writes);
+  has(own, &file->of_records[record], writes ? BS_X : BS_S);
+}
+
+/* Has such a file and its indexes in BS_X. */
+static bool has_crossed(crowd_thread *own, crossed_file *file, bool *fell) {
+  struct timespec time = moment_in(1000);
+  uint32_t i;
+  if (!was_granted(own, bs_group_lock_path(group, own->txn, file->node, BS_X, &time), fell)) return false;
+  below(own, &of_base, true);
+  has(own, &file->of, BS_X);
+  for (i = 0; i < file->index_count; i++) {
+    if (!was_granted(own, bs_group_lock_path(group, own->txn, file->indexes[i], BS_X, &time), fell)) return false;
   }
-  below(own, &of_crossed, writes);
-  has(own, &of_crossed_records[record], writes ? BS_X : BS_S);
+  above_crossed(own, file, true);
+  return true;
+}
+
+/* Makes one more index of such a file, beside its records. */
+static void touch_crossed_schema(crowd_thread *own, bool *fell) {
+  const uint64_t keys[RECORDS] = { 0, 0, 0, 0 };
+  uint32_t area = draw(own, AREAS);
+  crossed_file *file = crossed_file_of_now();
+  bs_reply reply;
+  if (!has_crossed(own, file, fell) || file->index_count == INDEXES) return;
+  reply = bs_group_index_records(group, own->txn, &areas[area], 1, file->node, NULL, 0, file->records, keys, RECORDS);
+  if (reply.status == BS_FILE_IN_USE || !was_granted(own, reply, fell)) return;
+  below(own, &of_areas[area], true);
+  file->areas[file->index_count] = area;
+  file->indexes[file->index_count++] = reply.node;
+  own->changes++;
+  if (file->index_count < INDEXES || file == &crossed[CROSSED - 1]) return;
+  __atomic_store_n(&crossed_now, (uint32_t)(file - crossed) + 1, __ATOMIC_SEQ_CST);
 }
 
 /* A record that is inserted, and mostly deleted. */
@@ -2709,10 +2762,11 @@ static void touch_something(crowd_thread *own, bool *fell) {
   if (drawn < strong_share) touch_inner(own, fell);
   else if (drawn < strong_share + 50) touch_file(own, fell);
   else if (drawn < strong_share + 100) touch_new(own, fell);
-  else if (drawn < strong_share + 200) touch_crossed(own, fell);
-  else if (drawn < strong_share + 220) touch_escalated(own);
-  else if (drawn < strong_share + 240) touch_schema(own, fell);
-  else if (drawn < 600) touch_record(own, fell);
+  else if (drawn < strong_share + 250) touch_crossed(own, fell);
+  else if (drawn < strong_share + 270) touch_escalated(own);
+  else if (drawn < strong_share + 290) touch_schema(own, fell);
+  else if (drawn < strong_share + 350) touch_crossed_schema(own, fell);
+  else if (drawn < 650) touch_record(own, fell);
   else if (drawn < 800) touch_dealt_row(own, fell);
   else touch_row(own, fell);
 }
@@ -2780,12 +2834,13 @@ static void *in_crowd(void *place) {
   return NULL;
 }
 
-static void make_crossed(void) {
+static void make_crossed(crossed_file *file, uint32_t parents) {
   bs_txn txn = begun();
   size_t i;
-  dealt = add_spread();
-  crossed = DONE(bs_group_add_file(group, 2, areas, 2)).node;
-  for (i = 0; i < RECORDS; i++) crossed_records[i] = DONE(bs_group_insert(group, txn, crossed, NULL, 0)).node;
+  memset(file, 0, sizeof *file);
+  file->parents = parents;
+  file->node = DONE(bs_group_add_file(group, 2, areas, parents)).node;
+  for (i = 0; i < RECORDS; i++) file->records[i] = DONE(bs_group_insert(group, txn, file->node, NULL, 0)).node;
   commit(txn);
 }
 
@@ -2796,7 +2851,9 @@ static void crowd(uint32_t threads, uint32_t slots, uint32_t strong, bool keeps,
   uint32_t i;
   world_keeps = keeps ? 8 : 0;
   make_world(slots);
-  make_crossed();
+  dealt = add_spread();
+  for (i = 0; i < CROSSED; i++) make_crossed(&crossed[i], 1 + i % 2);
+  crossed_now = 0;
   strong_share = strong;
   crowd_end = bs_call_now() + milliseconds * 1000000;
   memset(all, 0, sizeof all);
