@@ -717,6 +717,13 @@ static void a_write_fails(void) {
   close(ends[1]);
 }
 
+/* Whether a pipe takes no more. */
+static bool is_full(int end) {
+  struct pollfd ready = { 0, POLLOUT, 0 };
+  ready.fd = end;
+  return poll(&ready, 1, 0) == 0;
+}
+
 /* A pipe that would make a writer wait is waited for. */
 static void a_pipe_does_not_block(void) {
   bs_counts counts;
@@ -726,9 +733,11 @@ static void a_pipe_does_not_block(void) {
   WANT(pipe(ends) == 0 && fcntl(ends[1], F_SETFL, O_NONBLOCK) == 0);
   DONE(bs_table_make(&table, NULL));
   DONE(bs_table_trace(table, ends[1]));
-  close(ends[1]);
   for (i = 0; i < 5000; i++) DONE(bs_table_commit(table, begin(), NULL));
   counts = counts_by_now();
+  while (!is_full(ends[1])) nap();
+  nap(); /* the writer has tried again */
+  close(ends[1]);
   start(&thread, drain, &ends[0]);
   close_table();
   join(thread);
