@@ -6,9 +6,10 @@
  * allowed leaves it so. What is decided of a group is the library's too, and proved: what a path lacks in the main table
  * (bs_path_lacks), where each request of a path that lacks nothing is such a step; what a visit copies (bs_next_copy),
  * and what a transaction copies of its own (bs_own_copy); when marks may be cleared (bs_may_clear); who waits for whom
- * in all tables (bs_join_board), and who falls (bs_suspects, bs_youngest); which sleeps a new index ends (bs_lacks_key);
- * where something may rest, and who takes it up (bs_may_rest, bs_takes_up). This source keeps the latches, the sleeps,
- * the marks and the counts of requests in progress, and asks all that at its time: that is written in C, and tested.
+ * in all tables (bs_join_board), and who falls (bs_suspects, bs_youngest); which sleeps for rows a new index ends
+ * (bs_lacks_key); where something may rest, and who takes it up (bs_may_rest, bs_takes_up). This source keeps the
+ * latches, the sleeps, the marks and the counts of requests in progress, and asks all that at its time; and it says
+ * which paths to records begin anew after a new index. That is written in C, and tested.
  *
  * LATCHES are acquired by rising number: nobody acquires the main table's while holding a part's.
  *
