@@ -94,8 +94,10 @@ static inline bs_reply bs_path_lacks(const bs_manager *manager, const bs_manager
 }
 
 /* Whether a call that waits for this target lacks a key after an index of the file was made, in `count`: 1 if it waits
- * for a row of that file, else 0. A path to write the row passes the index too, and what is above it; each other path
- * passes what it passed before. Refused with BS_BAD_NUMBER if there is no such mode. */
+ * for a row of that file, else 0. A path to write the row passes the index too, and what is above it. So does a path to
+ * write a record of the file by its node, if the index was made beside records (bs_index_records): it lacks no key, but
+ * end its wait too, and begin the path anew. Each other path passes what it passed before. Refused with BS_BAD_NUMBER if
+ * there is no such mode. */
 static inline bs_reply bs_lacks_key(bs_target target, bs_node file) {
   return bs_call_lacks_key(&target, file);
 }
