@@ -55,6 +55,9 @@
 #include "burlapslate_inside.h"
 #include "burlapslate_parts.h"
 
+#include <errno.h>
+#include <pthread.h>
+#include <sched.h>
 #include <stdlib.h>
 
 /* Rare code is not inlined. */
@@ -114,23 +117,71 @@ typedef struct group_kept {
   uint32_t count; /* how many first locks the last commit in the part has kept; 0 after a join */
 } group_kept;
 
-/* A transaction, by slot. Its thread alone uses it. Others read `since` and `target` with the latch of a part where it
+/* Why a transaction may request nothing: it fell, to end a deadlock; it waits by an ask or a list. */
+enum group_bars { GROUP_FALLEN = 1, GROUP_WAITS = 2 };
+
+/* A transaction, by slot. Its thread alone uses it, and as long as it waits by an ask, the thread that ends that wait. Others read `since` and `target` with the latch of a part where it
  * holds something or sleeps: its thread wrote them before it acquired that latch, or with it. A look also reads the
  * `since` of a slot for which something rests, which no cycle has. */
 typedef struct group_slot {
   bool is_taken;               /* atomic */
-  bool has_fallen;
   bool is_in_main, is_spread;  /* atomic: it has joined the main table; it has joined two tables */
+  uint32_t barred;             /* atomic, of enum group_bars: why it may request nothing */
   uint32_t number;
   uint64_t age;                /* atomic; 0: there is none */
   uint64_t since;              /* atomic */
   uint64_t next_age, end_age;  /* the ages that the slot may give */
   uint64_t used;               /* bit p: it has joined part p */
   uint64_t resting;            /* bit p: something rests for it in part p, unless others have ended that */
+  bool has_deadline;           /* with the main table's latch, as the next: its waits end at a time */
+  struct timespec deadline;    /* that time */
   group_kept *kept;            /* by part: what rests there */
+  struct group_ask *ask;       /* null before the slot's first ask */
   bs_target target;            /* what it requests in a part, by the part's names */
   bs_txn in[];                 /* its name in each part, by number; with age 0 it has not joined */
 } group_slot;
+
+/* What a transaction has asked for, or a list has requested for it. It is used as the slot is, except that the end of
+ * what a list requested is read and written with `latch`. */
+typedef struct group_ask {
+  bs_table_group *group;
+  group_slot *own;
+  const group_table *at;  /* the table in which it waits */
+  group_inner *inner;     /* not null: it is in progress there, as a request for more than an intention */
+  uint64_t cancelled;     /* atomic: the age of the transaction whose ask was cancelled */
+  void *word;
+  uint64_t age;           /* of its transaction */
+  struct timespec until;
+  bool has_time;
+  bool is_list, is_row;
+  bs_node node;           /* of a row, its file; each by the group's name */
+  bs_mode mode, instant;  /* `instant` is BS_INSTANT or 0 */
+  uint64_t number;        /* of a row, with its keys */
+  uint64_t *keys;
+  size_t count, room;
+  bool has_ended;         /* it is a list's, and came to this end */
+  bs_reply end;
+  pthread_mutex_t latch;
+  pthread_cond_t ended;
+} group_ask;
+
+/* The queue of begins that sleep for a slot: each locks `node` of a table in X, and who has the lock is the next. All but
+ * the latch and the table's pointer are used with the latch, until the table is made. */
+typedef struct group_turns {
+  pthread_mutex_t latch;
+  pthread_cond_t freed;  /* a slot is free, or the group ends; or the last sleeper has left one that ends */
+  bs_table *table;       /* null before the first that sleeps */
+  bs_node node;
+} group_turns;
+
+/* The thread that watches. All is used with the latch. */
+typedef struct group_watch {
+  pthread_mutex_t latch;
+  pthread_cond_t over;   /* the group ends */
+  pthread_t thread;
+  bool is_there, is_over;
+  uint64_t pace;
+} group_watch;
 
 typedef enum group_stage { GROUP_OPEN = 0, GROUP_ENDING, GROUP_ENDED } group_stage;
 
@@ -138,14 +189,19 @@ struct bs_table_group {
   void *block;              /* what malloc gave */
   uint32_t parts, most;     /* how many parts there are, and slots */
   uint32_t stage;           /* atomic, of enum group_stage */
+  uint64_t queued;          /* atomic: how many begins sleep for a slot */
   size_t stride;            /* from a slot to the next */
   unsigned char *slots;
   group_roll *roll;         /* atomic; null if there is no spread file. It is changed with all latches */
   void *slots_block;
+  void (*on_end)(void *context, bs_txn txn, bs_reply end, void *word); /* atomic; null before it is given */
+  void *context;            /* written before it */
   uint64_t *seen;           /* with the main table's latch, as up to `faults`: bits by number, none between two uses */
   uint32_t *strong;         /* numbers */
   uint64_t faults;          /* how many copies were not granted at once: by the laws there is none */
   bs_board joined, one;     /* with all latches: of a look */
+  group_turns turns;
+  group_watch watch;
   uint64_t ages __attribute__((aligned(GROUP_LINE)));   /* atomic: the next ages for a slot */
   uint64_t next_part;                                   /* atomic: for the next file by turns */
   uint64_t spread __attribute__((aligned(GROUP_LINE))); /* atomic: how many transactions are in several tables */
@@ -340,6 +396,7 @@ static bool group_make_room(group_table *t) {
  */
 
 static bs_inside_look group_look;
+static void group_ask_ended(void *context, bs_txn txn, bs_reply end, void *word);
 
 /* Memory that is zero and begins a cache line, in `block` to be freed; null if it is refused. */
 static void *group_lines(size_t size, void **block) {
@@ -374,6 +431,10 @@ static bs_table_group *group_new(uint32_t parts, uint32_t most) {
     own->number = slot;
     own->kept = (group_kept *)(void *)(own->in + parts + 1);
   }
+  pthread_mutex_init(&group->turns.latch, NULL);
+  bs_call_make_steady(&group->turns.freed);
+  pthread_mutex_init(&group->watch.latch, NULL);
+  bs_call_make_steady(&group->watch.over);
   return group;
 }
 
@@ -384,6 +445,19 @@ static void group_free_rolls(bs_table_group *group) {
     group_roll *before = roll->before;
     free(roll);
     roll = before;
+  }
+}
+
+/* Frees what slots have for their asks. */
+static void group_free_asks(bs_table_group *group) {
+  uint32_t slot;
+  for (slot = 0; slot < group->most; slot++) {
+    group_ask *ask = group_slot_at(group, slot)->ask;
+    if (ask == NULL) continue;
+    pthread_cond_destroy(&ask->ended);
+    pthread_mutex_destroy(&ask->latch);
+    free(ask->keys);
+    free(ask);
   }
 }
 
@@ -400,7 +474,13 @@ static void group_free_group(bs_table_group *group) {
     if (t->table != NULL) bs_table_free(&t->table);
     group_free_places(t);
   }
+  if (group->turns.table != NULL) bs_table_free(&group->turns.table);
+  pthread_cond_destroy(&group->watch.over);
+  pthread_mutex_destroy(&group->watch.latch);
+  pthread_cond_destroy(&group->turns.freed);
+  pthread_mutex_destroy(&group->turns.latch);
   group_free_rolls(group);
+  group_free_asks(group);
   free(group->seen);
   free(group->strong);
   free(group->slots_block);
@@ -418,6 +498,7 @@ static bs_reply group_make_tables(bs_table_group *group, const bs_options *optio
     if (reply.status != BS_DONE) return reply;
     t->manager = bs_inside_manager(t->table);
     bs_inside_look_by(t->table, group_look, group);
+    reply = bs_table_on_end(t->table, group_ask_ended, group);
   }
   return reply;
 }
@@ -425,6 +506,29 @@ static bs_reply group_make_tables(bs_table_group *group, const bs_options *optio
 static void group_end_tables(bs_table_group *group) {
   uint32_t number;
   for (number = 0; number <= group->parts; number++) bs_table_end(group->tables[number].table);
+}
+
+/* Ends all begins that sleep for a slot of a group that ends. */
+static void group_end_turns(bs_table_group *group) {
+  group_turns *turns = &group->turns;
+  pthread_mutex_lock(&turns->latch);
+  pthread_cond_broadcast(&turns->freed);
+  pthread_mutex_unlock(&turns->latch);
+  if (turns->table != NULL) bs_table_end(turns->table);
+  pthread_mutex_lock(&turns->latch);
+  while (__atomic_load_n(&group->queued, __ATOMIC_ACQUIRE) != 0) pthread_cond_wait(&turns->freed, &turns->latch);
+  pthread_mutex_unlock(&turns->latch);
+}
+
+/* Ends the thread that watches. */
+static void group_end_watch(group_watch *watch) {
+  bool is_there;
+  pthread_mutex_lock(&watch->latch);
+  watch->is_over = true;
+  is_there = watch->is_there;
+  pthread_cond_signal(&watch->over);
+  pthread_mutex_unlock(&watch->latch);
+  if (is_there) pthread_join(watch->thread, NULL);
 }
 
 bs_reply bs_call_group_make(bs_table_group **group, const bs_options *options, size_t size, uint32_t parts) {
@@ -446,21 +550,34 @@ bs_reply bs_call_group_make(bs_table_group **group, const bs_options *options, s
   return reply;
 }
 
-/* Why this thread may not call a group; BS_DONE if it may. */
-static inline bs_status group_shut(const bs_table_group *group) {
-  if (group == NULL) return BS_NULL_POINTER;
-  if (!bs_call_may_sleep()) return BS_IN_USE;
+/* Why this thread may not call a group; BS_DONE if it may. The second is of a call that may sleep. */
+static inline bs_status group_closed(const bs_table_group *group) {
   return __atomic_load_n(&group->stage, __ATOMIC_ACQUIRE) == GROUP_OPEN ? BS_DONE : BS_NO_MANAGER;
 }
 
+static inline bs_status group_shut(const bs_table_group *group) {
+  if (group == NULL) return BS_NULL_POINTER;
+  return bs_inside_holds_none() ? group_closed(group) : BS_IN_USE;
+}
+
+static inline bs_status group_shut_to_sleep(const bs_table_group *group) {
+  if (group == NULL) return BS_NULL_POINTER;
+  return bs_call_may_sleep() ? group_closed(group) : BS_IN_USE;
+}
+
 bs_reply bs_group_end(bs_table_group *group) {
-  bs_status status = group_shut(group);
+  bs_status status = group_shut_to_sleep(group);
+  int state;
   if (status != BS_DONE) return group_only(status);
-  if (__atomic_exchange_n(&group->stage, GROUP_ENDING, __ATOMIC_ACQ_REL) != GROUP_OPEN) {
+  if (__atomic_exchange_n(&group->stage, GROUP_ENDING, __ATOMIC_SEQ_CST) != GROUP_OPEN) {
     return group_only(BS_NO_MANAGER);
   }
+  pthread_setcancelstate(PTHREAD_CANCEL_DISABLE, &state);
+  group_end_watch(&group->watch);
+  group_end_turns(group);
   group_end_tables(group);
   __atomic_store_n(&group->stage, GROUP_ENDED, __ATOMIC_RELEASE);
+  pthread_setcancelstate(state, &state);
   return group_only(BS_DONE);
 }
 
@@ -814,20 +931,28 @@ static inline uint64_t group_next_age(bs_table_group *group, group_slot *own) {
   return own->next_age;
 }
 
-bs_reply bs_group_begin_again(bs_table_group *group, uint64_t since) {
-  bs_reply reply = group_only(group_shut(group));
-  group_slot *own;
-  uint64_t age;
-  if (reply.status != BS_DONE) return reply;
-  own = group_take_slot(group);
-  if (own == NULL) return group_only(BS_TOO_MANY_TXNS);
-  age = group_next_age(group, own);
+/* Begins the next transaction of a slot. */
+static inline bs_reply group_begin_in(bs_table_group *group, group_slot *own, uint64_t since) {
+  uint64_t age = group_next_age(group, own);
+  bs_reply reply = group_only(BS_DONE);
   own->next_age++;
   __atomic_store_n(&own->since, since < age ? since : age, __ATOMIC_RELAXED);
   __atomic_store_n(&own->age, age, __ATOMIC_RELAXED);
   reply.txn.slot = own->number;
   reply.txn.age = age;
   return reply;
+}
+
+static inline bs_reply group_begin_now(bs_table_group *group, uint64_t since) {
+  group_slot *own = group_take_slot(group);
+  return own == NULL ? group_only(BS_TOO_MANY_TXNS) : group_begin_in(group, own, since);
+}
+
+bs_reply bs_group_begin_again(bs_table_group *group, uint64_t since) {
+  bs_status shut = group_shut(group);
+  if (shut != BS_DONE) return group_only(shut);
+  if (__builtin_expect(__atomic_load_n(&group->queued, __ATOMIC_RELAXED) != 0, 0)) return group_only(BS_TOO_MANY_TXNS);
+  return group_begin_now(group, since);
 }
 
 bs_reply bs_group_begin(bs_table_group *group) {
@@ -842,19 +967,35 @@ static inline group_slot *group_named(const bs_table_group *group, bs_txn txn) {
   return __atomic_load_n(&own->age, __ATOMIC_RELAXED) == txn.age ? own : NULL;
 }
 
-/* Finds the transaction of a call; BS_DONE if it may request something. */
-static inline bs_status group_finds(const bs_table_group *group, bs_txn txn, group_slot **own) {
-  bs_status shut = group_shut(group);
+/* Finds the transaction of a call to which the group is open or shut so; BS_DONE if it may request something. */
+static inline bs_status group_finds_if(const bs_table_group *group, bs_status shut, bs_txn txn, group_slot **own) {
+  uint32_t barred;
   if (shut != BS_DONE) return shut;
   *own = group_named(group, txn);
   if (*own == NULL) return BS_NO_SUCH_TXN;
-  return (*own)->has_fallen ? BS_TXN_CONDEMNED : BS_DONE;
+  barred = __atomic_load_n(&(*own)->barred, __ATOMIC_ACQUIRE);
+  if (__builtin_expect(barred == 0, 1)) return BS_DONE;
+  return (barred & GROUP_WAITS) != 0 ? BS_TXN_WAITING : BS_TXN_CONDEMNED;
+}
+
+static inline bs_status group_finds(const bs_table_group *group, bs_txn txn, group_slot **own) {
+  return group_finds_if(group, group_shut(group), txn, own);
+}
+
+/* The transaction has fallen. */
+static GROUP_APART void group_falls(group_slot *own) {
+  __atomic_fetch_or(&own->barred, GROUP_FALLEN, __ATOMIC_RELAXED);
 }
 
 /* A transaction is in two tables. */
 static GROUP_APART void group_note_spread(bs_table_group *group, group_slot *own) {
   if (__atomic_exchange_n(&own->is_spread, true, __ATOMIC_RELAXED)) return;
   __atomic_fetch_add(&group->spread, 1, __ATOMIC_RELAXED);
+}
+
+/* Sets in a table, whose latch is held, when the waits of a transaction end. */
+static GROUP_APART void group_limit(const group_slot *own, const group_table *t, bs_txn there) {
+  bs_inside_deadline(t->table, there, own->has_deadline ? &own->deadline : NULL);
 }
 
 /* Takes up what rests for a transaction in a part, or ends it if the transaction began again. Answers BS_NO_PLACE if
@@ -889,6 +1030,7 @@ static inline bs_status group_join(bs_table_group *group, group_slot *own, group
   if (own->used != 0 || __atomic_load_n(&own->is_in_main, __ATOMIC_RELAXED)) group_note_spread(group, own);
   own->in[t->number] = reply.txn;
   own->used |= (uint64_t)1 << t->number;
+  if (__builtin_expect(own->has_deadline, 0)) group_limit(own, t, reply.txn);
   return BS_DONE;
 }
 
@@ -902,6 +1044,7 @@ static bs_status group_join_main(bs_table_group *group, group_slot *own, bool is
     if (reply.status != BS_DONE) return reply.status;
     __atomic_store_n(&own->is_in_main, true, __ATOMIC_RELAXED);
     if (is_visitor || own->used != 0) group_note_spread(group, own);
+    if (own->has_deadline) group_limit(own, main, reply.txn);
   }
   *txn = reply.txn;
   return reply.status;
@@ -911,13 +1054,14 @@ static bs_status group_join_main(bs_table_group *group, group_slot *own, bool is
  * Requests in a part that is marked.
  */
 
-/* How a request is made: it may sleep until this time; or it is a try, and keeps this of what it acquired if it is
- * refused. */
+/* How a request is made: it may wait until this time, for which its thread sleeps, or is an ask; or it is a try, and
+ * keeps this of what it acquired if it is refused. */
 typedef struct group_manner {
   const struct timespec *until;
-  bool may_sleep;
+  bool may_wait;
   uint32_t keep;
   bs_mode instant; /* BS_INSTANT if it is a lock for an instant, else 0 */
+  group_ask *ask;  /* null if its thread sleeps */
 } group_manner;
 
 /* A request in a part, while it is found out what it lacks in the main table. */
@@ -942,9 +1086,23 @@ static GROUP_APART bs_reply group_lacks(const group_way *way) {
 
 static bs_status group_copy_own(bs_table_group *group, group_slot *own, bs_txn main_txn);
 
+/* Before an ask in a table, whose latch is held: notes where it waits, and answers whether it was cancelled. */
+static bool group_is_cancelled(const group_table *t, group_ask *ask) {
+  ask->at = t;
+  return __atomic_load_n(&ask->cancelled, __ATOMIC_RELAXED) == ask->own->age;
+}
+
+/* Asks for a node of a table. */
+static GROUP_APART bs_reply group_request_by_ask(const group_table *t, bs_txn txn, bs_node node, bs_mode mode,
+                                                 const group_manner *manner) {
+  if (group_is_cancelled(t, manner->ask)) return group_only(BS_NOT_WAITING);
+  return bs_inside_ask_path(t->table, txn, node, mode | manner->instant, manner->until, manner->ask);
+}
+
 /* Requests a node of a table in this manner, with the latch held before and after. */
 static bs_reply group_request(const group_table *t, bs_txn txn, bs_node node, bs_mode mode, const group_manner *manner) {
-  if (!manner->may_sleep) return bs_inside_try_path(t->table, txn, node, mode, manner->keep);
+  if (!manner->may_wait) return bs_inside_try_path(t->table, txn, node, mode, manner->keep);
+  if (__builtin_expect(manner->ask != NULL, 0)) return group_request_by_ask(t, txn, node, mode, manner);
   return bs_inside_path(t->table, txn, node, mode | manner->instant, manner->until);
 }
 
@@ -959,7 +1117,7 @@ static bs_reply group_acquire(const group_way *way, bs_reply lacks) {
 /* Joins the main table for a request that lacks something there, with the main table's latch held. */
 static bs_status group_way_by_main(group_way *way) {
   bs_status status = group_join_main(way->group, way->own, false, &way->main_txn);
-  if (status == BS_DONE && way->manner.may_sleep) status = group_copy_own(way->group, way->own, way->main_txn);
+  if (status == BS_DONE && way->manner.may_wait) status = group_copy_own(way->group, way->own, way->main_txn);
   way->in_main = status == BS_DONE;
   return status;
 }
@@ -985,7 +1143,7 @@ static GROUP_APART bs_reply group_reach_by_main(group_way *way) {
     bs_inside_release(way->part->table);
     reply = lacks.status == BS_DONE ? group_acquire(way, lacks) : lacks;
   }
-  if (reply.status == BS_VICTIM) way->own->has_fallen = true;
+  if (reply.status == BS_VICTIM) group_falls(way->own);
   return group_leave(main, reply);
 }
 
@@ -1153,7 +1311,14 @@ static void group_clear(bs_table_group *group, uint32_t *numbers, uint32_t count
  * Locks of inner nodes.
  */
 
-/* Requests more than an intention on an inner node. */
+/* A request for more than an intention on an inner node has ended so. */
+static void group_more_ended(bs_table_group *group, group_inner *inner, bs_status status) {
+  uint32_t number = inner->number;
+  inner->in_progress--;
+  if (status != BS_DONE) group_clear(group, &number, 1);
+}
+
+/* Requests more than an intention on an inner node. One that waits by an ask stays in progress. */
 static bs_reply group_lock_more(bs_table_group *group, bs_txn main_txn, group_inner *inner, bs_mode mode,
                                 const group_manner *manner) {
   const group_table *main = &group->tables[0];
@@ -1162,8 +1327,8 @@ static bs_reply group_lock_more(bs_table_group *group, bs_txn main_txn, group_in
   inner->in_progress++;
   reply = group_only(group_visit_all(group, inner));
   if (reply.status == BS_DONE) reply = group_request(main, main_txn, main->at[number].node, mode, manner);
-  inner->in_progress--;
-  if (reply.status != BS_DONE) group_clear(group, &number, 1);
+  if (reply.status == BS_WAITING) manner->ask->inner = inner;
+  else group_more_ended(group, inner, reply.status);
   return reply;
 }
 
@@ -1182,7 +1347,7 @@ static bs_reply group_lock_inner(bs_table_group *group, group_slot *own, bs_node
   if (reply.status != BS_DONE) return group_leave(main, reply);
   if (mode > BS_IX) reply = group_lock_more(group, main_txn, inner, mode, manner);
   else reply = group_request(main, main_txn, main->at[inner->number].node, mode, manner);
-  if (reply.status == BS_VICTIM) own->has_fallen = true;
+  if (reply.status == BS_VICTIM) group_falls(own);
   return group_leave(main, reply);
 }
 
@@ -1249,10 +1414,10 @@ static bs_status group_end_in_parts(bs_table_group *group, group_slot *own, bool
   return status;
 }
 
-/* Ends a transaction, and frees its slot. */
-static bs_reply group_end_txn(bs_table_group *group, group_slot *own, bool commits) {
+/* Ends a transaction, whose slot stays taken. */
+static bs_status group_end_in_all(bs_table_group *group, group_slot *own, bool commits) {
   bs_status status = group_end_in_parts(group, own, commits);
-  if (status == BS_NO_MANAGER) return group_only(status);
+  if (status == BS_NO_MANAGER) return status;
   if (__atomic_load_n(&own->is_in_main, __ATOMIC_RELAXED)) {
     bs_status in_main = group_end_in_main(group, own, commits);
     if (in_main != BS_DONE) status = in_main;
@@ -1262,9 +1427,30 @@ static bs_reply group_end_txn(bs_table_group *group, group_slot *own, bool commi
     __atomic_fetch_sub(&group->spread, 1, __ATOMIC_RELAXED);
     __atomic_store_n(&own->is_spread, false, __ATOMIC_RELAXED);
   }
-  own->has_fallen = false;
+  __atomic_store_n(&own->barred, 0, __ATOMIC_RELAXED);
+  own->has_deadline = false;
   __atomic_store_n(&own->age, 0, __ATOMIC_RELAXED);
-  __atomic_store_n(&own->is_taken, false, __ATOMIC_RELEASE);
+  return status;
+}
+
+/* A slot was freed: wakes the begin that is the next to have one. */
+static GROUP_APART void group_wake_turn(bs_table_group *group) {
+  pthread_mutex_lock(&group->turns.latch);
+  pthread_cond_broadcast(&group->turns.freed);
+  pthread_mutex_unlock(&group->turns.latch);
+}
+
+/* Frees a slot. A begin that sleeps is counted before it looks for a free slot, and this looks for such a begin after it
+ * has freed the slot: so one of them finds the other. */
+static inline void group_free_slot(bs_table_group *group, group_slot *own) {
+  __atomic_store_n(&own->is_taken, false, __ATOMIC_SEQ_CST);
+  if (__builtin_expect(__atomic_load_n(&group->queued, __ATOMIC_SEQ_CST) != 0, 0)) group_wake_turn(group);
+}
+
+/* Ends a transaction, and frees its slot. */
+static bs_reply group_end_txn(bs_table_group *group, group_slot *own, bool commits) {
+  bs_status status = group_end_in_all(group, own, commits);
+  if (status != BS_NO_MANAGER) group_free_slot(group, own);
   return group_only(status);
 }
 
@@ -1274,9 +1460,57 @@ bs_reply bs_group_commit(bs_table_group *group, bs_txn txn) {
   return status == BS_DONE ? group_end_txn(group, own, true) : group_only(status);
 }
 
+bs_reply bs_group_renew(bs_table_group *group, bs_txn txn, uint64_t since) {
+  group_slot *own;
+  bs_status status = group_finds(group, txn, &own);
+  if (status != BS_DONE) return group_only(status);
+  status = group_end_in_all(group, own, true);
+  if (status == BS_DONE) return group_begin_in(group, own, since);
+  if (status != BS_NO_MANAGER) group_free_slot(group, own);
+  return group_only(status);
+}
+
+/* Cancels the wait of a transaction. An ask that waits in no table at this moment goes on from one to another. */
+static bs_status group_cancel_wait(bs_table_group *group, group_slot *own, uint64_t age) {
+  bool asks = (__atomic_load_n(&own->barred, __ATOMIC_ACQUIRE) & GROUP_WAITS) != 0;
+  uint32_t number;
+  if (asks) __atomic_store_n(&own->ask->cancelled, age, __ATOMIC_RELAXED);
+  for (number = 0; number <= group->parts; number++) {
+    const group_table *t = &group->tables[number];
+    bool found;
+    if (!bs_inside_enter(t->table)) return BS_NO_MANAGER;
+    found = __atomic_load_n(&own->age, __ATOMIC_RELAXED) == age &&
+            bs_inside_end_sleep(t->table, own->number, BS_NOT_WAITING);
+    bs_inside_release(t->table);
+    if (found) return BS_DONE;
+  }
+  asks = asks && (__atomic_load_n(&own->barred, __ATOMIC_ACQUIRE) & GROUP_WAITS) != 0;
+  return asks ? BS_DONE : BS_NOT_WAITING;
+}
+
+bs_reply bs_group_cancel(bs_table_group *group, bs_txn txn) {
+  bs_status shut = group_shut(group);
+  group_slot *own;
+  if (shut != BS_DONE) return group_only(shut);
+  own = group_named(group, txn);
+  return group_only(own == NULL ? BS_NO_SUCH_TXN : group_cancel_wait(group, own, txn.age));
+}
+
+/* Ends the ask of a transaction that waits by it. Another thread may have to tell that end, which is over soon; in a
+ * callback it may be this thread. */
+static GROUP_APART bs_status group_end_wait(bs_table_group *group, group_slot *own) {
+  bs_status status = group_cancel_wait(group, own, own->age);
+  while ((__atomic_load_n(&own->barred, __ATOMIC_ACQUIRE) & GROUP_WAITS) != 0) {
+    if (!bs_call_may_sleep()) return BS_TXN_WAITING;
+    sched_yield();
+  }
+  return status == BS_NOT_WAITING ? BS_DONE : status;
+}
+
 bs_reply bs_group_abort(bs_table_group *group, bs_txn txn) {
   group_slot *own;
   bs_status status = group_finds(group, txn, &own);
+  if (status == BS_TXN_WAITING) status = group_end_wait(group, own);
   if (status != BS_DONE && status != BS_TXN_CONDEMNED) return group_only(status);
   return group_end_txn(group, own, false);
 }
@@ -1313,20 +1547,20 @@ static inline group_way group_way_to(bs_table_group *group, group_slot *own, gro
 
 /* The manner of a request that may sleep until this time; and of a try. */
 static inline group_manner group_until(const struct timespec *until) {
-  group_manner manner = { NULL, true, BS_KEEP_WAY, 0 };
+  group_manner manner = { NULL, true, BS_KEEP_WAY, 0, NULL };
   manner.until = until;
   return manner;
 }
 
 static inline group_manner group_tries(uint32_t keep) {
-  group_manner manner = { NULL, false, BS_KEEP_NOTHING, 0 };
+  group_manner manner = { NULL, false, BS_KEEP_NOTHING, 0, NULL };
   manner.keep = keep;
   return manner;
 }
 
 /* Leaves a part after a request that was answered so. */
 static inline bs_reply group_requested(group_slot *own, const group_table *t, bs_reply reply) {
-  if (__builtin_expect(reply.status == BS_VICTIM, 0)) own->has_fallen = true;
+  if (__builtin_expect(reply.status == BS_VICTIM, 0)) group_falls(own);
   return group_leave(t, reply);
 }
 
@@ -1337,20 +1571,22 @@ static inline bs_status group_bad_call(const bs_table_group *group, bs_mode mode
   return bs_inside_is_time(manner->until) ? BS_DONE : BS_BAD_NUMBER;
 }
 
-/* Locks a node with what must be held above it. */
-static inline bs_reply group_path(bs_table_group *group, bs_txn txn, bs_node node, bs_mode mode,
-                                  const group_manner *manner) {
-  bs_status status = group_bad_call(group, mode, manner);
+/* Finds the transaction of a request that is made in this manner. */
+static inline bs_status group_finds_by(const bs_table_group *group, bs_txn txn, const group_manner *manner,
+                                       group_slot **own) {
+  bool sleeps = manner->may_wait && manner->ask == NULL;
+  return group_finds_if(group, sleeps ? group_shut_to_sleep(group) : group_shut(group), txn, own);
+}
+
+/* Locks a node with what must be held above it, for a transaction that may request it. */
+static inline bs_reply group_path_of(bs_table_group *group, group_slot *own, bs_node node, bs_mode mode,
+                                     const group_manner *manner) {
   uint32_t part = bs_group_table(node);
   bs_target target;
   group_table *t;
-  group_slot *own;
   group_way way;
   bs_reply reply;
-  if (status == BS_DONE && part == 0 && manner->instant != 0) status = BS_BAD_NUMBER;
-  if (status == BS_DONE) status = group_finds(group, txn, &own);
-  if (status == BS_DONE && part > group->parts) status = BS_NO_SUCH_NODE;
-  if (status != BS_DONE) return group_only(status);
+  if (part > group->parts) return group_only(BS_NO_SUCH_NODE);
   if (part == 0) return group_lock_inner(group, own, node, mode, manner);
   t = &group->tables[part];
   target.node = group_name_there(t, node);
@@ -1359,6 +1595,16 @@ static inline bs_reply group_path(bs_table_group *group, bs_txn txn, bs_node nod
   way = group_way_to(group, own, t, &target, manner);
   if (!group_reach(&way, &reply)) return reply;
   return group_requested(own, t, group_request(t, own->in[part], target.node, mode, manner));
+}
+
+/* The same for the transaction of a call. */
+static inline bs_reply group_path(bs_table_group *group, bs_txn txn, bs_node node, bs_mode mode,
+                                  const group_manner *manner) {
+  bs_status status = group_bad_call(group, mode, manner);
+  group_slot *own;
+  if (status == BS_DONE && bs_group_table(node) == 0 && manner->instant != 0) status = BS_BAD_NUMBER;
+  if (status == BS_DONE) status = group_finds_by(group, txn, manner, &own);
+  return status == BS_DONE ? group_path_of(group, own, node, mode, manner) : group_only(status);
 }
 
 bs_reply bs_group_lock_path(bs_table_group *group, bs_txn txn, bs_node node, bs_mode mode,
@@ -1403,11 +1649,12 @@ typedef struct group_call {
 
 /* Reaches the part of a file for a request of a record or a row of it; an inner node is refused so. If that is done, the
  * part's latch is held, and the request lacks nothing in the main table; else the answer is in `why`. */
-static inline bool group_reach_in(bs_table_group *group, bs_txn txn, bs_node file, bs_status inner, bs_mode mode,
+static inline bool group_reach_in(bs_table_group *group, group_slot *own, bs_node file, bs_status inner, bs_mode mode,
                                   const group_manner *manner, group_call *call, bs_reply *why) {
   bs_target target;
   group_way way;
-  *why = group_only(group_finds_both(group, txn, file, inner, &call->own, &call->at));
+  call->own = own;
+  *why = group_only(group_part_of(group, file, inner, &call->at));
   if (why->status != BS_DONE) return false;
   target = group_in_file(call->at, file, mode);
   way = group_way_to(group, call->own, call->at, &target, manner);
@@ -1423,25 +1670,47 @@ static inline bool group_is_misnamed(const bs_table_group *group, const group_ca
   return bs_group_table(file) != 0 && group_is_dealt(group, call->at, there);
 }
 
-/* Locks a row with what must be held above it. */
+/* Asks for a row. */
+static GROUP_APART bs_reply group_request_row_by_ask(const group_call *call, bs_node file, uint64_t number,
+                                                     const uint64_t *keys, size_t count, bs_mode mode,
+                                                     const group_manner *manner) {
+  if (group_is_cancelled(call->at, manner->ask)) return group_only(BS_NOT_WAITING);
+  return bs_inside_ask_row_path(call->table, call->txn, file, number, keys, count, mode, manner->until, manner->ask);
+}
+
+/* Requests a row of a file of a part in this manner, with the latch held before and after. */
+static inline bs_reply group_request_row(const group_call *call, bs_node file, uint64_t number, const uint64_t *keys,
+                                         size_t count, bs_mode mode, const group_manner *manner) {
+  if (!manner->may_wait) {
+    return bs_inside_try_row_path(call->table, call->txn, file, number, keys, count, mode, manner->keep);
+  }
+  if (__builtin_expect(manner->ask != NULL, 0)) {
+    return group_request_row_by_ask(call, file, number, keys, count, mode, manner);
+  }
+  return bs_inside_row_path(call->table, call->txn, file, number, keys, count, mode, manner->until);
+}
+
+/* Locks a row with what must be held above it, for a transaction that may request it. */
+static inline bs_reply group_row_path_of(bs_table_group *group, group_slot *own, bs_node file, uint64_t number,
+                                         const uint64_t *keys, size_t count, bs_mode mode,
+                                         const group_manner *manner) {
+  bs_node of = group_file_of(group, file, number), there;
+  group_call call;
+  bs_reply reply;
+  if (!group_reach_in(group, own, of, BS_NOT_ROWS, mode, manner, &call, &reply)) return reply;
+  there = group_name_there(call.at, of);
+  if (group_is_misnamed(group, &call, file, there)) return group_leave(call.at, group_only(BS_NOT_ROWS));
+  return group_requested(own, call.at, group_request_row(&call, there, number, keys, count, mode, manner));
+}
+
+/* The same for the transaction of a call. */
 static inline bs_reply group_row_path(bs_table_group *group, bs_txn txn, bs_node file, uint64_t number,
                                       const uint64_t *keys, size_t count, bs_mode mode, const group_manner *manner) {
   bs_status status = group_bad_call(group, mode, manner);
-  group_call call;
-  bs_reply reply;
-  bs_node of, there;
+  group_slot *own;
   if (keys == NULL && count != 0) status = BS_NULL_POINTER;
-  if (status != BS_DONE) return group_only(status);
-  of = group_file_of(group, file, number);
-  if (!group_reach_in(group, txn, of, BS_NOT_ROWS, mode, manner, &call, &reply)) return reply;
-  there = group_name_there(call.at, of);
-  if (group_is_misnamed(group, &call, file, there)) return group_leave(call.at, group_only(BS_NOT_ROWS));
-  if (manner->may_sleep) {
-    reply = bs_inside_row_path(call.table, call.txn, there, number, keys, count, mode, manner->until);
-  } else {
-    reply = bs_inside_try_row_path(call.table, call.txn, there, number, keys, count, mode, manner->keep);
-  }
-  return group_requested(call.own, call.at, reply);
+  if (status == BS_DONE) status = group_finds_by(group, txn, manner, &own);
+  return status == BS_DONE ? group_row_path_of(group, own, file, number, keys, count, mode, manner) : group_only(status);
 }
 
 bs_reply bs_group_lock_row_path(bs_table_group *group, bs_txn txn, bs_node file, uint64_t number, const uint64_t *keys,
@@ -1465,10 +1734,12 @@ bs_reply bs_group_insert(bs_table_group *group, bs_txn txn, bs_node file, const 
   group_manner manner = group_tries(BS_KEEP_NOTHING);
   bs_status status = group_bad_call(group, BS_X, &manner), inner = group_no_records(group, file);
   group_call call;
+  group_slot *own;
   bs_reply reply;
   if (keys == NULL && count != 0) status = BS_NULL_POINTER;
+  if (status == BS_DONE) status = group_finds(group, txn, &own);
   if (status != BS_DONE) return group_only(status);
-  if (!group_reach_in(group, txn, file, inner, BS_X, &manner, &call, &reply)) return reply;
+  if (!group_reach_in(group, own, file, inner, BS_X, &manner, &call, &reply)) return reply;
   return group_leave(call.at, bs_inside_insert(call.table, call.txn, group_name_there(call.at, file), keys, count));
 }
 
@@ -1887,7 +2158,7 @@ static bool group_settle_one(bs_table_group *group) {
   memset(&group->joined, 0, sizeof group->joined);
   for (table = 0; table <= group->parts; table++) {
     const group_table *t = &group->tables[table];
-    if (!bs_inside_any_sleeps(t->table) || bs_read_board(t->manager, &group->one).status != BS_DONE) continue;
+    if (!bs_inside_any_waits(t->table) || bs_read_board(t->manager, &group->one).status != BS_DONE) continue;
     group_add_board(group);
   }
   youngest = bs_youngest(&group->joined, bs_suspects(&group->joined).slots);
@@ -1897,19 +2168,571 @@ static bool group_settle_one(bs_table_group *group) {
   return false;
 }
 
-/* A thread that sleeps in a table of the group looks for cycles over several tables: its own latch is held before and
- * after. If another has looked since it fell asleep, or since its own last look, that one has seen its wait. Whoever
- * falls is woken: after each the boards are read again, since its end may have opened other cycles. */
-static void group_look(void *context, bs_table *table, uint64_t since) {
-  bs_table_group *group = (bs_table_group *)context;
-  uint32_t number;
-  if (__atomic_load_n(&group->spread, __ATOMIC_RELAXED) == 0) return;
-  if (__atomic_load_n(&group->looked, __ATOMIC_RELAXED) > since) return;
-  bs_inside_release(table);
+/* Ends all cycles of waits over several tables: after each victim the boards are read again, since its end may have opened
+ * other cycles. No latch is held before and after: ends of asks are told after all were released. */
+static void group_settle_all(bs_table_group *group) {
+  bs_inside_asks ends;
+  bs_inside_keep_ends(&ends);
   group_take_all(group);
   __atomic_store_n(&group->looked, bs_call_now(), __ATOMIC_RELAXED);
   while (group_settle_one(group)) continue;
-  for (number = 0; number <= group->parts; number++) {
-    if (group->tables[number].table != table) bs_inside_release(group->tables[number].table);
+  group_release_all(group);
+  bs_inside_tell_ends(&ends);
+}
+
+/* A thread that sleeps in a table of the group looks for cycles over several tables: its own latch is held before and
+ * after. If another has looked since it fell asleep, or since its own last look, that one has seen its wait. */
+static void group_look(void *context, bs_table *table, uint64_t since) {
+  bs_table_group *group = (bs_table_group *)context;
+  if (__atomic_load_n(&group->spread, __ATOMIC_RELAXED) == 0) return;
+  if (__atomic_load_n(&group->looked, __ATOMIC_RELAXED) > since) return;
+  bs_inside_release(table);
+  group_settle_all(group);
+  bs_inside_take(table);
+}
+
+/* ------------------------------------------------------------------------------------------------
+ * Asks. An ask is made in one table after the other: the thread that ends its wait in the main table makes it in the
+ * part. What a list leaves waiting is an ask whose end is kept for who awaits it.
+ */
+
+bs_reply bs_group_on_end(bs_table_group *group, void (*function)(void *context, bs_txn txn, bs_reply end, void *word),
+                         void *context) {
+  bs_reply reply = group_only(function == NULL ? BS_NULL_POINTER : group_shut(group));
+  group_table *main;
+  if (reply.status != BS_DONE) return reply;
+  main = &group->tables[0];
+  if (!bs_inside_enter(main->table)) return group_only(BS_NO_MANAGER);
+  if (group->on_end != NULL) return group_leave(main, group_only(BS_IN_USE));
+  group->context = context;
+  __atomic_store_n(&group->on_end, function, __ATOMIC_RELEASE);
+  return group_leave(main, reply);
+}
+
+/* The place of a slot for its asks, which it keeps; null if memory is refused. */
+static group_ask *group_ask_of(bs_table_group *group, group_slot *own) {
+  group_ask *ask = own->ask;
+  if (ask != NULL) return ask;
+  ask = (group_ask *)group_zero(sizeof *ask);
+  if (ask == NULL) return NULL;
+  ask->group = group;
+  ask->own = own;
+  pthread_mutex_init(&ask->latch, NULL);
+  bs_call_make_steady(&ask->ended);
+  own->ask = ask;
+  return ask;
+}
+
+/* Copies the keys of a row; false if memory is refused. */
+static bool group_copy_keys(group_ask *ask, const uint64_t *keys, size_t count) {
+  if (count > ask->room) {
+    uint64_t *more = count > SIZE_MAX / sizeof *more ? NULL : (uint64_t *)realloc(ask->keys, count * sizeof *more);
+    if (more == NULL) return false;
+    ask->keys = more;
+    ask->room = count;
   }
+  if (count > 0) memcpy(ask->keys, keys, count * sizeof *keys);
+  ask->count = count;
+  return true;
+}
+
+/* Whether a command requests a row. */
+static inline bool group_is_of_row(const bs_command *c) {
+  return c->kind == BS_DO_LOCK_ROW || c->kind == BS_DO_LOCK_ROW_PATH;
+}
+
+/* Why no transaction can ask for this. */
+static bs_status group_bad_ask(const bs_table_group *group, const bs_command *c, const struct timespec *until) {
+  bs_mode instant = c->mode & BS_INSTANT;
+  if (group == NULL || (group_is_of_row(c) && c->keys == NULL && c->key_count != 0)) return BS_NULL_POINTER;
+  if ((c->mode & ~(bs_mode)BS_INSTANT) > BS_X || !bs_inside_is_time(until)) return BS_BAD_NUMBER;
+  return instant != 0 && (group_is_of_row(c) || bs_group_table(c->node) == 0) ? BS_BAD_NUMBER : BS_DONE;
+}
+
+/* Writes what a transaction asks for; false if memory is refused. */
+static bool group_write_ask(bs_table_group *group, group_slot *own, const bs_command *c, bool is_list) {
+  group_ask *ask = group_ask_of(group, own);
+  if (ask == NULL || !group_copy_keys(ask, c->keys, group_is_of_row(c) ? c->key_count : 0)) return false;
+  ask->age = own->age;
+  ask->inner = NULL;
+  __atomic_store_n(&ask->cancelled, 0, __ATOMIC_RELAXED);
+  ask->is_row = group_is_of_row(c);
+  ask->node = ask->is_row ? c->file : c->node;
+  ask->mode = c->mode & ~(bs_mode)BS_INSTANT;
+  ask->instant = c->mode & BS_INSTANT;
+  ask->number = c->number;
+  pthread_mutex_lock(&ask->latch);
+  ask->is_list = is_list;
+  ask->has_ended = false;
+  pthread_mutex_unlock(&ask->latch);
+  return true;
+}
+
+/* Requests what an ask is for, in the first table where it lacks something. */
+static bs_reply group_ask_goes(group_ask *ask) {
+  group_manner manner = group_until(ask->has_time ? &ask->until : NULL);
+  bs_reply reply;
+  manner.ask = ask;
+  manner.instant = ask->instant;
+  if (ask->is_row) {
+    return group_row_path_of(ask->group, ask->own, ask->node, ask->number, ask->keys, ask->count, ask->mode, &manner);
+  }
+  do {
+    reply = group_path_of(ask->group, ask->own, ask->node, ask->mode, &manner);
+  } while (reply.status == BS_MOVED);
+  return reply;
+}
+
+/* Asks for what a command requests. As long as it waits, its transaction may request nothing, and this thread uses
+ * nothing of it. */
+static bs_reply group_ask_for(bs_table_group *group, bs_txn txn, const bs_command *c, const struct timespec *until,
+                              void *word, bool is_list) {
+  bs_status status = group_bad_ask(group, c, until);
+  group_slot *own;
+  bs_reply reply;
+  if (status == BS_DONE) status = group_finds(group, txn, &own);
+  if (status == BS_DONE && !group_write_ask(group, own, c, is_list)) status = BS_NO_MEMORY;
+  if (status != BS_DONE) return group_only(status);
+  own->ask->word = word;
+  own->ask->has_time = until != NULL;
+  if (until != NULL) own->ask->until = *until;
+  __atomic_fetch_or(&own->barred, GROUP_WAITS, __ATOMIC_RELEASE);
+  reply = group_ask_goes(own->ask);
+  if (reply.status != BS_WAITING) __atomic_fetch_and(&own->barred, ~(uint32_t)GROUP_WAITS, __ATOMIC_RELEASE);
+  return reply;
+}
+
+/* The name in the group of the node with which a wait in a table has ended. */
+static bs_reply group_ended_at(const group_table *t, bs_reply end) {
+  if (end.node.birth == 0) return end;
+  if (!bs_inside_enter(t->table)) {
+    end.node = group_only(BS_DONE).node;
+    return end;
+  }
+  end.node = group_name_here(t, end.node);
+  bs_inside_release(t->table);
+  return end;
+}
+
+/* An ask for more than an intention on an inner node is no more in progress. */
+static void group_ask_leaves(group_ask *ask, bs_status status) {
+  bs_table *main = ask->group->tables[0].table;
+  bs_inside_take(main);
+  group_more_ended(ask->group, ask->inner, status);
+  bs_inside_release(main);
+}
+
+/* The wait of an ask has ended so in a table. It goes on if that was in the main table, on its way to a part, or if it
+ * must begin anew. Answers BS_WAITING if it waits again, else its end. */
+static bs_reply group_ask_goes_on(group_ask *ask, bs_reply end) {
+  bool is_on_the_way = ask->at->number == 0 && (ask->is_row || bs_group_table(ask->node) != 0);
+  if (is_on_the_way ? end.status == BS_DONE : end.status == BS_MOVED && !ask->is_row) return group_ask_goes(ask);
+  if (ask->inner != NULL) group_ask_leaves(ask, end.status);
+  return group_ended_at(ask->at, end);
+}
+
+/* Ends what a list left waiting: who awaits it is woken. */
+static void group_end_list(group_ask *ask, bs_reply end) {
+  pthread_mutex_lock(&ask->latch);
+  ask->end = end;
+  ask->has_ended = true;
+  __atomic_fetch_and(&ask->own->barred, ~(uint32_t)GROUP_WAITS, __ATOMIC_RELEASE);
+  pthread_cond_broadcast(&ask->ended);
+  pthread_mutex_unlock(&ask->latch);
+}
+
+/* The callback of each table: `word` is the ask. */
+static void group_ask_ended(void *context, bs_txn txn, bs_reply end, void *word) {
+  bs_table_group *group = (bs_table_group *)context;
+  group_ask *ask = (group_ask *)word;
+  void *own_word = ask->word;
+  end = group_ask_goes_on(ask, end);
+  if (end.status == BS_WAITING) return;
+  if (end.status == BS_VICTIM) group_falls(ask->own);
+  if (ask->is_list) {
+    group_end_list(ask, end);
+    return;
+  }
+  txn.age = ask->age;
+  __atomic_fetch_and(&ask->own->barred, ~(uint32_t)GROUP_WAITS, __ATOMIC_RELEASE);
+  __atomic_load_n(&group->on_end, __ATOMIC_ACQUIRE)(group->context, txn, end, own_word);
+}
+
+/* Asks, for an engine that has given a callback. */
+static bs_reply group_ask_and_tell(bs_table_group *group, bs_txn txn, const bs_command *c, const struct timespec *until,
+                                   void *word) {
+  if (group == NULL || __atomic_load_n(&group->on_end, __ATOMIC_ACQUIRE) == NULL) return bs_call_null();
+  return group_ask_for(group, txn, c, until, word, false);
+}
+
+bs_reply bs_group_ask_path(bs_table_group *group, bs_txn txn, bs_node node, bs_mode mode, const struct timespec *until,
+                           void *word) {
+  bs_command wanted = bs_do_at(BS_DO_LOCK_PATH, txn, node, mode);
+  return group_ask_and_tell(group, txn, &wanted, until, word);
+}
+
+bs_reply bs_group_ask_row_path(bs_table_group *group, bs_txn txn, bs_node file, uint64_t number, const uint64_t *keys,
+                               size_t count, bs_mode mode, const struct timespec *until, void *word) {
+  bs_command wanted = bs_do_at(BS_DO_LOCK_ROW_PATH, txn, file, mode);
+  wanted.file = file;
+  wanted.number = number;
+  wanted.keys = keys;
+  wanted.key_count = count;
+  return group_ask_and_tell(group, txn, &wanted, until, word);
+}
+
+/* Whether one time is before another. */
+static bool group_is_before(const struct timespec *one, const struct timespec *other) {
+  return one->tv_sec < other->tv_sec || (one->tv_sec == other->tv_sec && one->tv_nsec < other->tv_nsec);
+}
+
+/* How long nobody need look again for cycles over several tables, in nanoseconds. */
+enum { GROUP_REST = 2000000 };
+
+/* Looks for cycles over several tables, unless somebody did just now. No latch is held. */
+static void group_look_again(bs_table_group *group) {
+  if (__atomic_load_n(&group->spread, __ATOMIC_RELAXED) == 0) return;
+  if (__atomic_load_n(&group->looked, __ATOMIC_RELAXED) + GROUP_REST > bs_call_now()) return;
+  group_settle_all(group);
+}
+
+bs_reply bs_group_expire(bs_table_group *group, struct timespec *next) {
+  bs_reply all = group_only(group_shut(group));
+  struct timespec earliest, time;
+  uint32_t number;
+  for (number = 0; all.status == BS_DONE && number <= group->parts; number++) {
+    bs_reply one = bs_table_expire(group->tables[number].table, &time);
+    if (one.status != BS_DONE) return one;
+    if (one.count != 0 && (all.count == 0 || group_is_before(&time, &earliest))) earliest = time;
+    all.count += one.count;
+  }
+  if (all.status == BS_DONE) group_look_again(group);
+  if (all.count != 0 && next != NULL) *next = earliest;
+  return all;
+}
+
+bs_reply bs_group_deadline(bs_table_group *group, bs_txn txn, const struct timespec *until) {
+  bs_status status = group != NULL && !bs_inside_is_time(until) ? BS_BAD_NUMBER : group_shut(group);
+  group_slot *own;
+  group_table *main;
+  uint64_t left;
+  status = group_finds_if(group, status, txn, &own);
+  if (status != BS_DONE) return group_only(status);
+  main = &group->tables[0];
+  if (!bs_inside_enter(main->table)) return group_only(BS_NO_MANAGER);
+  own->has_deadline = until != NULL;
+  if (until != NULL) own->deadline = *until;
+  if (__atomic_load_n(&own->is_in_main, __ATOMIC_RELAXED)) {
+    group_limit(own, main, bs_living(main->manager, own->number).txn);
+  }
+  bs_inside_release(main->table);
+  for (left = own->used; left != 0; left &= left - 1) {
+    const group_table *t = &group->tables[__builtin_ctzll(left)];
+    if (!bs_inside_enter(t->table)) return group_only(BS_NO_MANAGER);
+    group_limit(own, t, own->in[t->number]);
+    bs_inside_release(t->table);
+  }
+  return group_only(BS_DONE);
+}
+
+/* ------------------------------------------------------------------------------------------------
+ * Lists.
+ */
+
+/* Whether a name stands for the node of an earlier command (bs_made), which it becomes then. */
+static void group_name_made(const bs_command *commands, size_t place, bs_node *node) {
+  if (node->birth == UINT64_MAX && node->key < place) *node = commands[node->key].reply.node;
+}
+
+/* A command that requests, tries or releases locks, or ends its transaction. */
+static bs_reply group_lock_made(bs_table_group *group, const bs_command *c, bs_txn txn) {
+  switch (c->kind) {
+    case BS_DO_LOCK: case BS_DO_LOCK_PATH: case BS_DO_LOCK_ROW: case BS_DO_LOCK_ROW_PATH:
+      return group_ask_for(group, txn, c, NULL, NULL, true);
+    case BS_DO_TRY: return bs_group_try_path(group, txn, c->node, c->mode, BS_KEEP_NOTHING);
+    case BS_DO_TRY_PATH: return bs_group_try_path(group, txn, c->node, c->mode, c->keep);
+    case BS_DO_TRY_ROW:
+      return bs_group_try_row_path(group, txn, c->file, c->number, c->keys, c->key_count, c->mode, BS_KEEP_NOTHING);
+    case BS_DO_TRY_ROW_PATH:
+      return bs_group_try_row_path(group, txn, c->file, c->number, c->keys, c->key_count, c->mode, c->keep);
+    case BS_DO_UNLOCK: return bs_group_unlock(group, txn, c->node);
+    case BS_DO_UNLOCK_ROW: return bs_group_unlock_row(group, txn, c->file, c->number);
+    case BS_DO_ESCALATE: return bs_group_escalate(group, txn, c->node);
+    case BS_DO_CANCEL: return bs_group_cancel(group, txn);
+    case BS_DO_COMMIT: return bs_group_commit(group, txn);
+    case BS_DO_ABORT: return bs_group_abort(group, txn);
+    case BS_DO_RENEW: return bs_group_renew(group, txn, c->number);
+    case BS_DO_BEGIN: return bs_group_begin(group);
+    case BS_DO_BEGIN_AGAIN: return bs_group_begin_again(group, c->number);
+    default: return group_only(BS_BAD_NUMBER);
+  }
+}
+
+/* Any command that a group has. */
+static bs_reply group_made(bs_table_group *group, const bs_command *c, bs_txn txn) {
+  switch (c->kind) {
+    case BS_DO_INSERT: case BS_DO_INSERT_PATH: return bs_group_insert(group, txn, c->file, c->keys, c->key_count);
+    case BS_DO_DELETE: return bs_group_delete(group, txn, c->node);
+    case BS_DO_ADOPT: return bs_group_adopt(group, c->file, c->keys, c->key_count);
+    case BS_DO_FORGET: return bs_group_forget(group, c->node);
+    case BS_DO_REKEY: return bs_group_rekey(group, txn, c->node, c->index, c->key);
+    case BS_DO_REKEY_ROW: return bs_group_rekey_row(group, txn, c->file, c->number, c->index, c->key);
+    case BS_DO_DROP: return bs_group_drop(group, txn, c->node);
+    case BS_DO_SPLIT: return bs_group_split(group, txn, c->node, c->key);
+    case BS_DO_MERGE: return bs_group_merge(group, txn, c->node);
+    case BS_DO_ADD_INNER: return bs_group_add_inner(group, c->parents, c->parent_count);
+    case BS_DO_ADD_FILE: return bs_group_add_file(group, 0, c->parents, c->parent_count);
+    case BS_DO_ADD_ROW_FILE: return bs_group_add_row_file(group, 0, c->parents, c->parent_count);
+    case BS_DO_ADD_INDEX:
+      return bs_group_add_index(group, c->parents, c->parent_count, c->file, c->bounds, c->bound_count);
+    case BS_DO_INDEX_BY:
+      return bs_group_index_by(group, txn, c->parents, c->parent_count, c->file, c->bounds, c->bound_count);
+    default: return group_lock_made(group, c, txn);
+  }
+}
+
+/* Makes the command at this place of a list, after the nodes of earlier ones were named, and writes its reply. */
+static bs_status group_run_next(bs_table_group *group, bs_command *commands, size_t place, bs_txn begun) {
+  bs_command named = commands[place];
+  bs_node parents[BS_MOST_PARENTS];
+  bs_txn none = bs_begun();
+  bool is_own = named.txn.slot == none.slot && named.txn.age == none.age;
+  size_t i;
+  group_name_made(commands, place, &named.node);
+  group_name_made(commands, place, &named.file);
+  group_name_made(commands, place, &named.index);
+  if (named.parents != NULL && named.parent_count <= BS_MOST_PARENTS) {
+    for (i = 0; i < named.parent_count; i++) {
+      parents[i] = named.parents[i];
+      group_name_made(commands, place, &parents[i]);
+    }
+    named.parents = parents;
+  }
+  if (named.told != NULL) named.told->count = 0;
+  commands[place].reply = group_made(group, &named, is_own ? begun : named.txn);
+  return commands[place].reply.status;
+}
+
+/* The commands of a list after the first that was not done. */
+static void group_not_made(bs_command *commands, size_t count) {
+  size_t i;
+  for (i = 0; i < count; i++) commands[i].reply = group_only(BS_NOT_MADE);
+}
+
+size_t bs_group_run(bs_table_group *group, bs_command *commands, size_t count) {
+  bs_txn begun = bs_begun();
+  size_t done = 0;
+  if (commands == NULL) return 0;
+  while (done < count && group_run_next(group, commands, done, begun) == BS_DONE) {
+    uint32_t kind = commands[done].kind;
+    if (kind == BS_DO_BEGIN || kind == BS_DO_BEGIN_AGAIN || kind == BS_DO_RENEW) begun = commands[done].reply.txn;
+    done++;
+  }
+  if (done < count) group_not_made(commands + done + 1, count - done - 1);
+  return done;
+}
+
+/* Makes the next try of a list. What is no try is refused. */
+static bs_status group_try_next(bs_table_group *group, bs_command *next) {
+  bool is_try = next->kind == BS_DO_TRY || next->kind == BS_DO_TRY_PATH || next->kind == BS_DO_TRY_ROW ||
+                next->kind == BS_DO_TRY_ROW_PATH;
+  if (next->told != NULL) next->told->count = 0;
+  next->reply = is_try ? group_lock_made(group, next, next->txn) : group_only(BS_BAD_NUMBER);
+  return next->reply.status;
+}
+
+size_t bs_group_try_first(bs_table_group *group, bs_command *commands, size_t count) {
+  size_t place;
+  if (commands == NULL) return count;
+  for (place = 0; place < count; place++) {
+    bs_status status = group_try_next(group, &commands[place]);
+    if (status != BS_WOULD_BLOCK && status != BS_NEED_PARENTS && status != BS_NO_SUCH_NODE) break;
+  }
+  if (place < count) group_not_made(commands + place + 1, count - place - 1);
+  return place;
+}
+
+/* The time that is so many nanoseconds from now. */
+static struct timespec group_ahead(uint64_t nanoseconds) {
+  uint64_t time = bs_call_now() + nanoseconds;
+  struct timespec until;
+  until.tv_sec = (time_t)(time / 1000000000u);
+  until.tv_nsec = (long)(time % 1000000000u);
+  return until;
+}
+
+/* Sleeps until a list's request has ended, with the ask's latch held before and after, or until this time; looks for
+ * cycles meanwhile. Whether it has ended. */
+static bool group_doze(group_ask *ask, const struct timespec *until) {
+  uint64_t pause = GROUP_REST;
+  while (!ask->has_ended) {
+    struct timespec look = group_ahead(pause);
+    bool is_last = until != NULL && group_is_before(until, &look);
+    int late = pthread_cond_timedwait(&ask->ended, &ask->latch, is_last ? until : &look);
+    if (late != ETIMEDOUT || ask->has_ended) continue;
+    if (is_last) return false;
+    pthread_mutex_unlock(&ask->latch);
+    group_look_again(ask->group);
+    pthread_mutex_lock(&ask->latch);
+    if (pause < 128 * (uint64_t)GROUP_REST) pause *= 2;
+  }
+  return true;
+}
+
+/* Sleeps until a list's request has ended. If the time is over, its wait is cancelled. */
+static bs_reply group_await_end(group_ask *ask, const struct timespec *until) {
+  bool in_time;
+  bs_reply end;
+  int state;
+  pthread_setcancelstate(PTHREAD_CANCEL_DISABLE, &state);
+  pthread_mutex_lock(&ask->latch);
+  in_time = group_doze(ask, until);
+  if (!in_time) {
+    pthread_mutex_unlock(&ask->latch);
+    group_cancel_wait(ask->group, ask->own, ask->age);
+    pthread_mutex_lock(&ask->latch);
+    group_doze(ask, NULL);
+  }
+  end = ask->end;
+  pthread_mutex_unlock(&ask->latch);
+  pthread_setcancelstate(state, &state);
+  if (!in_time && end.status == BS_NOT_WAITING) end.status = BS_TIMED_OUT;
+  return end;
+}
+
+bs_reply bs_group_await(bs_table_group *group, bs_txn txn, const struct timespec *until) {
+  bs_status status = group != NULL && !bs_inside_is_time(until) ? BS_BAD_NUMBER : group_shut_to_sleep(group);
+  group_slot *own;
+  if (status != BS_DONE) return group_only(status);
+  own = group_named(group, txn);
+  if (own == NULL) return group_only(BS_NO_SUCH_TXN);
+  if (own->ask == NULL || !own->ask->is_list || own->ask->age != txn.age) return group_only(BS_NOT_WAITING);
+  if ((__atomic_load_n(&own->barred, __ATOMIC_ACQUIRE) & GROUP_WAITS) == 0 && !own->ask->has_ended) {
+    return group_only(BS_NOT_WAITING);
+  }
+  return group_await_end(own->ask, until);
+}
+
+/* ------------------------------------------------------------------------------------------------
+ * Begins in turn.
+ */
+
+/* A table with one node; null if memory is refused. */
+static bs_table *group_new_turns(bs_node *node) {
+  bs_options options = bs_call_chosen(NULL, 0);
+  bs_table *made = NULL;
+  bs_reply reply = bs_table_make(&made, &options);
+  if (reply.status != BS_DONE) return NULL;
+  reply = bs_table_add_inner(made, NULL, 0);
+  *node = reply.node;
+  if (reply.status == BS_DONE) return made;
+  bs_table_end(made);
+  bs_table_free(&made);
+  return NULL;
+}
+
+/* Makes the table whose queue the begins are in, if it is not there. */
+static bs_status group_make_turns(bs_table_group *group) {
+  group_turns *turns = &group->turns;
+  bs_status status;
+  pthread_mutex_lock(&turns->latch);
+  status = group_closed(group);
+  if (status == BS_DONE && turns->table == NULL) {
+    turns->table = group_new_turns(&turns->node);
+    if (turns->table == NULL) status = BS_NO_MEMORY;
+  }
+  pthread_mutex_unlock(&turns->latch);
+  return status;
+}
+
+/* Begins as soon as a slot is free: this thread is the next that has one. */
+static bs_reply group_begin_as_next(bs_table_group *group, uint64_t since, const struct timespec *until) {
+  group_turns *turns = &group->turns;
+  bs_reply reply;
+  int late = 0;
+  pthread_mutex_lock(&turns->latch);
+  for (;;) {
+    reply = group_begin_now(group, since);
+    if (reply.status != BS_TOO_MANY_TXNS) break;
+    if (group_closed(group) != BS_DONE) reply.status = BS_NO_MANAGER;
+    else if (late == ETIMEDOUT) reply.status = BS_TIMED_OUT;
+    if (reply.status != BS_TOO_MANY_TXNS) break;
+    late = until == NULL ? pthread_cond_wait(&turns->freed, &turns->latch)
+                         : pthread_cond_timedwait(&turns->freed, &turns->latch, until);
+  }
+  pthread_mutex_unlock(&turns->latch);
+  return reply;
+}
+
+/* Begins in its turn. */
+static bs_reply group_begin_by_turn(bs_table_group *group, uint64_t since, const struct timespec *until) {
+  group_turns *turns = &group->turns;
+  bs_reply reply = group_only(group_make_turns(group));
+  bs_txn turn;
+  if (reply.status != BS_DONE) return reply;
+  reply = bs_table_begin_in_turn(turns->table, until);
+  if (reply.status != BS_DONE) return reply;
+  turn = reply.txn;
+  reply = bs_table_lock(turns->table, turn, turns->node, BS_X, until);
+  if (reply.status == BS_DONE) reply = group_begin_as_next(group, since, until);
+  bs_table_abort(turns->table, turn, NULL);
+  return reply;
+}
+
+bs_reply bs_group_begin_again_in_turn(bs_table_group *group, uint64_t since, const struct timespec *until) {
+  bs_status status = group != NULL && !bs_inside_is_time(until) ? BS_BAD_NUMBER : group_shut_to_sleep(group);
+  bs_reply reply = group_only(status);
+  int state;
+  if (status != BS_DONE) return reply;
+  if (__atomic_load_n(&group->queued, __ATOMIC_RELAXED) == 0) {
+    reply = group_begin_now(group, since);
+    if (reply.status != BS_TOO_MANY_TXNS) return reply;
+  }
+  pthread_setcancelstate(PTHREAD_CANCEL_DISABLE, &state);
+  __atomic_fetch_add(&group->queued, 1, __ATOMIC_SEQ_CST);
+  reply = group_begin_by_turn(group, since, until);
+  __atomic_fetch_sub(&group->queued, 1, __ATOMIC_SEQ_CST);
+  if (group_closed(group) != BS_DONE) group_wake_turn(group);
+  pthread_setcancelstate(state, &state);
+  return reply;
+}
+
+bs_reply bs_group_begin_in_turn(bs_table_group *group, const struct timespec *until) {
+  return bs_group_begin_again_in_turn(group, UINT64_MAX, until);
+}
+
+/* ------------------------------------------------------------------------------------------------
+ * The thread that watches.
+ */
+
+static void *group_watch_over(void *place) {
+  bs_table_group *group = (bs_table_group *)place;
+  group_watch *watch = &group->watch;
+  pthread_mutex_lock(&watch->latch);
+  while (!watch->is_over) {
+    struct timespec until = group_ahead(watch->pace);
+    if (pthread_cond_timedwait(&watch->over, &watch->latch, &until) != ETIMEDOUT) continue;
+    pthread_mutex_unlock(&watch->latch);
+    if (__atomic_load_n(&group->spread, __ATOMIC_RELAXED) != 0) group_settle_all(group);
+    pthread_mutex_lock(&watch->latch);
+  }
+  pthread_mutex_unlock(&watch->latch);
+  return NULL;
+}
+
+bs_reply bs_group_watch_thread(bs_table_group *group, uint64_t pace) {
+  bs_reply reply = group_only(group_shut(group));
+  group_watch *watch;
+  if (reply.status != BS_DONE) return reply;
+  watch = &group->watch;
+  pthread_mutex_lock(&watch->latch);
+  if (watch->is_over) reply.status = BS_NO_MANAGER;
+  else if (watch->is_there) reply.status = BS_IN_USE;
+  if (reply.status == BS_DONE) {
+    watch->pace = pace;
+    watch->is_there = bs_call_start(&watch->thread, group_watch_over, group);
+    if (!watch->is_there) reply.status = BS_NO_MEMORY;
+  }
+  pthread_mutex_unlock(&watch->latch);
+  return reply;
 }

@@ -104,12 +104,25 @@ bool bs_call_start(pthread_t *thread, void *(*run)(void *), void *place);
 void bs_call_engine(void (*function)(void *place), void *place);
 
 /* ------------------------------------------------------------------------------------------------
- * Of burlapslate_shared.c: what burlapslate_group.c does with its tables. No latch is needed for the first; enter, take
- * and release are about the latch; all others are made with it held. What they name is the table's own.
+ * Of burlapslate_shared.c: what burlapslate_group.c does with its tables. No latch is needed up to bs_inside_tell_ends;
+ * enter, take and release are about the latch; all others are made with it held. What they name is the table's own.
  */
 
 /* Whether this is a valid time for `until`. */
 bool bs_inside_is_time(const struct timespec *until);
+
+/* Whether this thread holds no table by bs_table_hold. */
+bool bs_inside_holds_none(void);
+
+/* Asks in order. */
+typedef struct bs_inside_asks {
+  struct table_asked *first, *last;
+} bs_inside_asks;
+
+/* From now on this thread keeps the ends of asks that it must tell, so that it may hold a latch as it releases another.
+ * The second call tells them; the thread holds no latch then. Within a callback they are told after that. */
+void bs_inside_keep_ends(bs_inside_asks *ends);
+void bs_inside_tell_ends(bs_inside_asks *ends);
 
 /* Acquires the latch if the table is open, and answers whether it is; the second acquires it in any case. Releases it,
  * and wakes those whose wait has ended. Whether this thread holds the table by bs_table_hold. */
@@ -126,11 +139,12 @@ bs_manager *bs_inside_manager(bs_table *table);
 typedef void bs_inside_look(void *context, bs_table *table, uint64_t since);
 void bs_inside_look_by(bs_table *table, bs_inside_look *look, void *context);
 
-/* Whether a thread sleeps for the transaction in this slot, and its request has not ended; and whether any sleeps. */
+/* Whether a call or an ask awaits the end of a request of the transaction in this slot; and whether any transaction
+ * waits. */
 bool bs_inside_sleeps(const bs_table *table, uint32_t slot);
-bool bs_inside_any_sleeps(const bs_table *table);
+bool bs_inside_any_waits(const bs_table *table);
 
-/* Ends such a sleep with this status. If that is BS_VICTIM, the manager does not know the transaction as condemned.
+/* Ends such a request with this status. If that is BS_VICTIM, the manager does not know the transaction as condemned.
  * False if none sleeps. */
 bool bs_inside_end_sleep(bs_table *table, uint32_t slot, bs_status status);
 
@@ -138,6 +152,16 @@ bool bs_inside_end_sleep(bs_table *table, uint32_t slot, bs_status status);
 bs_reply bs_inside_path(bs_table *table, bs_txn txn, bs_node node, bs_mode mode, const struct timespec *until);
 bs_reply bs_inside_row_path(bs_table *table, bs_txn txn, bs_node file, uint64_t number, const uint64_t *keys,
                             size_t count, bs_mode mode, const struct timespec *until);
+
+/* As bs_table_ask_path and bs_table_ask_row_path, of a table that has a callback. They may release the latch, and acquire
+ * it again. */
+bs_reply bs_inside_ask_path(bs_table *table, bs_txn txn, bs_node node, bs_mode mode, const struct timespec *until,
+                            void *word);
+bs_reply bs_inside_ask_row_path(bs_table *table, bs_txn txn, bs_node file, uint64_t number, const uint64_t *keys,
+                                size_t count, bs_mode mode, const struct timespec *until, void *word);
+
+/* As bs_table_deadline, of a transaction that lives and a valid time. */
+void bs_inside_deadline(bs_table *table, bs_txn txn, const struct timespec *until);
 
 /* As bs_table_try_path, bs_table_try_row_path, and bs_table_insert_path, which keeps nothing. */
 bs_reply bs_inside_try_path(bs_table *table, bs_txn txn, bs_node node, bs_mode mode, uint32_t keep);

@@ -92,7 +92,8 @@ typedef struct table_waiter {
 } table_waiter;
 
 /* An ask: it waits, its end must be told, or it is a spare one. */
-typedef struct table_asked {
+typedef struct table_asked table_asked;
+struct table_asked {
   struct table_asked *next; /* in its list */
   bs_table *table;
   bs_txn txn;               /* of a begin, none before it has begun */
@@ -102,12 +103,10 @@ typedef struct table_asked {
   bool is_inside;           /* its call has not returned: so that answers its end */
   table_queued_begin begin; /* of a begin alone, as all after it */
   uint64_t begin_time;      /* that time */
-} table_asked;
+};
 
 /* Asks in order. */
-typedef struct table_asked_list {
-  table_asked *first, *last;
-} table_asked_list;
+typedef bs_inside_asks table_asked_list;
 
 /* The asks of a table whose engine has given a callback. */
 typedef struct table_asks {
@@ -1037,8 +1036,7 @@ bs_reply bs_table_deadline(bs_table *table, bs_txn txn, const struct timespec *u
   if (!table_enter_until(table, until)) return table_no_entry(table);
   reply = bs_call_doing(&table->manager, txn);
   if (reply.status != BS_DONE) return table_leave(table, reply);
-  table->deadlines[txn.slot].age = until == NULL ? 0 : txn.age;
-  table->deadlines[txn.slot].time = table_time_of(until);
+  bs_inside_deadline(table, txn, until);
   return table_leave(table, bs_call_only(BS_DONE));
 }
 
@@ -1614,6 +1612,20 @@ static table_asked *table_place(bs_table *table) {
   return place;
 }
 
+/* An ask of a table whose engine has given a callback; null if memory is refused. */
+static table_asked *table_new_ask(bs_table *table, bs_txn txn, const struct timespec *until, void *word) {
+  table_asked *own = table_place(table);
+  if (own == NULL) return NULL;
+  memset(own, 0, offsetof(table_asked, begin));
+  own->table = table;
+  own->txn = txn;
+  own->word = word;
+  own->is_inside = true;
+  table_sleeper(&own->waiter, until);
+  own->waiter.ask = own;
+  return own;
+}
+
 /* Enters a table for an ask, with a place for it; null if that is refused, as `why` says then. */
 static table_asked *table_enter_to_ask(bs_table *table, bs_txn txn, const struct timespec *until, void *word,
                                        bs_reply *why) {
@@ -1622,18 +1634,8 @@ static table_asked *table_enter_to_ask(bs_table *table, bs_txn txn, const struct
     *why = table_no_entry(table);
     return NULL;
   }
-  own = table->asks == NULL ? NULL : table_place(table);
-  if (own == NULL) {
-    *why = table_leave(table, table->asks == NULL ? bs_call_null() : bs_call_only(BS_NO_MEMORY));
-    return NULL;
-  }
-  memset(own, 0, offsetof(table_asked, begin));
-  own->table = table;
-  own->txn = txn;
-  own->word = word;
-  own->is_inside = true;
-  table_sleeper(&own->waiter, until);
-  own->waiter.ask = own;
+  own = table->asks == NULL ? NULL : table_new_ask(table, txn, until, word);
+  if (own == NULL) *why = table_leave(table, table->asks == NULL ? bs_call_null() : bs_call_only(BS_NO_MEMORY));
   return own;
 }
 
@@ -1645,15 +1647,23 @@ static TABLE_APART void table_ask_and_tell(bs_table *table) {
   table_was_told(table);
 }
 
-/* Leaves after an ask that was answered so. If it waited, and its wait has ended by now, that end is its answer. A reply
- * that names a node names the one for which it waits by now: a path may have gone on. */
-static bs_reply table_leave_asked(bs_table *table, table_asked *own, bs_reply reply) {
+/* The answer of an ask whose request was answered so, with the latch held before and after. If it waited, and its wait
+ * has ended by now, that end is its answer. A reply that names a node names the one for which it waits by now: a path
+ * may have gone on. */
+static bs_reply table_asked_now(bs_table *table, table_asked *own, bs_reply reply) {
   bool waits = reply.status == BS_WAITING;
   if (waits && !own->waiter.has_ended && table->is_due) table_ask_and_tell(table);
   own->is_inside = false;
   if (waits && own->waiter.has_ended) reply = own->waiter.end;
   else if (waits && reply.node.birth != 0) reply.node = bs_call_doing(&table->manager, own->txn).node;
   if (!waits || own->waiter.has_ended) table_spare(table, own);
+  return reply;
+}
+
+/* Leaves after an ask whose request was answered so. */
+static bs_reply table_leave_asked(bs_table *table, table_asked *own, bs_reply reply) {
+  bool waits = reply.status == BS_WAITING;
+  reply = table_asked_now(table, own, reply);
   if (!waits || table->stage == TABLE_OPEN) return table_leave(table, reply);
   pthread_mutex_unlock(&table->latch);
   return reply;
@@ -2446,6 +2456,26 @@ bool bs_inside_is_time(const struct timespec *until) {
   return table_is_time(until);
 }
 
+bool bs_inside_holds_none(void) {
+  return table_held == NULL;
+}
+
+void bs_inside_keep_ends(bs_inside_asks *ends) {
+  ends->first = NULL;
+  if (table_telling == NULL) table_telling = ends;
+}
+
+void bs_inside_tell_ends(bs_inside_asks *ends) {
+  if (table_telling != ends) return;
+  table_telling = NULL;
+  if (ends->first != NULL) table_tell(ends);
+}
+
+void bs_inside_deadline(bs_table *table, bs_txn txn, const struct timespec *until) {
+  table->deadlines[txn.slot].age = until == NULL ? 0 : txn.age;
+  table->deadlines[txn.slot].time = table_time_of(until);
+}
+
 bool bs_inside_enter(bs_table *table) {
   return table_enter(table);
 }
@@ -2475,8 +2505,11 @@ bool bs_inside_sleeps(const bs_table *table, uint32_t slot) {
   return table->waiters[slot] != NULL;
 }
 
-bool bs_inside_any_sleeps(const bs_table *table) {
-  return table->sleepers > 0;
+bool bs_inside_any_waits(const bs_table *table) {
+  size_t i;
+  uint64_t any = 0;
+  for (i = 0; i < BS_SLOTS / 64; i++) any |= table->running.waiting.words[i];
+  return any != 0;
 }
 
 /* The wait is cancelled as one whose time is over, which wakes others in the same way. */
@@ -2509,6 +2542,21 @@ bs_reply bs_inside_row_path(bs_table *table, bs_txn txn, bs_node file, uint64_t 
   table_sleeper(&own, until);
   reply = table_row_by(table, &request, &own, &table->told);
   return reply.status == BS_WAITING ? table_sleep(table, txn, &own) : reply;
+}
+
+bs_reply bs_inside_ask_path(bs_table *table, bs_txn txn, bs_node node, bs_mode mode, const struct timespec *until,
+                            void *word) {
+  table_asked *own = table_new_ask(table, txn, until, word);
+  if (own == NULL) return bs_call_only(BS_NO_MEMORY);
+  return table_asked_now(table, own, table_path_through(table, txn, node, mode, &own->waiter, &table->told));
+}
+
+bs_reply bs_inside_ask_row_path(bs_table *table, bs_txn txn, bs_node file, uint64_t number, const uint64_t *keys,
+                                size_t count, bs_mode mode, const struct timespec *until, void *word) {
+  table_request request = table_row_request(TABLE_ROW_PATH, txn, table_row_of(file, number, keys, count), mode);
+  table_asked *own = table_new_ask(table, txn, until, word);
+  if (own == NULL) return bs_call_only(BS_NO_MEMORY);
+  return table_asked_now(table, own, table_row_by(table, &request, &own->waiter, &table->told));
 }
 
 bs_reply bs_inside_try_path(bs_table *table, bs_txn txn, bs_node node, bs_mode mode, uint32_t keep) {

@@ -146,6 +146,23 @@ bs_reply bs_group_begin(bs_table_group *group);
 /* The same for work that has been tried since an earlier begin, as in bs_begin_again. */
 bs_reply bs_group_begin_again(bs_table_group *group, uint64_t since);
 
+bs_reply bs_group_begin_in_turn(bs_table_group *group, const struct timespec *until);
+bs_reply bs_group_begin_again_in_turn(bs_table_group *group, uint64_t since, const struct timespec *until);
+bs_reply bs_group_deadline(bs_table_group *group, bs_txn txn, const struct timespec *until);
+bs_reply bs_group_renew(bs_table_group *group, bs_txn txn, uint64_t since);
+bs_reply bs_group_cancel(bs_table_group *group, bs_txn txn);
+bs_reply bs_group_on_end(bs_table_group *group, void (*function)(void *context, bs_txn txn, bs_reply end, void *word),
+                         void *context);
+bs_reply bs_group_ask_path(bs_table_group *group, bs_txn txn, bs_node node, bs_mode mode, const struct timespec *until,
+                           void *word);
+bs_reply bs_group_ask_row_path(bs_table_group *group, bs_txn txn, bs_node file, uint64_t number, const uint64_t *keys,
+                               size_t count, bs_mode mode, const struct timespec *until, void *word);
+bs_reply bs_group_expire(bs_table_group *group, struct timespec *next);
+size_t bs_group_run(bs_table_group *group, bs_command *commands, size_t count);
+size_t bs_group_try_first(bs_table_group *group, bs_command *commands, size_t count);
+bs_reply bs_group_await(bs_table_group *group, bs_txn txn, const struct timespec *until);
+bs_reply bs_group_watch_thread(bs_table_group *group, uint64_t pace);
+
 /* End a transaction in each of its tables, one after the other, the main one last. */
 bs_reply bs_group_commit(bs_table_group *group, bs_txn txn);
 bs_reply bs_group_abort(bs_table_group *group, bs_txn txn);
