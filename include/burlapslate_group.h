@@ -33,9 +33,10 @@
  *   - BS_NULL_POINTER;
  *   - BS_BAD_NUMBER: a mode that is none of enum bs_modes, BS_INSTANT among them if the call does not take it, a time
  *     that is not valid, or a `keep` that is none of enum bs_keeps;
- *   - BS_IN_USE: this thread holds a table, of the group or another, or is in a callback of a table;
+ *   - BS_IN_USE: this thread holds a table, of the group or another; or the call may sleep, or ends the group, and the
+ *     thread is in a callback;
  *   - BS_NO_MANAGER: the group was ended;
- *   - BS_NO_SUCH_TXN, of a call with a transaction;
+ *   - BS_NO_SUCH_TXN, BS_TXN_WAITING, of a call with a transaction;
  *   - BS_TXN_CONDEMNED: the transaction fell, to end a deadlock, and can only abort;
  *   - BS_NO_SUCH_NODE: the name names no table of the group, or no node there.
  * An inner node in place of a file, an index, an interval or a record is refused with BS_BAD_PARENTS, or, as a file of
@@ -48,7 +49,8 @@
  *
  * DEADLOCKS. A cycle of waits within one table is ended by that table, as it arises. A cycle over several tables is
  * ended by a thread that sleeps: it looks after 2 ms, and then after twice as long each time, up to 256 ms, if any
- * transaction is in two tables and no other thread has looked meanwhile. To look costs the latches of all tables, and
+ * transaction is in two tables and no other thread has looked meanwhile. If no thread sleeps, it is ended by
+ * bs_group_expire or by a thread that watches. To look costs the latches of all tables, and
  * the boards of those where threads sleep. The youngest on a cycle falls, by `since`: its call is answered BS_VICTIM.
  *
  * KEPT INTENTIONS. A transaction mostly needs the intentions that the one before it in its thread had. After
@@ -146,26 +148,28 @@ bs_reply bs_group_begin(bs_table_group *group);
 /* The same for work that has been tried since an earlier begin, as in bs_begin_again. */
 bs_reply bs_group_begin_again(bs_table_group *group, uint64_t since);
 
+/* The same, but if all slots are taken they sleep until they have one, as bs_table_begin_in_turn does: in order of
+ * arrival. While a begin sleeps for a slot, those above are refused with BS_TOO_MANY_TXNS. */
 bs_reply bs_group_begin_in_turn(bs_table_group *group, const struct timespec *until);
 bs_reply bs_group_begin_again_in_turn(bs_table_group *group, uint64_t since, const struct timespec *until);
-bs_reply bs_group_deadline(bs_table_group *group, bs_txn txn, const struct timespec *until);
-bs_reply bs_group_renew(bs_table_group *group, bs_txn txn, uint64_t since);
-bs_reply bs_group_cancel(bs_table_group *group, bs_txn txn);
-bs_reply bs_group_on_end(bs_table_group *group, void (*function)(void *context, bs_txn txn, bs_reply end, void *word),
-                         void *context);
-bs_reply bs_group_ask_path(bs_table_group *group, bs_txn txn, bs_node node, bs_mode mode, const struct timespec *until,
-                           void *word);
-bs_reply bs_group_ask_row_path(bs_table_group *group, bs_txn txn, bs_node file, uint64_t number, const uint64_t *keys,
-                               size_t count, bs_mode mode, const struct timespec *until, void *word);
-bs_reply bs_group_expire(bs_table_group *group, struct timespec *next);
-size_t bs_group_run(bs_table_group *group, bs_command *commands, size_t count);
-size_t bs_group_try_first(bs_table_group *group, bs_command *commands, size_t count);
-bs_reply bs_group_await(bs_table_group *group, bs_txn txn, const struct timespec *until);
-bs_reply bs_group_watch_thread(bs_table_group *group, uint64_t pace);
 
-/* End a transaction in each of its tables, one after the other, the main one last. */
+/* As bs_table_deadline; refused with BS_TXN_WAITING also while the transaction waits by an ask or a list. Costs the
+ * latches of the main table and of the transaction's parts, one after the other. */
+bs_reply bs_group_deadline(bs_table_group *group, bs_txn txn, const struct timespec *until);
+
+/* End a transaction in each of its tables, one after the other, the main one last. An abort of a transaction that waits
+ * by an ask or a list first cancels that: the ask's end is told as BS_NOT_WAITING. In a callback it is refused with
+ * BS_TXN_WAITING if that end is told only after the callback. */
 bs_reply bs_group_commit(bs_table_group *group, bs_txn txn);
 bs_reply bs_group_abort(bs_table_group *group, bs_txn txn);
+
+/* Commits a transaction, and begins the next one in its slot, as bs_group_begin_again. */
+bs_reply bs_group_renew(bs_table_group *group, bs_txn txn, uint64_t since);
+
+/* Cancels the wait of a transaction, of any thread: its call or ask ends with BS_NOT_WAITING. The answer is
+ * BS_NOT_WAITING if it waits in no table. A thread that sleeps for a path may be between two tables, and is not found
+ * then; an ask is. Costs the latch of each table up to that where it waits. */
+bs_reply bs_group_cancel(bs_table_group *group, bs_txn txn);
 
 /* From now on a commit keeps, in each part that its transaction has joined, the first locks there that are intentions
  * (BS_IS, BS_IX), at most so many; 16 is usual. With 0, as at first, commits keep nothing, and this call releases what
@@ -238,6 +242,46 @@ bs_reply bs_group_rekey_row(bs_table_group *group, bs_txn txn, bs_node file, uin
                             uint64_t key);
 bs_reply bs_group_adopt(bs_table_group *group, bs_node file, const uint64_t *keys, size_t count);
 bs_reply bs_group_forget(bs_table_group *group, bs_node record);
+
+/* ------------------------------------------------------------------------------------------------
+ * Asks and lists: a transaction waits, and no thread sleeps for it. Until the end it may request nothing, and calls that
+ * name it are refused with BS_TXN_WAITING, except bs_group_cancel, bs_group_abort and bs_group_await.
+ */
+
+/* As bs_table_on_end: gives the group its callback, which may make any call of a group that does not sleep. */
+bs_reply bs_group_on_end(bs_table_group *group, void (*function)(void *context, bs_txn txn, bs_reply end, void *word),
+                         void *context);
+
+/* As bs_table_ask_path and bs_table_ask_row_path. What must be had in the main table first is asked for there, and the
+ * thread that ends that wait goes on in the part. BS_WAITING: `node` is the one for which it waits. BS_NO_MEMORY comes
+ * after all refusals that the transaction and the arguments give. */
+bs_reply bs_group_ask_path(bs_table_group *group, bs_txn txn, bs_node node, bs_mode mode, const struct timespec *until,
+                           void *word);
+bs_reply bs_group_ask_row_path(bs_table_group *group, bs_txn txn, bs_node file, uint64_t number, const uint64_t *keys,
+                               size_t count, bs_mode mode, const struct timespec *until, void *word);
+
+/* As bs_table_expire, in each table. It also looks for deadlocks over several tables, if nobody did in the last 2 ms: so
+ * a program without a thread that sleeps or watches makes this call now and then. */
+bs_reply bs_group_expire(bs_table_group *group, struct timespec *next);
+
+/* Starts a thread that looks for deadlocks over several tables each `pace` nanoseconds, until the group ends. Refused with
+ * BS_IN_USE if the group has one, and with BS_NO_MEMORY if it cannot be started. */
+bs_reply bs_group_watch_thread(bs_table_group *group, uint64_t pace);
+
+/* As bs_table_run, but each command is a critical section of its own, in the tables that it needs. BS_DO_LOCK and
+ * BS_DO_LOCK_ROW also lock what must be held above, as BS_DO_TRY and BS_DO_TRY_ROW do: these keep nothing if they are
+ * refused. So does BS_DO_INSERT_PATH, whatever its `keep` is. A new file is in each part by turns. `told` is emptied.
+ * There is no BS_DO_MOVE, BS_DO_SETTLE, BS_DO_MARK and BS_DO_RELEASE_SINCE: they are refused with BS_BAD_NUMBER.
+ * A lock that is left waiting goes on by itself. */
+size_t bs_group_run(bs_table_group *group, bs_command *commands, size_t count);
+
+/* Sleeps until the end of the lock that a list of the transaction has left waiting, and answers it; after that it answers
+ * the same up to the transaction's next list or ask. After BS_DONE run the list again from the next command on.
+ * BS_TIMED_OUT: the time came first, and the wait was cancelled. BS_NOT_WAITING: no list has left it waiting. */
+bs_reply bs_group_await(bs_table_group *group, bs_txn txn, const struct timespec *until);
+
+/* As bs_table_try_first, with each try a critical section of its own. */
+size_t bs_group_try_first(bs_table_group *group, bs_command *commands, size_t count);
 
 /* ------------------------------------------------------------------------------------------------
  * Changes of the schema within a part, and intervals that are split and merged (burlapslate_splits.h).
