@@ -11,7 +11,9 @@
 #include "memory.h"
 #include "threads.h"
 
-enum { PARTS = 4, AREAS = 3 };
+enum { PARTS = 4, MOST_PARTS = 16, AREAS = 3 };
+
+static uint32_t world_parts = PARTS; /* how many parts the group has */
 
 /* ------------------------------------------------------------------------------------------------
  * A look into a group, under all latches.
@@ -139,9 +141,10 @@ enum { RECORDS = 4, BOUND = 100 };
 
 static bs_table_group *group;
 static bs_node base, areas[AREAS], quarters[AREAS];
-static bs_node files[PARTS + 1], row_files[PARTS + 1], indexes[PARTS + 1]; /* by part; area (part - 1) % AREAS */
-static uint32_t index_areas[PARTS + 1]; /* by part: the area of its index, changed by who has the file of rows in X */
-static bs_node records[PARTS + 1][RECORDS];
+static bs_node files[MOST_PARTS + 1], row_files[MOST_PARTS + 1]; /* by part; area (part - 1) % AREAS */
+static bs_node indexes[MOST_PARTS + 1];
+static uint32_t index_areas[MOST_PARTS + 1]; /* the area of the index, changed by who has the file of rows in X */
+static bs_node records[MOST_PARTS + 1][RECORDS];
 
 static inline bs_txn begun(void) {
   return DONE(bs_group_begin(group)).txn;
@@ -175,12 +178,12 @@ static inline void make_world(uint32_t transactions) {
   uint32_t i;
   memset(&options, 0, sizeof options);
   options.transactions = transactions;
-  DONE(bs_group_make(&group, &options, PARTS));
+  DONE(bs_group_make(&group, &options, world_parts));
   DONE(bs_group_keep(group, world_keeps));
   base = DONE(bs_group_add_inner(group, NULL, 0)).node;
   for (i = 0; i < AREAS; i++) areas[i] = DONE(bs_group_add_inner(group, &base, 1)).node;
   for (i = 0; i < AREAS; i++) quarters[i] = DONE(bs_group_add_inner(group, &areas[i], 1)).node;
-  for (i = 1; i <= PARTS; i++) make_part(i);
+  for (i = 1; i <= world_parts; i++) make_part(i);
   want_rest(group);
 }
 

@@ -2191,7 +2191,7 @@ static void threads_share_a_spread_file(void) {
  * has what.
  */
 
-enum { MOST_THREADS = 16, MOST_CLAIMS = 512, ROWS = 6 };
+enum { MOST_THREADS = 128, MOST_CLAIMS = 512, ROWS = 6 };
 
 /* What is counted of a node or a row: who holds it in S or more, or in X; and who reads or writes something below it, the
  * node itself not counted. */
@@ -2200,10 +2200,10 @@ typedef struct shade {
   uint64_t reads, writes;    /* below it */
 } shade;
 
-static shade of_base, of_areas[AREAS], of_quarters[AREAS], of_files[PARTS + 1], of_row_files[PARTS + 1];
-static shade of_records[PARTS + 1][RECORDS], of_rows[PARTS + 1][ROWS];
+static shade of_base, of_areas[AREAS], of_quarters[AREAS], of_files[MOST_PARTS + 1], of_row_files[MOST_PARTS + 1];
+static shade of_records[MOST_PARTS + 1][RECORDS], of_rows[MOST_PARTS + 1][ROWS];
 static bs_node dealt;                             /* a spread file below an area */
-static shade of_dealt, of_dealt_in[PARTS + 1], of_dealt_rows[2 * ROWS];
+static shade of_dealt, of_dealt_in[MOST_PARTS + 1], of_dealt_rows[2 * ROWS];
 
 enum { CROSSED = 200, INDEXES = 3 };
 
@@ -2227,8 +2227,14 @@ typedef struct crowd_thread {
   uint64_t since;
   size_t claims;
   uint64_t *at[MOST_CLAIMS];
-  uint64_t commits, aborts, victims, times, strong, checks, ended, changes, rollbacks;
+  uint64_t commits, aborts, victims, times, strong, checks, ended, changes, rollbacks, asks, cancels;
+  bs_reply end;                 /* of its ask, once it was told */
+  bool is_told;                 /* atomic, as the next two */
+  uint64_t named_slot, named_age; /* the name of its transaction, for who cancels its wait */
 } crowd_thread;
+
+static crowd_thread crowd_threads[MOST_THREADS];
+static uint32_t crowd_count;
 
 static uint64_t crowd_end;     /* the time of the clock */
 static uint32_t strong_share;  /* of a thousand requests */
@@ -2288,7 +2294,8 @@ static bool was_granted(crowd_thread *own, bs_reply reply, bool *fell) {
   if (reply.status == BS_DONE) return true;
   if (reply.status == BS_VICTIM) *fell = true;
   else own->times++;
-  if (reply.status != BS_VICTIM && reply.status != BS_TIMED_OUT && reply.status != BS_WOULD_BLOCK) DONE(reply);
+  WANT(reply.status == BS_VICTIM || reply.status == BS_TIMED_OUT || reply.status == BS_WOULD_BLOCK ||
+       reply.status == BS_NOT_WAITING);
   return false;
 }
 
@@ -2306,13 +2313,78 @@ static const struct timespec *some_time(crowd_thread *own, struct timespec *time
   return time;
 }
 
+/* The callback of the crowd's group. */
+static void hear_in_crowd(void *context, bs_txn txn, bs_reply end, void *word) {
+  crowd_thread *own = (crowd_thread *)word;
+  WANT(context == &crowd_end && txn.slot == own->txn.slot && txn.age == own->txn.age);
+  own->end = end;
+  __atomic_store_n(&own->is_told, true, __ATOMIC_RELEASE);
+}
+
+/* Waits for the end of an ask; asks of others end meanwhile. */
+static bs_reply hear_of_ask(crowd_thread *own, bs_reply reply) {
+  if (reply.status != BS_WAITING) return reply;
+  own->asks++;
+  while (!__atomic_load_n(&own->is_told, __ATOMIC_ACQUIRE)) {
+    nap();
+    DONE(bs_group_expire(group, NULL));
+  }
+  return own->end;
+}
+
+/* Awaits what a list has left waiting. */
+static bs_reply run_and_await(crowd_thread *own, bs_command *list, const struct timespec *until) {
+  bs_group_run(group, list, 1);
+  return list->reply.status == BS_WAITING ? bs_group_await(group, own->txn, until) : list->reply;
+}
+
+/* Locks a node: the thread sleeps in the call, it asks, or a list leaves it waiting. */
+static bs_reply lock_node(crowd_thread *own, bs_node node, bs_mode mode, const struct timespec *until) {
+  bs_command list = bs_do_at(BS_DO_LOCK_PATH, own->txn, node, mode);
+  uint32_t way = draw(own, 4);
+  __atomic_store_n(&own->is_told, false, __ATOMIC_RELAXED);
+  if (way == 0) return hear_of_ask(own, bs_group_ask_path(group, own->txn, node, mode, until, own));
+  if (way == 1) return run_and_await(own, &list, until);
+  return bs_group_lock_path(group, own->txn, node, mode, until);
+}
+
+/* Locks a row in one of these ways. */
+static bs_reply lock_row(crowd_thread *own, bs_node file, uint64_t number, const uint64_t *keys, size_t count,
+                         bs_mode mode, const struct timespec *until) {
+  bs_command list = bs_do_at(BS_DO_LOCK_ROW_PATH, own->txn, file, mode);
+  uint32_t way = draw(own, 4);
+  list.file = file;
+  list.number = number;
+  list.keys = keys;
+  list.key_count = count;
+  __atomic_store_n(&own->is_told, false, __ATOMIC_RELAXED);
+  if (way == 0) {
+    return hear_of_ask(own, bs_group_ask_row_path(group, own->txn, file, number, keys, count, mode, until, own));
+  }
+  if (way == 1) return run_and_await(own, &list, until);
+  return bs_group_lock_row_path(group, own->txn, file, number, keys, count, mode, until);
+}
+
+/* Cancels the wait of another transaction, if it waits. */
+static void cancel_another(crowd_thread *own) {
+  const crowd_thread *other = &crowd_threads[draw(own, crowd_count)];
+  bs_txn txn;
+  bs_reply reply;
+  txn.slot = (uint32_t)__atomic_load_n(&other->named_slot, __ATOMIC_RELAXED);
+  txn.age = __atomic_load_n(&other->named_age, __ATOMIC_RELAXED);
+  if (other == own) return;
+  reply = bs_group_cancel(group, txn);
+  if (reply.status == BS_DONE) own->cancels++;
+  WANT(reply.status == BS_DONE || reply.status == BS_NOT_WAITING || reply.status == BS_NO_SUCH_TXN);
+}
+
 /* Mostly a lock, and else a try. */
 static bool request(crowd_thread *own, bs_node node, bs_mode mode, bool *fell) {
   struct timespec time;
   if (draw(own, 5) == 0) {
     return was_granted(own, bs_group_try_path(group, own->txn, node, mode, draw(own, 2)), fell);
   }
-  return was_granted(own, bs_group_lock_path(group, own->txn, node, mode, some_time(own, &time)), fell);
+  return was_granted(own, lock_node(own, node, mode, some_time(own, &time)), fell);
 }
 
 static bool is_write(bs_mode mode) {
@@ -2349,7 +2421,7 @@ static void touch_inner(crowd_thread *own, bool *fell) {
 }
 
 static void touch_file(crowd_thread *own, bool *fell) {
-  uint32_t part = 1 + draw(own, PARTS);
+  uint32_t part = 1 + draw(own, world_parts);
   bs_mode mode = some_mode(own);
   if (!request(own, files[part], mode, fell)) return;
   above_part(own, part, is_write(mode));
@@ -2357,7 +2429,7 @@ static void touch_file(crowd_thread *own, bool *fell) {
 }
 
 static void touch_record(crowd_thread *own, bool *fell) {
-  uint32_t part = 1 + draw(own, PARTS), record = draw(own, RECORDS);
+  uint32_t part = 1 + draw(own, world_parts), record = draw(own, RECORDS);
   bool writes = draw(own, 2) == 0;
   if (!request(own, records[part][record], writes ? BS_X : BS_S, fell)) return;
   above_part(own, part, writes);
@@ -2367,7 +2439,7 @@ static void touch_record(crowd_thread *own, bool *fell) {
 
 /* A row: to write it the area of its index is needed too. */
 static void touch_row(crowd_thread *own, bool *fell) {
-  uint32_t part = 1 + draw(own, PARTS), row = draw(own, ROWS);
+  uint32_t part = 1 + draw(own, world_parts), row = draw(own, ROWS);
   uint64_t key = row * (uint64_t)50;
   bool writes = draw(own, 2) == 0;
   struct timespec time;
@@ -2376,7 +2448,7 @@ static void touch_row(crowd_thread *own, bool *fell) {
   if (draw(own, 5) == 0) {
     reply = bs_group_try_row_path(group, own->txn, row_files[part], row, &key, 1, mode, draw(own, 2));
   } else {
-    reply = bs_group_lock_row_path(group, own->txn, row_files[part], row, &key, 1, mode, some_time(own, &time));
+    reply = lock_row(own, row_files[part], row, &key, 1, mode, some_time(own, &time));
   }
   if (!row_was_granted(own, reply, fell)) return;
   above_part(own, part, writes);
@@ -2394,11 +2466,11 @@ static void touch_dealt_row(crowd_thread *own, bool *fell) {
   bs_mode mode = writes ? BS_X : BS_S;
   bs_reply reply;
   if (drawn == 0) {
-    reply = bs_group_lock_path(group, own->txn, file_of(dealt, row), mode, some_time(own, &time));
+    reply = lock_node(own, file_of(dealt, row), mode, some_time(own, &time));
   } else if (drawn < 3) {
     reply = bs_group_try_row_path(group, own->txn, dealt, row, NULL, 0, mode, draw(own, 2));
   } else {
-    reply = bs_group_lock_row_path(group, own->txn, dealt, row, NULL, 0, mode, some_time(own, &time));
+    reply = lock_row(own, dealt, row, NULL, 0, mode, some_time(own, &time));
   }
   if (!was_granted(own, reply, fell)) return;
   below(own, &of_base, writes);
@@ -2436,11 +2508,11 @@ static void touch_crossed(crowd_thread *own, bool *fell) {
 static bool has_crossed(crowd_thread *own, crossed_file *file, bool *fell) {
   struct timespec time = moment_in(1000);
   uint32_t i;
-  if (!was_granted(own, bs_group_lock_path(group, own->txn, file->node, BS_X, &time), fell)) return false;
+  if (!was_granted(own, lock_node(own, file->node, BS_X, &time), fell)) return false;
   below(own, &of_base, true);
   has(own, &file->of, BS_X);
   for (i = 0; i < file->index_count; i++) {
-    if (!was_granted(own, bs_group_lock_path(group, own->txn, file->indexes[i], BS_X, &time), fell)) return false;
+    if (!was_granted(own, lock_node(own, file->indexes[i], BS_X, &time), fell)) return false;
   }
   above_crossed(own, file, true);
   return true;
@@ -2465,7 +2537,7 @@ static void touch_crossed_schema(crowd_thread *own, bool *fell) {
 
 /* A record that is inserted, and mostly deleted. */
 static void touch_new(crowd_thread *own, bool *fell) {
-  uint32_t part = 1 + draw(own, PARTS);
+  uint32_t part = 1 + draw(own, world_parts);
   bs_reply reply = bs_group_insert(group, own->txn, files[part], NULL, 0);
   if (!was_granted(own, reply, fell)) return;
   above_part(own, part, true);
@@ -2474,7 +2546,7 @@ static void touch_new(crowd_thread *own, bool *fell) {
 }
 
 static void touch_escalated(crowd_thread *own) {
-  uint32_t part = 1 + draw(own, PARTS);
+  uint32_t part = 1 + draw(own, world_parts);
   bool is_dealt = draw(own, 2) == 0;
   bs_node file = is_dealt ? file_of(dealt, row_in(dealt, part, 0)) : files[part];
   bs_reply reply = bs_group_escalate(group, own->txn, file);
@@ -2486,7 +2558,7 @@ static void touch_escalated(crowd_thread *own) {
 /* Has a node of a file of rows in BS_X, or the file, within a millisecond. */
 static bool has_for_change(crowd_thread *own, uint32_t part, bs_node node, bool *fell) {
   struct timespec time = moment_in(1000);
-  if (!was_granted(own, bs_group_lock_path(group, own->txn, node, BS_X, &time), fell)) return false;
+  if (!was_granted(own, lock_node(own, node, BS_X, &time), fell)) return false;
   above_part(own, part, true);
   below(own, &of_quarters[(part - 1) % AREAS], true);
   return true;
@@ -2496,7 +2568,7 @@ static bool has_for_change(crowd_thread *own, uint32_t part, bs_node node, bool 
  * one key, before and after that. */
 static void touch_schema(crowd_thread *own, bool *fell) {
   const uint64_t bound = BOUND;
-  uint32_t part = 1 + draw(own, PARTS), area = draw(own, AREAS);
+  uint32_t part = 1 + draw(own, world_parts), area = draw(own, AREAS);
   bs_reply reply;
   if (!has_for_change(own, part, row_files[part], fell)) return;
   has(own, &of_row_files[part], BS_X);
@@ -2529,10 +2601,13 @@ static void touch_something(crowd_thread *own, bool *fell) {
 static void begin_one(crowd_thread *own) {
   bs_reply reply = bs_group_begin_again(group, own->since);
   while (reply.status == BS_TOO_MANY_TXNS) {
-    nap();
-    reply = bs_group_begin_again(group, own->since);
+    struct timespec time = moment_in(draw(own, 2000));
+    bs_reply slept = bs_group_begin_again_in_turn(group, own->since, draw(own, 2) == 0 ? NULL : &time);
+    reply = slept.status == BS_TIMED_OUT ? bs_group_begin_again(group, own->since) : slept;
   }
   own->txn = DONE(reply).txn;
+  __atomic_store_n(&own->named_slot, own->txn.slot, __ATOMIC_RELAXED);
+  __atomic_store_n(&own->named_age, own->txn.age, __ATOMIC_RELAXED);
   if (own->since == UINT64_MAX) own->since = own->txn.age;
 }
 
@@ -2561,6 +2636,7 @@ static void make_one(crowd_thread *own) {
     touch_something(own, &fell);
     if (draw(own, 200) == 0) nap();
     if (!fell && draw(own, 10) == 0) use_savepoint(own, &savepoint, &claims);
+    if (draw(own, 20) == 0) cancel_another(own);
   }
   give_up_claims(own, 0);
   if (fell || draw(own, 10) == 0) {
@@ -2593,24 +2669,27 @@ static void make_crossed(crossed_file *file, uint32_t parents) {
   size_t i;
   memset(file, 0, sizeof *file);
   file->parents = parents;
-  file->node = DONE(bs_group_add_file(group, 2, areas, parents)).node;
+  file->node = DONE(bs_group_add_file(group, world_parts > 1 ? 2 : 1, areas, parents)).node;
   for (i = 0; i < RECORDS; i++) file->records[i] = DONE(bs_group_insert(group, txn, file->node, NULL, 0)).node;
   commit(txn);
 }
 
-/* A crowd of so many threads, over so many slots, in a group that keeps intentions or not. */
-static void crowd(uint32_t threads, uint32_t slots, uint32_t strong, bool keeps, uint64_t milliseconds, uint64_t seed) {
-  static crowd_thread all[MOST_THREADS];
-  crowd_thread sum;
+/* A crowd of so many threads, over so many slots, in a group of so many parts that keeps intentions or not. */
+static void crowd(uint32_t threads, uint32_t slots, uint32_t parts, uint32_t strong, bool keeps, uint64_t milliseconds,
+                  uint64_t seed) {
+  crowd_thread *all = crowd_threads, sum;
   uint32_t i;
   world_keeps = keeps ? 8 : 0;
+  world_parts = parts;
   make_world(slots);
   dealt = add_spread();
   for (i = 0; i < CROSSED; i++) make_crossed(&crossed[i], 1 + i % 2);
   crossed_now = 0;
   strong_share = strong;
   crowd_end = bs_call_now() + milliseconds * 1000000;
-  memset(all, 0, sizeof all);
+  memset(all, 0, sizeof crowd_threads);
+  crowd_count = threads;
+  DONE(bs_group_on_end(group, hear_in_crowd, &crowd_end));
   memset(&sum, 0, sizeof sum);
   for (i = 0; i < threads; i++) {
     all[i].number = i;
@@ -2628,15 +2707,19 @@ static void crowd(uint32_t threads, uint32_t slots, uint32_t strong, bool keeps,
     sum.ended += all[i].ended;
     sum.changes += all[i].changes;
     sum.rollbacks += all[i].rollbacks;
+    sum.asks += all[i].asks;
+    sum.cancels += all[i].cancels;
   }
-  printf("crowd of %u, %u slots, %u in 1000 strong%s: %llu commits, %llu aborts, %llu victims, ", threads, slots, strong,
-         keeps ? ", kept" : "", (unsigned long long)sum.commits, (unsigned long long)sum.aborts,
+  printf("crowd of %u, %u slots, %u parts, %u in 1000 strong%s: %llu commits, %llu aborts, %llu victims, ", threads, slots,
+         parts, strong, keeps ? ", kept" : "", (unsigned long long)sum.commits, (unsigned long long)sum.aborts,
          (unsigned long long)sum.victims);
   printf("%llu late, %llu inner, %llu checks, %llu indexes, ", (unsigned long long)sum.times,
          (unsigned long long)sum.strong, (unsigned long long)sum.checks, (unsigned long long)sum.changes);
-  printf("%llu ended by them, %llu rolled back\n", (unsigned long long)sum.ended, (unsigned long long)sum.rollbacks);
+  printf("%llu ended by them, %llu rolled back, %llu asks waited, %llu cancels\n", (unsigned long long)sum.ended,
+         (unsigned long long)sum.rollbacks, (unsigned long long)sum.asks, (unsigned long long)sum.cancels);
   end_world();
   world_keeps = 0;
+  world_parts = PARTS;
 }
 
 /* ------------------------------------------------------------------------------------------------
@@ -2732,12 +2815,16 @@ static void play_twins(uint64_t seed) {
 }
 
 static void play_crowds(uint64_t milliseconds, uint64_t seed) {
-  static const uint32_t threads[] = { 4, 8, 16, 2 }, slots[] = { 8, BS_SLOTS, 12, 2 }, strong[] = { 50, 10, 30, 200 };
-  size_t i;
+  static const struct { uint32_t threads, slots, parts, strong; } crowds[] = {
+    { 4, 8, 4, 50 }, { 8, BS_SLOTS, 4, 10 }, { 16, 12, 4, 30 }, { 2, 2, 4, 200 }, { 128, BS_SLOTS, 1, 10 },
+    { 128, 100, 16, 10 },
+  };
+  size_t i, count = sizeof crowds / sizeof crowds[0];
   story = "crowd";
-  for (i = 0; i < 4; i++) {
+  for (i = 0; i < count; i++) {
     feed(20 + (unsigned)(milliseconds / 1000));
-    crowd(threads[i], slots[i], strong[i], (seed + i) % 2 == 0, milliseconds / 4, seed + i);
+    crowd(crowds[i].threads, crowds[i].slots, crowds[i].parts, crowds[i].strong, (seed + i) % 2 == 0, milliseconds / count,
+          seed + i);
   }
 }
 

@@ -19,7 +19,7 @@ compile() {
   local with=("${@:3}") compiler=${CC:-cc}
   [ "$2" = running ] || with+=("$top/c/burlapslate_running.c")
   [ "$2" = traces ] || with+=("$top/c/burlapslate_trace.c")
-  [ "$2" != groups ] || with+=("$top/c/burlapslate_shared.c")
+  [[ $2 != group* ]] || with+=("$top/c/burlapslate_shared.c")
   # shellcheck disable=SC2054 # The commas are of one word.
   [ "$2" = crowd ] || with+=(-Wl,--wrap=malloc,--wrap=realloc,--wrap=free)
   # shellcheck disable=SC2086 # CC may have words after the name.
@@ -61,8 +61,9 @@ for tool in "$@"; do
         quiet "tsan, rows and their paths" "$work/row_paths-tsan" 60 || status=1
         quiet "tsan, times" "$work/running-tsan" 60 || status=1
         quiet "tsan, traces" "$work/traces-tsan" 60 || status=1
-        compile groups-tsan groups -fsanitize=thread || exit 1
+        compile groups-tsan groups -fsanitize=thread && compile group_asks-tsan group_asks -fsanitize=thread || exit 1
         quiet "tsan, a group" "$work/groups-tsan" || status=1
+        quiet "tsan, the asks of a group" "$work/group_asks-tsan" || status=1
       elif command -v valgrind >/dev/null; then
         compile shared shared && compile asks asks && compile begins begins && compile waits waits &&
           compile own_ends own_ends && compile row_paths row_paths && compile running running || exit 1
@@ -85,7 +86,7 @@ for tool in "$@"; do
         ! compile own_ends-tsan own_ends -fsanitize=thread || ! compile row_paths-tsan row_paths -fsanitize=thread ||
         ! compile running-tsan running -fsanitize=thread ||
         ! compile traces-tsan traces -fsanitize=thread || ! compile groups-tsan groups -fsanitize=thread ||
-        ! compile crowd-tsan crowd -fsanitize=thread; then
+        ! compile group_asks-tsan group_asks -fsanitize=thread || ! compile crowd-tsan crowd -fsanitize=thread; then
         echo "tsan: this compiler has none, so nothing was tried"
         continue
       fi
@@ -98,6 +99,7 @@ for tool in "$@"; do
       quiet "tsan, times" "$work/running-tsan" 300 || status=1
       quiet "tsan, traces" "$work/traces-tsan" 300 || status=1
       quiet "tsan, a group" "$work/groups-tsan" || status=1
+      quiet "tsan, the asks of a group" "$work/group_asks-tsan" || status=1
       quiet "tsan, a crowd in a group" "$work/groups-tsan" 20 || status=1
       quiet "tsan, the crowd" "$work/crowd-tsan" 4 300 || status=1
       ;;
@@ -108,7 +110,7 @@ for tool in "$@"; do
       fi
       compile shared shared && compile asks asks && compile begins begins && compile waits waits &&
         compile own_ends own_ends && compile row_paths row_paths && compile running running && compile crowd crowd &&
-        compile groups groups || exit 1
+        compile groups groups && compile group_asks group_asks || exit 1
       quiet "$tool, the stories" "${watched[@]}" "$work/shared" 900 256 || status=1
       quiet "$tool, the asks" "${watched[@]}" "$work/asks" 900 20 || status=1
       quiet "$tool, asked begins" "${watched[@]}" "$work/begins" 900 20 || status=1
@@ -117,6 +119,7 @@ for tool in "$@"; do
       quiet "$tool, rows and their paths" "${watched[@]}" "$work/row_paths" 900 || status=1
       quiet "$tool, times" "${watched[@]}" "$work/running" 900 || status=1
       quiet "$tool, a group" "${watched[@]}" "$work/groups" || status=1
+      quiet "$tool, the asks of a group" "${watched[@]}" "$work/group_asks" || status=1
       quiet "$tool, the crowd" "${watched[@]}" "$work/crowd" 1 900 || status=1
       ;;
     *)

@@ -33,7 +33,7 @@ compile() {
     shared | crowd | asks | begins | waits | sessions | own_ends | row_paths) with=(-I"$top/c" "$top"/c/burlapslate_{running,trace}.c "${libraries[@]:1}") ;;
     running) with=(-I"$top/c" "$top/c/burlapslate_trace.c" "${libraries[@]:1}") ;;
     traces) with=(-I"$top/c" "$top/c/burlapslate_running.c" "${libraries[@]:1}") ;;
-    groups) with=(-I"$top/c" "${libraries[@]}") ;;
+    groups | group_asks) with=(-I"$top/c" "${libraries[@]}") ;;
     schemas | twins | scenarios) with=("$top/tests/c/naive.c" "${libraries[@]}") ;;
   esac
   # shellcheck disable=SC2086 # CC may have words after the name.
@@ -114,6 +114,8 @@ compile traces -Wl,--wrap=malloc,--wrap=realloc,--wrap=free || exit 1
 timeout 60 "$work/traces" || exit 1
 compile groups -Wl,--wrap=malloc,--wrap=realloc,--wrap=free || exit 1
 timeout 60 "$work/groups" || exit 1
+compile group_asks -Wl,--wrap=malloc,--wrap=realloc,--wrap=free || exit 1
+timeout 60 "$work/group_asks" || exit 1
 compile crowd || exit 1
 # A thousand threads begin one transaction each, and may take a minute.
 few=()
