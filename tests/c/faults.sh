@@ -367,13 +367,13 @@ a-session-s-list-wakes-nobody	/ table_session_commit(/,/^}/s/^  table_wake(.*//
 group-unmarks-under-a-request	s/, at->inner->in_progress).count/, 0).count/
 group-visits-no-sleepers	s/^    if (!bs_inside_sleeps(t->table, slot)) continue;/    continue;/
 group-visits-no-parents	s/^    if (!group_is_marked(t, inner->above\[above\])) status = .*/    ;/
-group-copies-nothing-before-a-sleep	s/^  if (status == BS_DONE \&\& way->manner.may_sleep) status = group_copy_own(.*//
+group-copies-nothing-before-a-sleep	s/^  if (status == BS_DONE \&\& way->manner.may_wait) status = group_copy_own(.*//
 group-looks-never	s/^  while (group_settle_one(group)) continue;//
-group-forgets-who-fell	s/^  if (__builtin_expect(reply.status == BS_VICTIM, 0)) own->has_fallen = true;//
+group-forgets-who-fell	s/^  if (__builtin_expect(reply.status == BS_VICTIM, 0)) group_falls(own);//
 group-sees-no-marks	s/^  if (__builtin_expect(t->marks != 0, 0) \&\& /  if (false \&\& /
 group-needs-nothing-above-an-index	s/^  target.rows = 1;/  target.rows = 0;/
 group-marks-stay	/ group_end_in_main(/,/^}/s/^  group_clear(.*//
-group-frees-a-slot-early	/ group_end_txn(/,/^}/s/^  bs_status status = group_end_in_parts/  bs_status status = (__atomic_store_n(\&own->is_taken, false, __ATOMIC_RELEASE), BS_DONE) + group_end_in_parts/
+group-frees-a-slot-early	/ group_end_txn(/,/^}/s/^  bs_status status = group_end_in_all/  bs_status status = (__atomic_store_n(\&own->is_taken, false, __ATOMIC_RELEASE), BS_DONE) + group_end_in_all/
 group-rests-beside-a-mark	/ group_end_in(/,/^}/s/t->marks_at, t->marks)/t->marks_at, 0)/
 group-visits-end-none-who-rests	/ group_visit(/,/^}/s/bs_inside_end_resting(t->table)/BS_DONE/
 group-lets-rest-as-old-as-before	/ group_let_rest(/,/^}/s/since = group_next_age(group, own)/since = own->since/
@@ -390,7 +390,7 @@ group-escalates-not-past-who-rests	/^bs_reply bs_inside_escalate(/,/^}/s/table_d
 group-wakes-nobody-by-what-it-keeps	/^bs_reply bs_inside_commit_and_rest(/,/^}/s/table_wake_after(table, reply, false)/reply/
 group-tries-keep-the-way	/ group_tries(/,/^}/s/^  manner.keep = keep;/  manner.keep = BS_KEEP_WAY;/
 group-tries-sleep	/ group_tries(/,/^}/s/NULL, false,/NULL, true,/
-group-refused-requests-leave-marks	/ group_lock_more(/,/^}/s/^  if (reply.status != BS_DONE) group_clear(.*//
+group-refused-requests-leave-marks	/ group_more_ended(/,/^}/s/^  if (status != BS_DONE) group_clear(.*//
 group-new-indexes-end-no-sleep	/ group_end_by_index(/,/^}/s/return BS_BAD_KEYS;/return BS_DONE;/
 group-new-indexes-end-no-path	/ group_end_by_index(/,/^}/s/return BS_MOVED;/return BS_DONE;/
 group-new-indexes-end-each-path	/ group_end_by_index(/,/^}/s/^  if (target.rows == 0 .*/  return BS_MOVED;/
@@ -400,8 +400,8 @@ group-keeps-the-names-of-records	/^bs_reply bs_group_index_records(/,/^}/s/^  fr
 group-new-indexes-end-any-sleep	/ group_end_by_index(/,/^}/s/^  if (bs_lacks_key(.*/  return BS_BAD_KEYS;/
 group-rolls-back-and-keeps	/ group_release_in(/,/^}/s/^  if (kept->count > savepoint) .*//
 group-rolls-back-where-it-was	/^bs_reply bs_group_release_since(/,/^}/s/left = own->used;/left = own->used \& -own->used;/
-group-keeps-what-was-for-an-instant	s/mode | manner->instant, manner->until/mode, manner->until/
-group-tries-in-another-part	/ group_row_path(/,/^}/s/file, number);/file, manner->may_sleep ? number : number + 1);/
+group-keeps-what-was-for-an-instant	s/mode | manner->instant, manner->until)/mode, manner->until)/
+group-tries-in-another-part	/ group_row_path_of(/,/^}/s/(group, file, number), there/(group, file, manner->may_wait ? number : number + 1), there/
 group-deals-to-no-part	/ group_part_of_row(/,/^}/s/ + 1;/;/
 group-unlocks-in-another-part	/ group_enter_row(/,/^}/s/(group, file, number)/(group, file, number + 1)/
 group-makes-nodes-below-a-spread-file	/ group_any_is_spread(/,/^}/s/return true;/continue;/
@@ -411,6 +411,50 @@ group-gives-rows-two-names	/ group_is_misnamed(/,/^}/s/bs_group_table(file) != 0
 group-notes-no-files-of-parts	/ group_add_there(/,/^}/s/^  t->dealt |= .*//
 group-drops-files-of-parts	/^bs_reply bs_group_drop(/,/^}/s/^  if (group_is_dealt.*//
 group-ends-one-who-rests	/^bs_status bs_inside_end_resting(/,/^}/s/  } while (reply.status == BS_DONE);/  } while (false);/
+group-asks-keep-what-was-for-an-instant	s/mode | manner->instant, manner->until, manner->ask/mode, manner->until, manner->ask/
+group-asks-are-not-in-progress	/ group_lock_more(/,/^}/s/^  if (reply.status == BS_WAITING) .*/  if (false) ;/
+group-asks-stay-in-progress	/ group_ask_goes_on(/,/^}/s/^  if (ask->inner != NULL) .*//
+group-asks-end-in-the-main-table	/ group_ask_goes_on(/,/^}/s/bool is_on_the_way = .*/bool is_on_the_way = false;/
+group-asks-for-rows-end-in-the-main-table	/ group_ask_goes_on(/,/^}/s/(ask->is_row || \(.*\));/\1;/
+group-asks-go-on-after-any-end	/ group_ask_goes_on(/,/^}/s/? end.status == BS_DONE :/? true :/
+group-asks-do-not-begin-anew	/ group_ask_goes_on(/,/^}/s/: end.status == BS_MOVED .*) return/: false) return/
+group-asks-for-rows-begin-anew	/ group_ask_goes_on(/,/^}/s/: end.status == BS_MOVED \&\& !ask->is_row/: end.status == BS_MOVED || end.status == BS_BAD_KEYS/
+group-asks-leave-their-transaction-free	s/^  __atomic_fetch_or(&own->barred, GROUP_WAITS, .*//
+group-asks-bar-their-transaction	/ group_ask_for(/,/^}/s/^  if (reply.status != BS_WAITING) .*//
+group-callbacks-find-it-barred	/ group_ask_ended(/,/^}/s/^  __atomic_fetch_and(.*//
+group-asks-forget-who-fell	/ group_ask_ended(/,/^}/s/^  if (end.status == BS_VICTIM) .*//
+group-asks-tell-names-of-parts	/ group_ask_goes_on(/,/^}/s/return group_ended_at(ask->at, end)/return end/
+group-asks-have-names-of-parts	/ group_ask_ended(/,/^}/s/^  txn.age = ask->age;//
+group-asks-forget-keys	/ group_copy_keys(/,/^}/s/^  if (count > 0) memcpy.*//
+group-cancels-miss-who-goes-on	/ group_cancel_wait(/,/^}/s/^  if (asks) __atomic_store_n(.*//
+group-cancels-forever	/ group_write_ask(/,/^}/s/^  __atomic_store_n(&ask->cancelled, 0, .*//
+group-cancels-others	/ group_cancel_wait(/,/^}/s/__atomic_load_n(&own->age, __ATOMIC_RELAXED) == age \&\&/number != 1 \&\&/
+group-aborts-spin-in-a-callback	/ group_end_wait(/,/^}/s/^    if (!bs_call_may_sleep()) .*//
+group-aborts-no-ask	/^bs_reply bs_group_abort(/,/^}/s/^  if (status == BS_TXN_WAITING) .*//
+group-limits-not-what-joins-later	/ group_join(/,/^}/s/^  if (__builtin_expect(own->has_deadline, 0)) .*//
+group-limits-not-in-the-main-table	/ group_join_main(/,/^}/s/^    if (own->has_deadline) .*//
+group-limits-not-where-it-is	/^bs_reply bs_group_deadline(/,/^}/s/^    group_limit(own, t, .*//
+group-limits-not-where-it-is-in-main	/^bs_reply bs_group_deadline(/,/^}/s/^    group_limit(own, main, .*//
+group-limits-the-next	/ group_end_in_all(/,/^}/s/^  own->has_deadline = false;//
+group-expires-without-a-look	/^bs_reply bs_group_expire(/,/^}/s/^  if (all.status == BS_DONE) group_look_again(group);//
+group-expires-to-the-last-time	/^bs_reply bs_group_expire(/,/^}/s/(all.count == 0 || group_is_before(&time, &earliest))/true/
+group-tells-with-latches	/ group_settle_all(/,/^}/s/^  bs_inside_keep_ends(&ends);/  ends.first = NULL;/
+group-sees-no-asks	/^bool bs_inside_any_waits(/,/^}/s/return any != 0;/return any != 0 \&\& table->sleepers > 0;/
+group-lists-wake-nobody	/ group_end_list(/,/^}/s/^  pthread_cond_broadcast(.*//
+group-lists-bar-their-transaction	/ group_end_list(/,/^}/s/^  __atomic_fetch_and(.*//
+group-awaits-without-a-look	/ group_doze(/,/^}/s/^    group_look_again(.*//
+group-awaits-cancel-nothing	/ group_await_end(/,/^}/s/^    group_cancel_wait(.*//
+group-lists-name-no-made-node	/ group_name_made(/,/^}/s/^  if (.*//
+group-lists-forget-who-began	/^size_t bs_group_run(/,/^}/s/^    if (kind == BS_DO_BEGIN .*//
+group-lists-go-on-after-a-refusal	/^size_t bs_group_run(/,/^}/s/ == BS_DONE) {/ != BS_NOT_MADE) {/
+group-tries-pass-a-refusal	/^size_t bs_group_try_first(/,/^}/s/status != BS_WOULD_BLOCK \&\&/status != BS_WOULD_BLOCK \&\& status != BS_BAD_NUMBER \&\&/
+group-turns-are-in-no-order	/ group_begin_by_turn(/,/^}/s/bs_table_lock(turns->table, turn, turns->node, BS_X, until)/bs_table_lock(turns->table, turn, turns->node, BS_IS, until)/
+group-begins-pass-the-queue	/^bs_reply bs_group_begin_again(/,/^}/s/^  if (__builtin_expect(__atomic_load_n(&group->queued.*//
+group-frees-slots-for-nobody	/ group_free_slot(/,/^}/s/^  if (__builtin_expect(.*//
+group-turns-are-kept	/ group_begin_by_turn(/,/^}/s/^  bs_table_abort(.*//
+group-renews-as-new	/^bs_reply bs_group_renew(/,/^}/s/group_begin_in(group, own, since)/group_begin_in(group, own, UINT64_MAX)/
+group-watches-never	/ group_watch_over(/,/^}/s/ group_settle_all(group);/;/
+group-leaves-who-sleeps-for-a-slot	/ group_end_turns(/,/^}/s/^  if (turns->table != NULL) bs_table_end(turns->table);//
 a-refused-list-of-a-session-tells	/^size_t bs_session_run(/,/^}/s/^    table_list_of(table, commands\[0\].told)->count = 0;//
 FAULTS
 }
@@ -421,7 +465,7 @@ says() {
   local there=$1 program=$2 status with=()
   [ "$program" = running ] || with+=("$there/burlapslate_running.c")
   [ "$program" = traces ] || with+=("$there/burlapslate_trace.c")
-  [ "$program" != groups ] || with+=("$there/burlapslate_shared.c")
+  [[ $program != group* ]] || with+=("$there/burlapslate_shared.c")
   [ "$program" = crowd ] || with+=("-Wl,--wrap=malloc,--wrap=realloc,--wrap=free")
   # shellcheck disable=SC2086 # CC and FAULT_LINKS may have several words.
   ${CC:-cc} -std=c99 -D_POSIX_C_SOURCE=200809L -pthread -O1 -w -I"$top/include" -I"$there" -o "$there/$program" \
@@ -438,11 +482,11 @@ found() {
   mkdir -p "$there" && cp "$top"/c/*.[ch] "$there/" && sed -i "$2" "$there"/*.c || return 1
   ! diff -q "$top/c" "$there" -x out >/dev/null || { echo "faults.sh: $1 changes nothing"; return 1; }
   if ! cmp -s "$top/c/burlapslate_group.c" "$there/burlapslate_group.c"; then
-    says "$there" groups
+    says "$there" group_asks && says "$there" groups
   else
     says "$there" shared 5 && says "$there" asks 5 100 && says "$there" begins 5 && says "$there" waits 5 && says "$there" sessions 5 &&
       says "$there" own_ends 20 && says "$there" row_paths 5 && says "$there" running 5 && says "$there" traces 5 &&
-      says "$there" crowd 4 4 && says "$there" groups
+      says "$there" crowd 4 4 && says "$there" group_asks && says "$there" groups
   fi
   [ $? -eq 1 ] || { echo "faults.sh: $1 was not found"; return 1; }
   echo "$1: found: $(grep -E ': (hangs|not so|[a-z_]*: not so)' "$there/said" | tail -n 1 | sed 's/^[^ ]*\.[ch]:[0-9]*: //')"

@@ -193,6 +193,20 @@ static void asks_go_on_from_table_to_table(void) {
   commit(txn);
 }
 
+/* So does one for a row of a spread file, whose part is that of the row. */
+static void asks_find_the_part_of_a_row(void) {
+  bs_node spread = DONE(bs_group_add_spread_file(group, &areas[1], 1)).node;
+  bs_node file = DONE(bs_group_file_of_row(group, spread, 7)).node;
+  bs_txn strong = begun(), txn = begun();
+  listen();
+  DONE(lock_path(strong, areas[1], BS_X));
+  waits_for(ask_row(txn, spread, 7, BS_X), txn, areas[1]);
+  commit(strong);
+  tells(txn, BS_DONE);
+  WANT(DONE(bs_group_held(group, txn, file)).mode == BS_IX);
+  commit(txn);
+}
+
 /* A strong lock above is requested while an ask waits in a part: its intentions are copied, as those of a sleeper. */
 static void asks_are_visited(void) {
   bs_txn holder = begun(), txn = begun(), strong = begun();
@@ -344,8 +358,11 @@ static void a_thread_watches(void) {
 }
 
 /* A sleeper in a third table ends it too, and tells it after all latches are released. */
-static void asks_after_a_fall(bs_txn txn) {
+static uint32_t aborted; /* atomic */
+
+static void abort_in_callback(bs_txn txn) {
   DONE(bs_group_abort(group, txn));
+  __atomic_fetch_add(&aborted, 1, __ATOMIC_ACQ_REL);
 }
 
 static void sleepers_end_cycles_of_asks(void) {
@@ -354,12 +371,15 @@ static void sleepers_end_cycles_of_asks(void) {
   listen();
   DONE(lock_path(holder, records[3][0], BS_X));
   sleep_in(&own, 3, last, records[3][0], BS_S);
-  cross(one, other);
-  told_does = asks_after_a_fall;
-  while (heard() < 2) nap();
+  told_does = abort_in_callback;
+  aborted = 0;
+  DONE(lock_path(one, records[1][0], BS_X));
+  DONE(lock_path(other, records[2][0], BS_X));
+  ANSWERS(BS_WAITING, ask(one, records[2][0], BS_X));
+  ANSWERS(BS_WAITING, ask(other, records[1][0], BS_X));
+  while (__atomic_load_n(&aborted, __ATOMIC_ACQUIRE) < 2) nap();
   WANT(told[0].end.status == BS_VICTIM && told[1].end.status == BS_DONE);
   WANT(told[0].txn.slot == other.slot && told[1].txn.slot == one.slot);
-  told_does = NULL;
   commit(holder);
   wakes_with(&own, BS_DONE);
   commit(last);
@@ -390,8 +410,19 @@ static void new_indexes_end_asks(void) {
   commit(strong);
 }
 
-/* What a callback does with the transaction of the end that it tells. */
+/* Ends of one command are told by rising slots: so the callback of the first comes before the second is told. */
 static bs_txn callback_other;
+
+static bs_txn begin_two(void) {
+  bs_txn one = begun();
+  callback_other = begun();
+  if (one.slot > callback_other.slot) {
+    bs_txn lower = callback_other;
+    callback_other = one;
+    one = lower;
+  }
+  return one;
+}
 
 static void call_in_callback(bs_txn txn) {
   ANSWERS(BS_IN_USE, lock_path(txn, files[3], BS_S));
@@ -408,8 +439,7 @@ static void call_in_callback(bs_txn txn) {
 }
 
 static void callbacks_call(void) {
-  bs_txn holder = begun(), one = begun();
-  callback_other = begun();
+  bs_txn holder = begun(), one = begin_two();
   listen();
   DONE(lock_path(holder, records[1][0], BS_X));
   waits_for(ask(one, records[1][0], BS_S), one, records[1][0]);
@@ -418,6 +448,28 @@ static void callbacks_call(void) {
   commit(holder);
   WANT(heard() == 2 && told[1].txn.slot == callback_other.slot && told[1].end.status == BS_DONE);
   ANSWERS(BS_NO_SUCH_TXN, bs_group_commit(group, one));
+  commit(callback_other);
+}
+
+/* The second waits in no table by then: it is on its way from the main table to its part. */
+static void cancel_in_callback(bs_txn txn) {
+  if (txn.slot == callback_other.slot) return;
+  DONE(bs_group_cancel(group, callback_other));
+}
+
+static void asks_are_cancelled_between_tables(void) {
+  bs_txn strong = begun(), one = begin_two();
+  listen();
+  DONE(lock_path(strong, base, BS_X));
+  waits_for(ask(one, records[1][0], BS_S), one, base);
+  waits_for(ask(callback_other, records[2][0], BS_S), callback_other, base);
+  told_does = cancel_in_callback;
+  commit(strong);
+  WANT(heard() == 2 && told[0].end.status == BS_DONE && told[1].end.status == BS_NOT_WAITING);
+  WANT(told[1].txn.slot == callback_other.slot && held_in(group, 2, callback_other, records[2][0]) == BS_NL);
+  told_does = NULL;
+  DONE(ask(callback_other, records[2][0], BS_S));
+  commit(one);
   commit(callback_other);
 }
 
@@ -716,10 +768,10 @@ static const struct {
   uint32_t slots;
 } stories[] = {
   STORY(wrong_asks_are_refused), STORY(what_can_be_had_is_answered), STORY(ends_are_told),
-  STORY(asks_go_on_from_table_to_table), STORY(asks_are_visited), STORY(strong_asks_stay_in_progress),
+  STORY(asks_go_on_from_table_to_table), STORY(asks_find_the_part_of_a_row), STORY(asks_are_visited), STORY(strong_asks_stay_in_progress),
   STORY(times_are_noticed), STORY(deadlines_hold_in_each_table), STORY(sleepers_are_cancelled),
   STORY(cycles_of_asks_end), STORY(a_thread_watches), STORY(sleepers_end_cycles_of_asks), STORY(new_indexes_end_asks),
-  STORY(callbacks_call), STORY(refused_memory_asks_for_nothing), STORY(lists_are_made_in_order), STORY(lists_wait),
+  STORY(callbacks_call), STORY(asks_are_cancelled_between_tables), STORY(refused_memory_asks_for_nothing), STORY(lists_are_made_in_order), STORY(lists_wait),
   STORY(awaits_are_woken), STORY(cycles_of_lists_end), STORY(the_first_is_acquired), STORY(transactions_are_renewed),
   { "begins_are_served_in_order", begins_are_served_in_order, 2 }, { "no_turn_is_lost", no_turn_is_lost, 2 },
 };
