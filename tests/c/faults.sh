@@ -453,7 +453,7 @@ group-begins-pass-the-queue	/^bs_reply bs_group_begin_again(/,/^}/s/^  if (__bui
 group-frees-slots-for-nobody	/ group_free_slot(/,/^}/s/^  if (__builtin_expect(.*//
 group-turns-are-kept	/ group_begin_by_turn(/,/^}/s/^  bs_table_abort(.*//
 group-renews-as-new	/^bs_reply bs_group_renew(/,/^}/s/group_begin_in(group, own, since)/group_begin_in(group, own, UINT64_MAX)/
-group-watches-never	/ group_watch_over(/,/^}/s/ group_settle_all(group);/;/
+group-watches-never	/group_watch_over(void/,/^}/s/ group_settle_all(group);/ ;/
 group-leaves-who-sleeps-for-a-slot	/ group_end_turns(/,/^}/s/^  if (turns->table != NULL) bs_table_end(turns->table);//
 a-refused-list-of-a-session-tells	/^size_t bs_session_run(/,/^}/s/^    table_list_of(table, commands\[0\].told)->count = 0;//
 FAULTS
