@@ -88,7 +88,7 @@ static void dump_copy_times(const bs_manager *m, dump_copy *copy) {
 
 /* The part that is of one moment. */
 static void dump_copy_first(const bs_manager *m, dump_copy *copy) {
-  bs_options limits = { 0, 0, 0, 0, 0 };
+  bs_options limits = { 0, 0, 0, 0, 0, 0 };
   size_t i;
   bs_counters(m, &copy->counts);
   copy->nodes = bs_len(m).count;

@@ -137,6 +137,8 @@ typedef struct group_slot {
   struct timespec deadline;    /* that time */
   group_kept *kept;            /* by part: what rests there */
   struct group_ask *ask;       /* null before the slot's first ask */
+  uint64_t *savepoints;        /* by rising numbers of locks, each with its numbers in all tables */
+  uint32_t savepoint_count, savepoint_room;
   bs_target target;            /* what it requests in a part, by the part's names */
   bs_txn in[];                 /* its name in each part, by number; with age 0 it has not joined */
 } group_slot;
@@ -189,6 +191,7 @@ struct bs_table_group {
   void *block;              /* what malloc gave */
   uint32_t parts, most;     /* how many parts there are, and slots */
   uint32_t stage;           /* atomic, of enum group_stage */
+  uint32_t most_kept;       /* atomic: how many intentions a commit keeps at most */
   uint64_t queued;          /* atomic: how many begins sleep for a slot */
   size_t stride;            /* from a slot to the next */
   unsigned char *slots;
@@ -448,11 +451,12 @@ static void group_free_rolls(bs_table_group *group) {
   }
 }
 
-/* Frees what slots have for their asks. */
-static void group_free_asks(bs_table_group *group) {
+/* Frees what slots have for their asks and savepoints. */
+static void group_free_places_of_slots(bs_table_group *group) {
   uint32_t slot;
   for (slot = 0; slot < group->most; slot++) {
     group_ask *ask = group_slot_at(group, slot)->ask;
+    free(group_slot_at(group, slot)->savepoints);
     if (ask == NULL) continue;
     pthread_cond_destroy(&ask->ended);
     pthread_mutex_destroy(&ask->latch);
@@ -480,7 +484,7 @@ static void group_free_group(bs_table_group *group) {
   pthread_cond_destroy(&group->turns.freed);
   pthread_mutex_destroy(&group->turns.latch);
   group_free_rolls(group);
-  group_free_asks(group);
+  group_free_places_of_slots(group);
   free(group->seen);
   free(group->strong);
   free(group->slots_block);
@@ -537,6 +541,7 @@ bs_reply bs_call_group_make(bs_table_group **group, const bs_options *options, s
   bs_reply reply;
   if (*group != NULL) return group_only(BS_IN_USE);
   if (parts == 0 || parts > BS_MOST_PARTS || chosen.detect != BS_AT_BLOCK) return group_only(BS_BAD_NUMBER);
+  chosen.parts = 1;
   if (chosen.transactions > BS_SLOTS) return group_only(BS_BAD_NUMBER);
   made = group_new(parts, chosen.transactions);
   if (made == NULL) return group_only(BS_NO_MEMORY);
@@ -1429,6 +1434,7 @@ static bs_status group_end_in_all(bs_table_group *group, group_slot *own, bool c
   }
   __atomic_store_n(&own->barred, 0, __ATOMIC_RELAXED);
   own->has_deadline = false;
+  own->savepoint_count = 0;
   __atomic_store_n(&own->age, 0, __ATOMIC_RELAXED);
   return status;
 }
@@ -1518,6 +1524,7 @@ bs_reply bs_group_abort(bs_table_group *group, bs_txn txn) {
 bs_reply bs_group_keep(bs_table_group *group, uint32_t most) {
   bs_status status = group_shut(group);
   uint32_t part;
+  if (status == BS_DONE) __atomic_store_n(&group->most_kept, most, __ATOMIC_RELAXED);
   for (part = 1; status == BS_DONE && part <= group->parts; part++) {
     group_table *t = &group->tables[part];
     if (!bs_inside_enter(t->table)) return group_only(BS_NO_MANAGER);
@@ -2462,6 +2469,8 @@ static bs_reply group_lock_made(bs_table_group *group, const bs_command *c, bs_t
     case BS_DO_COMMIT: return bs_group_commit(group, txn);
     case BS_DO_ABORT: return bs_group_abort(group, txn);
     case BS_DO_RENEW: return bs_group_renew(group, txn, c->number);
+    case BS_DO_MARK: return bs_inside_mark(group, txn);
+    case BS_DO_RELEASE_SINCE: return bs_inside_release_to(group, txn, c->number);
     case BS_DO_BEGIN: return bs_group_begin(group);
     case BS_DO_BEGIN_AGAIN: return bs_group_begin_again(group, c->number);
     default: return group_only(BS_BAD_NUMBER);
@@ -2491,6 +2500,11 @@ static bs_reply group_made(bs_table_group *group, const bs_command *c, bs_txn tx
   }
 }
 
+/* Empties the list of notices of a command. */
+static inline void group_tell_nobody(const bs_command *c) {
+  if (c->told != NULL) c->told->count = 0;
+}
+
 /* Makes the command at this place of a list, after the nodes of earlier ones were named, and writes its reply. */
 static bs_status group_run_next(bs_table_group *group, bs_command *commands, size_t place, bs_txn begun) {
   bs_command named = commands[place];
@@ -2508,7 +2522,7 @@ static bs_status group_run_next(bs_table_group *group, bs_command *commands, siz
     }
     named.parents = parents;
   }
-  if (named.told != NULL) named.told->count = 0;
+  group_tell_nobody(&named);
   commands[place].reply = group_made(group, &named, is_own ? begun : named.txn);
   return commands[place].reply.status;
 }
@@ -2536,7 +2550,7 @@ size_t bs_group_run(bs_table_group *group, bs_command *commands, size_t count) {
 static bs_status group_try_next(bs_table_group *group, bs_command *next) {
   bool is_try = next->kind == BS_DO_TRY || next->kind == BS_DO_TRY_PATH || next->kind == BS_DO_TRY_ROW ||
                 next->kind == BS_DO_TRY_ROW_PATH;
-  if (next->told != NULL) next->told->count = 0;
+  group_tell_nobody(next);
   next->reply = is_try ? group_lock_made(group, next, next->txn) : group_only(BS_BAD_NUMBER);
   return next->reply.status;
 }
@@ -2611,6 +2625,125 @@ bs_reply bs_group_await(bs_table_group *group, bs_txn txn, const struct timespec
     return group_only(BS_NOT_WAITING);
   }
   return group_await_end(own->ask, until);
+}
+
+/* ------------------------------------------------------------------------------------------------
+ * Savepoints by a number, and sessions.
+ */
+
+/* The words of a savepoint: how many locks there are in all, and then in each table by number. */
+static inline size_t group_savepoint_words(const bs_table_group *group) {
+  return group->parts + 2;
+}
+
+static inline uint64_t *group_savepoint_at(const bs_table_group *group, const group_slot *own, size_t place) {
+  return own->savepoints + place * group_savepoint_words(group);
+}
+
+/* A place for one savepoint more, after those with fewer locks; null if memory is refused. Those with as many are the
+ * same as the new one, or, as those with more, are older than an unlock of what they had. */
+static uint64_t *group_new_savepoint(const bs_table_group *group, group_slot *own, uint64_t locks) {
+  uint32_t room = own->savepoint_room == 0 ? 4 : 2 * own->savepoint_room;
+  while (own->savepoint_count > 0 && group_savepoint_at(group, own, own->savepoint_count - 1)[0] >= locks) {
+    own->savepoint_count--;
+  }
+  if (own->savepoint_count == own->savepoint_room) {
+    size_t size = room * group_savepoint_words(group) * sizeof(uint64_t);
+    uint64_t *more = (uint64_t *)realloc(own->savepoints, size);
+    if (more == NULL) return NULL;
+    own->savepoints = more;
+    own->savepoint_room = room;
+  }
+  return group_savepoint_at(group, own, own->savepoint_count++);
+}
+
+bs_reply bs_inside_mark(bs_table_group *group, bs_txn txn) {
+  bs_group_savepoint savepoint;
+  bs_reply reply = bs_group_mark(group, txn, &savepoint);
+  uint64_t *place;
+  uint32_t number;
+  if (reply.status != BS_DONE) return reply;
+  for (number = 0; number <= group->parts; number++) reply.count += savepoint.at[number];
+  if (reply.count == 0) return reply;
+  place = group_new_savepoint(group, group_named(group, txn), reply.count);
+  if (place == NULL) return group_only(BS_NO_MEMORY);
+  place[0] = reply.count;
+  memcpy(place + 1, savepoint.at, (group->parts + 1) * sizeof savepoint.at[0]);
+  return reply;
+}
+
+bs_reply bs_inside_release_to(bs_table_group *group, bs_txn txn, uint64_t locks) {
+  bs_group_savepoint savepoint;
+  group_slot *own;
+  bs_status status = group_finds(group, txn, &own);
+  uint32_t place = 0;
+  if (status != BS_DONE) return group_only(status);
+  memset(&savepoint, 0, sizeof savepoint);
+  if (locks == 0) return bs_group_release_since(group, txn, &savepoint);
+  while (place < own->savepoint_count && group_savepoint_at(group, own, place)[0] < locks) place++;
+  if (place == own->savepoint_count) return group_only(BS_DONE);
+  memcpy(savepoint.at, group_savepoint_at(group, own, place) + 1, (group->parts + 1) * sizeof savepoint.at[0]);
+  return bs_group_release_since(group, txn, &savepoint);
+}
+
+/* A session has no transaction. */
+static void group_session_has_none(bs_session *session) {
+  session->txn = group_only(BS_DONE).txn;
+  session->rests = session->txn;
+}
+
+/* Begins a session's transaction so. Its group keeps at least as many intentions as the session. */
+static bs_reply group_session_has(bs_table_group *group, bs_session *session, bs_reply begun) {
+  group_session_has_none(session);
+  if (begun.status != BS_DONE) return begun;
+  session->txn = begun.txn;
+  if (__atomic_load_n(&group->most_kept, __ATOMIC_RELAXED) < session->most) bs_group_keep(group, session->most);
+  return begun;
+}
+
+bs_reply bs_inside_session_begin(bs_session *session, uint64_t since, const struct timespec *until) {
+  bs_table_group *group = bs_table_group_of(session->table);
+  if (group_named(group, session->txn) != NULL) return group_only(BS_IN_USE);
+  return group_session_has(group, session, bs_group_begin_again_in_turn(group, since, until));
+}
+
+bs_reply bs_inside_session_commit(bs_session *session) {
+  bs_reply reply = bs_group_commit(bs_table_group_of(session->table), session->txn);
+  if (reply.status == BS_DONE) group_session_has_none(session);
+  return reply;
+}
+
+bs_reply bs_inside_session_end(bs_session *session) {
+  bs_table_group *group = bs_table_group_of(session->table);
+  bs_status shut = group_shut(group);
+  if (shut != BS_DONE) return group_only(shut);
+  if (group_named(group, session->txn) != NULL) return group_only(BS_IN_USE);
+  group_session_has_none(session);
+  return group_only(BS_DONE);
+}
+
+size_t bs_inside_session_run(bs_session *session, bs_command *commands, size_t count) {
+  bs_table_group *group = bs_table_group_of(session->table);
+  const bs_txn none = bs_begun();
+  bs_reply begun = group_only(BS_DONE);
+  size_t done = 0;
+  if (count == 0) return 0;
+  if (group_named(group, session->txn) == NULL) begun = group_session_has(group, session, bs_group_begin(group));
+  for (; begun.status == BS_DONE && done < count; done++) {
+    bs_command *next = &commands[done];
+    bool is_own = next->txn.slot == none.slot && next->txn.age == none.age;
+    group_tell_nobody(next);
+    if (is_own && next->kind == BS_DO_COMMIT) next->reply = bs_inside_session_commit(session);
+    else group_run_next(group, commands, done, session->txn);
+    if (next->reply.status != BS_DONE) break;
+    if (is_own && next->kind == BS_DO_RENEW) session->txn = next->reply.txn;
+  }
+  if (begun.status != BS_DONE) {
+    group_tell_nobody(commands);
+    commands[0].reply = begun;
+  }
+  if (done < count) group_not_made(commands + done + 1, count - done - 1);
+  return done;
 }
 
 /* ------------------------------------------------------------------------------------------------

@@ -9,7 +9,9 @@
 #ifndef BURLAPSLATE_INSIDE_H
 #define BURLAPSLATE_INSIDE_H
 
+#include "burlapslate_group.h"
 #include "burlapslate_running.h"
+#include "burlapslate_session.h"
 
 #include <pthread.h>
 
@@ -192,6 +194,18 @@ bs_reply bs_inside_commit_and_rest(bs_table *table, bs_txn txn, size_t known, si
 
 /* Ends all resting transactions; BS_DONE if none rests any more. */
 bs_status bs_inside_end_resting(bs_table *table);
+
+/* ------------------------------------------------------------------------------------------------
+ * Of burlapslate_group.c: what a table with parts does by its group, without any latch: as bs_table_mark,
+ * bs_table_release_since and the calls of a session.
+ */
+
+bs_reply bs_inside_mark(bs_table_group *group, bs_txn txn);
+bs_reply bs_inside_release_to(bs_table_group *group, bs_txn txn, uint64_t savepoint);
+bs_reply bs_inside_session_begin(bs_session *session, uint64_t since, const struct timespec *until);
+bs_reply bs_inside_session_commit(bs_session *session);
+bs_reply bs_inside_session_end(bs_session *session);
+size_t bs_inside_session_run(bs_session *session, bs_command *commands, size_t count);
 
 /* ------------------------------------------------------------------------------------------------
  * Of burlapslate_trace.c: a trace of a table.

@@ -18,6 +18,7 @@
  * burlapslate_trace.c makes the commands of a traced table: table_make_* ask it.
  */
 #include "burlapslate_dump.h"
+#include "burlapslate_group.h"
 #include "burlapslate_inside.h"
 #include "burlapslate_rows.h"
 #include "burlapslate_session.h"
@@ -121,9 +122,11 @@ typedef struct table_asks {
 typedef enum table_stage { TABLE_OPEN = 0, TABLE_ENDING, TABLE_ENDED } table_stage;
 
 /* All fields but the latch and `looks` are read and written with the latch held. What each call reads and writes comes
- * first, up to the count of `told`: 80 bytes, which are in two cache lines wherever malloc puts a table. */
+ * first, up to the count of `told`: 88 bytes, which are in two cache lines wherever malloc puts a table. */
 struct bs_table {
   pthread_mutex_t latch;
+  bs_table_group *group;          /* null; of a table with parts its group, and then nothing else is used. No latch is
+                                   * needed: it stays as long as the table does */
   bs_manager manager;
   table_stage stage;
   bool is_due;                    /* this hold has ended waits: waiters are woken or told as it ends */
@@ -290,9 +293,25 @@ static TABLE_APART bool table_turned_away(bs_table *table) {
   return false;
 }
 
+/* Whether a table has parts; then its calls are those of its group. */
+static inline bool table_has_parts(const bs_table *table) {
+  return table != NULL && __builtin_expect(table->group != NULL, 0);
+}
+
+/* In the body of a call: makes this one in its place if the table has parts. The second empties the list of a caller. */
+#define TABLE_BY_GROUP(table, call) \
+  if (table_has_parts(table)) return call
+
+#define TABLE_TELL_BY_GROUP(table, told, call) \
+  if (table_has_parts(table)) return table_told_nobody(told), call
+
+static TABLE_APART void table_told_nobody(bs_notices *told) {
+  if (told != NULL) told->count = 0;
+}
+
 /* Acquires the latch of a table, and answers whether the table is open; if it is not, the latch is not held. */
 static inline bool table_enter(bs_table *table) {
-  if (table == NULL || table_holds(table)) return false;
+  if (table == NULL || table->group != NULL || table_holds(table)) return false;
   table_take(table);
   return table->stage == TABLE_OPEN || table_turned_away(table);
 }
@@ -305,6 +324,7 @@ static bs_reply table_leave(bs_table *table, bs_reply reply) {
 /* Why a table was not entered. */
 static bs_status table_shut(bs_table *table) {
   if (table == NULL) return BS_NULL_POINTER;
+  if (table->group != NULL) return BS_IN_PARTS;
   return table_holds(table) ? BS_IN_USE : BS_NO_MANAGER;
 }
 
@@ -892,11 +912,37 @@ static void table_free_table(bs_table *table) {
   free(table);
 }
 
+/* Makes a table with parts. */
+static bs_reply table_make_parts(bs_table **table, const bs_options *options) {
+  bs_table *made = (bs_table *)malloc(sizeof *made);
+  bs_reply reply;
+  if (made == NULL) return bs_call_only(BS_NO_MEMORY);
+  memset(made, 0, sizeof *made);
+  reply = bs_group_make(&made->group, options, options->parts);
+  if (reply.status == BS_DONE) *table = made;
+  else free(made);
+  return reply;
+}
+
+/* Frees one whose group was ended. */
+static bs_reply table_free_parts(bs_table **table) {
+  bs_reply reply = bs_group_free(&(*table)->group);
+  if (reply.status != BS_DONE) return reply;
+  free(*table);
+  *table = NULL;
+  return reply;
+}
+
+bs_table_group *bs_table_group_of(bs_table *table) {
+  return table == NULL ? NULL : table->group;
+}
+
 bs_reply bs_call_table_make(bs_table **table, const bs_options *options, size_t size) {
   bs_options chosen = bs_call_chosen(options, size);
   bs_table *made;
   bs_reply reply;
   if (*table != NULL) return bs_call_only(BS_IN_USE);
+  if (chosen.parts > 1) return table_make_parts(table, &chosen);
   made = table_new_table();
   if (made == NULL) return bs_call_only(BS_NO_MEMORY);
   reply = bs_make(&made->manager, &chosen);
@@ -930,6 +976,7 @@ static bs_trace *table_take_trace(bs_table *table) {
 }
 
 bs_reply bs_table_end(bs_table *table) {
+  TABLE_BY_GROUP(table, bs_group_end(table->group));
   bs_trace *trace;
   bs_reply reply;
   int state;
@@ -956,6 +1003,7 @@ bs_reply bs_table_end(bs_table *table) {
 bs_reply bs_table_free(bs_table **table) {
   bool is_ended;
   if (table == NULL || *table == NULL) return bs_call_null();
+  if (table_has_parts(*table)) return table_free_parts(table);
   if (table_holds(*table)) return bs_call_only(BS_IN_USE);
   table_take(*table);
   is_ended = (*table)->stage == TABLE_ENDED;
@@ -971,19 +1019,23 @@ bs_reply bs_table_free(bs_table **table) {
  */
 
 bs_reply bs_table_add_inner(bs_table *table, const bs_node *parents, size_t count) {
+  TABLE_BY_GROUP(table, bs_group_add_inner(table->group, parents, count));
   TABLE_ASK(table, table_make_add_inner(table, parents, count));
 }
 
 bs_reply bs_table_add_file(bs_table *table, const bs_node *parents, size_t count) {
+  TABLE_BY_GROUP(table, bs_group_add_file(table->group, 0, parents, count));
   TABLE_ASK(table, table_make_add_file(table, parents, count));
 }
 
 bs_reply bs_table_add_row_file(bs_table *table, const bs_node *parents, size_t count) {
+  TABLE_BY_GROUP(table, bs_group_add_row_file(table->group, 0, parents, count));
   TABLE_ASK(table, table_make_add_row_file(table, parents, count));
 }
 
 bs_reply bs_table_add_index(bs_table *table, const bs_node *parents, size_t count, bs_node file, const uint64_t *bounds,
                             size_t bound_count) {
+  TABLE_BY_GROUP(table, bs_group_add_index(table->group, parents, count, file, bounds, bound_count));
   TABLE_ASK(table, table_make_add_index(table, parents, count, file, bounds, bound_count));
 }
 
@@ -992,10 +1044,12 @@ bs_reply bs_table_add_index(bs_table *table, const bs_node *parents, size_t coun
  */
 
 bs_reply bs_table_begin(bs_table *table) {
+  TABLE_BY_GROUP(table, bs_group_begin(table->group));
   TABLE_ASK(table, table_begin_now(table));
 }
 
 bs_reply bs_table_begin_again(bs_table *table, uint64_t since) {
+  TABLE_BY_GROUP(table, bs_group_begin_again(table->group, since));
   TABLE_ASK(table, table_begin_again_now(table, since));
 }
 
@@ -1020,6 +1074,7 @@ static bs_reply table_begin_or_sleep(bs_table *table, uint64_t since, const stru
 }
 
 bs_reply bs_table_begin_again_in_turn(bs_table *table, uint64_t since, const struct timespec *until) {
+  TABLE_BY_GROUP(table, bs_group_begin_again_in_turn(table->group, since, until));
   bs_reply reply;
   if (!table_enter_to_sleep(table, until)) return table_no_sleep(table);
   reply = table_begin_or_sleep(table, since, until);
@@ -1032,6 +1087,7 @@ bs_reply bs_table_begin_in_turn(bs_table *table, const struct timespec *until) {
 }
 
 bs_reply bs_table_deadline(bs_table *table, bs_txn txn, const struct timespec *until) {
+  TABLE_BY_GROUP(table, bs_group_deadline(table->group, txn, until));
   bs_reply reply;
   if (!table_enter_until(table, until)) return table_no_entry(table);
   reply = bs_call_doing(&table->manager, txn);
@@ -1174,6 +1230,7 @@ static inline bs_reply table_try_now(bs_table *table, bs_txn txn, bs_node node, 
 }
 
 bs_reply bs_table_lock(bs_table *table, bs_txn txn, bs_node node, bs_mode mode, const struct timespec *until) {
+  TABLE_BY_GROUP(table, bs_group_lock_path(table->group, txn, node, mode, until));
   table_waiter own;
   bs_reply reply;
   if (!table_enter_to_sleep(table, until)) return table_no_sleep(table);
@@ -1203,6 +1260,7 @@ static bs_reply table_await_left(bs_table *table, bs_txn txn, bs_node node, bs_m
 }
 
 bs_reply bs_table_await(bs_table *table, bs_txn txn, bs_node node, bs_mode mode, const struct timespec *until) {
+  TABLE_BY_GROUP(table, bs_group_await(table->group, txn, until));
   table_waiter own;
   bs_reply reply;
   if (!table_enter_to_sleep(table, until)) return table_no_sleep(table);
@@ -1214,34 +1272,42 @@ bs_reply bs_table_await(bs_table *table, bs_txn txn, bs_node node, bs_mode mode,
 }
 
 bs_reply bs_table_try(bs_table *table, bs_txn txn, bs_node node, bs_mode mode) {
+  TABLE_BY_GROUP(table, bs_group_try_path(table->group, txn, node, mode, BS_KEEP_NOTHING));
   TABLE_ASK(table, table_try_now(table, txn, node, mode));
 }
 
 bs_reply bs_table_mark(bs_table *table, bs_txn txn) {
+  TABLE_BY_GROUP(table, bs_inside_mark(table->group, txn));
   TABLE_ASK(table, bs_mark(&table->manager, txn));
 }
 
 bs_reply bs_table_release_since(bs_table *table, bs_txn txn, uint64_t savepoint, bs_notices *told) {
+  TABLE_TELL_BY_GROUP(table, told, bs_inside_release_to(table->group, txn, savepoint));
   TABLE_TELL(table, told, false, table_make_release_since(table, txn, savepoint, list));
 }
 
 bs_reply bs_table_unlock(bs_table *table, bs_txn txn, bs_node node, bs_notices *told) {
+  TABLE_TELL_BY_GROUP(table, told, bs_group_unlock(table->group, txn, node));
   TABLE_TELL(table, told, false, table_make_unlock(table, txn, node, list));
 }
 
 bs_reply bs_table_cancel(bs_table *table, bs_txn txn, bs_notices *told) {
+  TABLE_TELL_BY_GROUP(table, told, bs_group_cancel(table->group, txn));
   TABLE_TELL(table, told, true, table_make_cancel(table, txn, list));
 }
 
 bs_reply bs_table_commit(bs_table *table, bs_txn txn, bs_notices *told) {
+  TABLE_TELL_BY_GROUP(table, told, bs_group_commit(table->group, txn));
   TABLE_TELL(table, told, false, table_make_commit(table, txn, list));
 }
 
 bs_reply bs_table_renew(bs_table *table, bs_txn txn, uint64_t since) {
+  TABLE_BY_GROUP(table, bs_group_renew(table->group, txn, since));
   TABLE_ASK(table, table_make_renew(table, txn, since));
 }
 
 bs_reply bs_table_abort(bs_table *table, bs_txn txn, bs_notices *told) {
+  TABLE_TELL_BY_GROUP(table, told, bs_group_abort(table->group, txn));
   TABLE_TELL(table, told, true, table_make_abort(table, txn, list));
 }
 
@@ -1257,10 +1323,12 @@ static bs_reply table_do_escalate(bs_table *table, bs_txn txn, bs_node node, bs_
 }
 
 bs_reply bs_table_escalate(bs_table *table, bs_txn txn, bs_node node, bs_notices *told) {
+  TABLE_TELL_BY_GROUP(table, told, bs_group_escalate(table->group, txn, node));
   TABLE_TELL(table, told, false, table_do_escalate(table, txn, node, list));
 }
 
 bs_reply bs_table_lock_path(bs_table *table, bs_txn txn, bs_node node, bs_mode mode, const struct timespec *until) {
+  TABLE_BY_GROUP(table, bs_group_lock_path(table->group, txn, node, mode, until));
   table_waiter own;
   bs_reply reply;
   if (!table_enter_to_sleep(table, until)) return table_no_sleep(table);
@@ -1285,6 +1353,7 @@ static TABLE_APART bs_reply table_path_tried(bs_table *table, bs_txn txn, bs_nod
 }
 
 bs_reply bs_table_try_path(bs_table *table, bs_txn txn, bs_node node, bs_mode mode, uint32_t keep) {
+  TABLE_BY_GROUP(table, bs_group_try_path(table->group, txn, node, mode, keep));
   TABLE_ASK(table, table_path_tried(table, txn, node, mode, keep));
 }
 
@@ -1293,22 +1362,27 @@ bs_reply bs_table_try_path(bs_table *table, bs_txn txn, bs_node node, bs_mode mo
  */
 
 bs_reply bs_table_insert(bs_table *table, bs_txn txn, bs_node file, const uint64_t *keys, size_t count) {
+  TABLE_BY_GROUP(table, bs_group_insert(table->group, txn, file, keys, count));
   TABLE_ASK(table, table_make_insert(table, txn, file, keys, count));
 }
 
 bs_reply bs_table_delete(bs_table *table, bs_txn txn, bs_node record, bs_notices *told) {
+  TABLE_TELL_BY_GROUP(table, told, bs_group_delete(table->group, txn, record));
   TABLE_TELL(table, told, false, table_make_delete(table, txn, record, list));
 }
 
 bs_reply bs_table_adopt(bs_table *table, bs_node file, const uint64_t *keys, size_t count) {
+  TABLE_BY_GROUP(table, bs_group_adopt(table->group, file, keys, count));
   TABLE_ASK(table, table_make_adopt(table, file, keys, count));
 }
 
 bs_reply bs_table_forget(bs_table *table, bs_node record) {
+  TABLE_BY_GROUP(table, bs_group_forget(table->group, record));
   TABLE_ASK(table, table_make_forget(table, record));
 }
 
 bs_reply bs_table_rekey(bs_table *table, bs_txn txn, bs_node record, bs_node index, uint64_t key, bs_notices *told) {
+  TABLE_TELL_BY_GROUP(table, told, bs_group_rekey(table->group, txn, record, index, key));
   TABLE_TELL(table, told, false, table_make_rekey(table, txn, record, index, key, list));
 }
 
@@ -1318,19 +1392,23 @@ bs_reply bs_table_move(bs_table *table, bs_txn txn, bs_node node, const bs_node 
 }
 
 bs_reply bs_table_drop(bs_table *table, bs_txn txn, bs_node node, bs_notices *told) {
+  TABLE_TELL_BY_GROUP(table, told, bs_group_drop(table->group, txn, node));
   TABLE_TELL(table, told, false, table_make_drop(table, txn, node, list));
 }
 
 bs_reply bs_table_split(bs_table *table, bs_txn txn, bs_node interval, uint64_t at, bs_notices *told) {
+  TABLE_TELL_BY_GROUP(table, told, bs_group_split(table->group, txn, interval, at));
   TABLE_TELL(table, told, false, table_make_split(table, txn, interval, at, list));
 }
 
 bs_reply bs_table_merge(bs_table *table, bs_txn txn, bs_node interval, bs_notices *told) {
+  TABLE_TELL_BY_GROUP(table, told, bs_group_merge(table->group, txn, interval));
   TABLE_TELL(table, told, false, table_make_merge(table, txn, interval, list));
 }
 
 bs_reply bs_table_index_by(bs_table *table, bs_txn txn, const bs_node *parents, size_t count, bs_node file,
                            const uint64_t *bounds, size_t bound_count) {
+  TABLE_BY_GROUP(table, bs_group_index_by(table->group, txn, parents, count, file, bounds, bound_count));
   TABLE_ASK(table, table_make_index_by(table, txn, parents, count, file, bounds, bound_count));
 }
 
@@ -1346,6 +1424,8 @@ static bs_reply table_index_records_now(bs_table *table, bs_txn txn, const bs_no
 bs_reply bs_table_index_records(bs_table *table, bs_txn txn, const bs_node *parents, size_t count, bs_node file,
                                 const uint64_t *bounds, size_t bound_count, const bs_node *records,
                                 const uint64_t *keys, size_t record_count) {
+  TABLE_BY_GROUP(table, bs_group_index_records(table->group, txn, parents, count, file, bounds, bound_count, records, keys,
+                                               record_count));
   TABLE_ASK(table, table_index_records_now(table, txn, parents, count, file, bounds, bound_count, records, keys,
                                            record_count));
 }
@@ -1421,12 +1501,14 @@ static bs_reply table_row_or_sleep(bs_table *table, const table_request *request
 
 bs_reply bs_table_lock_row(bs_table *table, bs_txn txn, bs_node file, uint64_t number, const uint64_t *keys,
                            size_t count, bs_mode mode, const struct timespec *until) {
+  TABLE_BY_GROUP(table, bs_group_lock_row_path(table->group, txn, file, number, keys, count, mode, until));
   table_request request = table_row_request(TABLE_ROW, txn, table_row_of(file, number, keys, count), mode);
   return table_row_or_sleep(table, &request, until);
 }
 
 bs_reply bs_table_lock_row_path(bs_table *table, bs_txn txn, bs_node file, uint64_t number, const uint64_t *keys,
                                 size_t count, bs_mode mode, const struct timespec *until) {
+  TABLE_BY_GROUP(table, bs_group_lock_row_path(table->group, txn, file, number, keys, count, mode, until));
   table_request request = table_row_request(TABLE_ROW_PATH, txn, table_row_of(file, number, keys, count), mode);
   return table_row_or_sleep(table, &request, until);
 }
@@ -1441,6 +1523,7 @@ static TABLE_APART bs_reply table_row_tried(bs_table *table, bs_txn txn, const t
 
 bs_reply bs_table_try_row(bs_table *table, bs_txn txn, bs_node file, uint64_t number, const uint64_t *keys,
                           size_t count, bs_mode mode) {
+  TABLE_BY_GROUP(table, bs_group_try_row_path(table->group, txn, file, number, keys, count, mode, BS_KEEP_NOTHING));
   table_row row = table_row_of(file, number, keys, count);
   TABLE_ASK(table, table_row_tried(table, txn, &row, mode));
 }
@@ -1481,6 +1564,7 @@ static TABLE_APART bs_reply table_row_path_tried(bs_table *table, bs_txn txn, co
 
 bs_reply bs_table_try_row_path(bs_table *table, bs_txn txn, bs_node file, uint64_t number, const uint64_t *keys,
                                size_t count, bs_mode mode, uint32_t keep) {
+  TABLE_BY_GROUP(table, bs_group_try_row_path(table->group, txn, file, number, keys, count, mode, keep));
   table_row row = table_row_of(file, number, keys, count);
   TABLE_ASK(table, table_row_path_tried(table, txn, &row, mode, keep));
 }
@@ -1500,15 +1584,19 @@ static TABLE_APART bs_reply table_inserted_by_path(bs_table *table, bs_txn txn, 
 
 bs_reply bs_table_insert_path(bs_table *table, bs_txn txn, bs_node file, const uint64_t *keys, size_t count,
                               uint32_t keep) {
+  TABLE_BY_GROUP(table, keep > BS_KEEP_WAY ? bs_call_only(BS_BAD_NUMBER)
+                                           : bs_group_insert(table->group, txn, file, keys, count));
   TABLE_ASK(table, table_inserted_by_path(table, txn, file, keys, count, keep));
 }
 
 bs_reply bs_table_unlock_row(bs_table *table, bs_txn txn, bs_node file, uint64_t number, bs_notices *told) {
+  TABLE_TELL_BY_GROUP(table, told, bs_group_unlock_row(table->group, txn, file, number));
   TABLE_TELL(table, told, false, table_make_unlock_row(table, txn, file, number, list));
 }
 
 bs_reply bs_table_rekey_row(bs_table *table, bs_txn txn, bs_node file, uint64_t number, bs_node index, uint64_t key,
                             bs_notices *told) {
+  TABLE_TELL_BY_GROUP(table, told, bs_group_rekey_row(table->group, txn, file, number, index, key));
   TABLE_TELL(table, told, false, table_make_rekey_row(table, txn, file, number, index, key, list));
 }
 
@@ -1593,6 +1681,7 @@ static TABLE_APART void table_release_and_tell(bs_table *table) {
 
 bs_reply bs_table_on_end(bs_table *table, void (*function)(void *context, bs_txn txn, bs_reply end, void *word),
                          void *context) {
+  TABLE_BY_GROUP(table, bs_group_on_end(table->group, function, context));
   if (table == NULL || function == NULL) return bs_call_null();
   if (!table_enter(table)) return table_no_table(table);
   if (table->asks != NULL) return table_leave(table, bs_call_only(BS_IN_USE));
@@ -1671,6 +1760,7 @@ static bs_reply table_leave_asked(bs_table *table, table_asked *own, bs_reply re
 
 bs_reply bs_table_ask(bs_table *table, bs_txn txn, bs_node node, bs_mode mode, const struct timespec *until,
                       void *word) {
+  TABLE_BY_GROUP(table, bs_group_ask_path(table->group, txn, node, mode, until, word));
   bs_reply reply;
   table_asked *own = table_enter_to_ask(table, txn, until, word, &reply);
   if (own == NULL) return reply;
@@ -1687,6 +1777,7 @@ bs_reply bs_table_ask_await(bs_table *table, bs_txn txn, bs_node node, bs_mode m
 
 bs_reply bs_table_ask_path(bs_table *table, bs_txn txn, bs_node node, bs_mode mode, const struct timespec *until,
                            void *word) {
+  TABLE_BY_GROUP(table, bs_group_ask_path(table->group, txn, node, mode, until, word));
   bs_reply reply;
   table_asked *own = table_enter_to_ask(table, txn, until, word, &reply);
   if (own == NULL) return reply;
@@ -1704,12 +1795,14 @@ static bs_reply table_ask_for_row(bs_table *table, const table_request *request,
 
 bs_reply bs_table_ask_row(bs_table *table, bs_txn txn, bs_node file, uint64_t number, const uint64_t *keys,
                           size_t count, bs_mode mode, const struct timespec *until, void *word) {
+  TABLE_BY_GROUP(table, bs_group_ask_row_path(table->group, txn, file, number, keys, count, mode, until, word));
   table_request request = table_row_request(TABLE_ROW, txn, table_row_of(file, number, keys, count), mode);
   return table_ask_for_row(table, &request, until, word);
 }
 
 bs_reply bs_table_ask_row_path(bs_table *table, bs_txn txn, bs_node file, uint64_t number, const uint64_t *keys,
                                size_t count, bs_mode mode, const struct timespec *until, void *word) {
+  TABLE_BY_GROUP(table, bs_group_ask_row_path(table->group, txn, file, number, keys, count, mode, until, word));
   table_request request = table_row_request(TABLE_ROW_PATH, txn, table_row_of(file, number, keys, count), mode);
   return table_ask_for_row(table, &request, until, word);
 }
@@ -1779,6 +1872,7 @@ static uint64_t table_count_timed_begins(const bs_table *table) {
 }
 
 bs_reply bs_table_expire(bs_table *table, struct timespec *next) {
+  TABLE_BY_GROUP(table, bs_group_expire(table->group, next));
   bs_reply reply = bs_call_only(BS_DONE), earliest;
   struct timespec now;
   if (!table_enter(table)) return table_no_table(table);
@@ -1832,6 +1926,7 @@ static bs_reply table_session_begin(bs_table *table, bs_session *session, const 
 bs_reply bs_session_begin(bs_session *session, const struct timespec *until) {
   bs_reply reply;
   if (session == NULL) return bs_call_null();
+  TABLE_BY_GROUP(session->table, bs_inside_session_begin(session, UINT64_MAX, until));
   if (!table_enter_to_sleep(session->table, until)) return table_no_sleep(session->table);
   reply = table_session_begin(session->table, session, until);
   table_release(session->table);
@@ -1846,6 +1941,7 @@ static void table_session_rests_no_more(bs_table *table, bs_session *session) {
 bs_reply bs_session_begin_again(bs_session *session, uint64_t since, const struct timespec *until) {
   bs_reply reply;
   if (session == NULL) return bs_call_null();
+  TABLE_BY_GROUP(session->table, bs_inside_session_begin(session, since, until));
   if (!table_enter_to_sleep(session->table, until)) return table_no_sleep(session->table);
   table_session_rests_no_more(session->table, session);
   if (table_lives(session->table, session->txn)) return table_leave(session->table, bs_call_only(BS_IN_USE));
@@ -1905,6 +2001,7 @@ static bs_reply table_session_commit(bs_table *table, bs_session *session, bs_no
 bs_reply bs_session_commit(bs_session *session, bs_notices *told) {
   bs_table *table = session == NULL ? NULL : session->table;
   bs_reply reply;
+  TABLE_TELL_BY_GROUP(table, told, bs_inside_session_commit(session));
   if (!table_enter(table)) return table_tell_none(table, told);
   reply = table_session_commit(table, session, table_list_of(table, told));
   table_hand_on(table);
@@ -1914,6 +2011,7 @@ bs_reply bs_session_commit(bs_session *session, bs_notices *told) {
 
 bs_reply bs_session_end(bs_session *session) {
   bs_table *table = session == NULL ? NULL : session->table;
+  TABLE_BY_GROUP(table, bs_inside_session_end(session));
   if (!table_enter(table)) return table_no_table(table);
   table_session_rests_no_more(table, session);
   if (table_lives(table, session->txn)) return table_leave(table, bs_call_only(BS_IN_USE));
@@ -2152,6 +2250,7 @@ static inline bool table_begins(uint32_t kind) {
 }
 
 size_t bs_table_run(bs_table *table, bs_command *commands, size_t count) {
+  TABLE_BY_GROUP(table, bs_group_run(table->group, commands, count));
   bs_txn begun = bs_begun();
   size_t done = 0;
   if (commands == NULL || count == 0) return 0;
@@ -2195,6 +2294,7 @@ size_t bs_session_run(bs_session *session, bs_command *commands, size_t count) {
   bs_table *table = session == NULL ? NULL : session->table;
   bs_reply begun;
   size_t done = 0;
+  if (commands != NULL && table_has_parts(table)) return bs_inside_session_run(session, commands, count);
   if (commands == NULL || count == 0) return 0;
   if (!table_enter(table)) return table_none_made(table, commands, count);
   begun = table_session_goes_on(table, session);
@@ -2226,6 +2326,7 @@ static bool table_is_passed(bs_status status) {
 }
 
 size_t bs_table_try_first(bs_table *table, bs_command *commands, size_t count) {
+  TABLE_BY_GROUP(table, bs_group_try_first(table->group, commands, count));
   size_t place = 0;
   if (commands == NULL || count == 0) return count;
   if (!table_enter(table)) return table_none_made(table, commands, count);
@@ -2367,6 +2468,7 @@ bool bs_call_start(pthread_t *thread, void *(*run)(void *), void *place) {
 
 /* While the thread looks, its watcher is not in its place, so a second one is refused by the table. */
 bs_reply bs_table_watch_thread(bs_table *table, uint64_t pace) {
+  TABLE_BY_GROUP(table, bs_group_watch_thread(table->group, pace));
   bs_reply reply;
   if (!table_enter(table)) return table_no_table(table);
   if (table->is_watched) return table_leave(table, bs_call_only(BS_IN_USE));

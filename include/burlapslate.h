@@ -76,7 +76,7 @@ extern "C" {
 /* How many parents a node can have, and how many watchers a manager can have at once. */
 enum { BS_MOST_PARENTS = 8, BS_MOST_WATCHERS = 8 };
 
-/* The outcome of a call. Refusals are 1 to 24, of the manager, and 64 to 77, of this library. */
+/* The outcome of a call. Refusals are 1 to 24, of the manager, and 64 to 78, of this library. */
 typedef uint32_t bs_status;
 enum bs_statuses {
   BS_DONE = 0,
@@ -125,7 +125,8 @@ enum bs_statuses {
   BS_OTHER_VERSION = 74,  /* the library's version differs from that of the program's headers */
   BS_NOT_WRITTEN = 75,    /* not answered here: what was to be written could not be */
   BS_TOO_LATE = 76,       /* not answered here: the table has had a transaction or a record, and cannot be traced */
-  BS_NO_TRACE = 77        /* not answered here: the table has no trace */
+  BS_NO_TRACE = 77,       /* not answered here: the table has no trace */
+  BS_IN_PARTS = 78        /* not answered here: a table with parts has no such call */
 };
 
 /* Lock modes, from none to exclusive. Between different transactions on one node, BS_IS is compatible with all but
@@ -250,6 +251,7 @@ typedef struct bs_options {
   uint32_t transactions; /* how many may live at once, 1 to BS_SLOTS; by default BS_SLOTS */
   uint32_t nodes;        /* how many may live at once, 1 to 2^31, records and intervals among them; by default 65,536 */
   uint32_t bounds;       /* how many an index may have at most, 1 to 2^31; by default 256 */
+  uint32_t parts;        /* of a table: its parts, 1 to 63 (burlapslate_group.h); by default 1, as of a manager */
 } bs_options;
 
 /* What a manager has done since it was made, in commands that it accepted. Each count stops at the greatest
@@ -289,6 +291,7 @@ static inline bs_reply bs_make(bs_manager *manager, const bs_options *options) {
   bs_status misfit = bs_call_misfit();
   if (manager == NULL) return bs_call_null();
   if (misfit != BS_DONE) return bs_call_only(misfit);
+  if (chosen.parts > 1) return bs_call_only(BS_BAD_NUMBER);
   return bs_call_make_with(manager, chosen.detect, chosen.victims, chosen.transactions, chosen.nodes, chosen.bounds);
 }
 
@@ -782,6 +785,7 @@ static inline bs_reply bs_limits(const bs_manager *manager, bs_options *options)
   options->transactions = (uint32_t)bs_call_most(manager).count;
   options->nodes = (uint32_t)bs_call_most_nodes(manager).count;
   options->bounds = (uint32_t)bs_call_most_bounds(manager).count;
+  options->parts = 1;
   return bs_call_only(BS_DONE);
 }
 
@@ -970,6 +974,7 @@ static inline const char *bs_text(bs_status status) {
     case BS_NOT_WRITTEN: return "NotWritten";
     case BS_TOO_LATE: return "TooLate";
     case BS_NO_TRACE: return "NoTrace";
+    case BS_IN_PARTS: return "InParts";
     default: return "?";
   }
 }

@@ -213,11 +213,12 @@ static inline const uint64_t *bs_call_numbers(const uint64_t *list) {
 
 /* The options of a caller that may know fewer of them, with each default as its number. */
 static inline bs_options bs_call_chosen(const bs_options *given, size_t size) {
-  bs_options options = { 0, 0, 0, 0, 0 };
+  bs_options options = { 0, 0, 0, 0, 0, 0 };
   if (given != NULL) memcpy(&options, given, size < sizeof options ? size : sizeof options);
   if (options.transactions == 0) options.transactions = BS_SLOTS;
   if (options.nodes == 0) options.nodes = 65536;
   if (options.bounds == 0) options.bounds = 256;
+  if (options.parts == 0) options.parts = 1;
   return options;
 }
 

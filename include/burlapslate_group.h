@@ -107,6 +107,10 @@ static inline bs_reply bs_group_make(bs_table_group **group, const bs_options *o
   return misfit == BS_DONE ? bs_call_group_make(group, options, sizeof *options, parts) : bs_call_only(misfit);
 }
 
+/* The group of a table with parts: for calls that a table has not, as bs_group_add_file with a part. Null for any other
+ * table. */
+bs_table_group *bs_table_group_of(bs_table *table);
+
 /* Ends a group, as bs_table_end ends a table: each call from now on, and each that sleeps, is answered BS_NO_MANAGER.
  * Refused with BS_NO_MANAGER also if another thread is ending it. */
 bs_reply bs_group_end(bs_table_group *group);
@@ -271,8 +275,8 @@ bs_reply bs_group_watch_thread(bs_table_group *group, uint64_t pace);
 /* As bs_table_run, but each command is a critical section of its own, in the tables that it needs. BS_DO_LOCK and
  * BS_DO_LOCK_ROW also lock what must be held above, as BS_DO_TRY and BS_DO_TRY_ROW do: these keep nothing if they are
  * refused. So does BS_DO_INSERT_PATH, whatever its `keep` is. A new file is in each part by turns. `told` is emptied.
- * There is no BS_DO_MOVE, BS_DO_SETTLE, BS_DO_MARK and BS_DO_RELEASE_SINCE: they are refused with BS_BAD_NUMBER.
- * A lock that is left waiting goes on by itself. */
+ * There is no BS_DO_MOVE and BS_DO_SETTLE: they are refused with BS_BAD_NUMBER. BS_DO_MARK and BS_DO_RELEASE_SINCE have a
+ * number for a savepoint of all parts, as bs_table_mark of a table with parts. A lock that is left waiting goes on by itself. */
 size_t bs_group_run(bs_table_group *group, bs_command *commands, size_t count);
 
 /* Sleeps until the end of the lock that a list of the transaction has left waiting, and answers it; after that it answers

@@ -75,7 +75,7 @@ class _Reply(c.Structure):
 
 
 class _Options(c.Structure):
-    _fields_ = [(name, c.c_uint32) for name in ("detect", "victims", "transactions", "nodes", "bounds")]
+    _fields_ = [(name, c.c_uint32) for name in ("detect", "victims", "transactions", "nodes", "bounds", "parts")]
 
 
 class _Time(c.Structure):
@@ -215,7 +215,7 @@ class Table:
     def __init__(self, detect=AT_BLOCK, victims=YOUNGEST, transactions=0, nodes=0, bounds=0):
         """With 0 each limit has the library's default. Raises Refused for numbers out of range and without memory."""
         self._at = _T()
-        _done(_make(c.byref(self._at), c.byref(_Options(detect, victims, transactions, nodes, bounds))))
+        _done(_make(c.byref(self._at), c.byref(_Options(detect, victims, transactions, nodes, bounds, 1))))
 
     def close(self):
         """Ends the table: each call that sleeps is refused. No other thread may use it any more."""

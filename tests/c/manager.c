@@ -1342,7 +1342,7 @@ static void a_merge_is_refused(void) {
 
 /* A manager of six nodes, whose indexes have two bounds at most. */
 static void the_limits_of_a_manager_hold_for_splits(void) {
-  static const bs_options options = { BS_AT_BLOCK, BS_YOUNGEST, 4, 6, 2 };
+  static const bs_options options = { BS_AT_BLOCK, BS_YOUNGEST, 4, 6, 2, 1 };
   static const uint64_t bound = 10;
   DONE(bs_make(m, &options));
   db = DONE(bs_add_inner(m, NULL, 0)).node;
@@ -1649,7 +1649,7 @@ static void an_index_beside_records_is_refused(void) {
 
 /* A manager of six nodes, whose indexes have one bound at most; and the eighth index of a file. */
 static void the_limits_of_a_manager_hold_beside_records(void) {
-  static const bs_options options = { BS_AT_BLOCK, BS_YOUNGEST, 4, 6, 1 };
+  static const bs_options options = { BS_AT_BLOCK, BS_YOUNGEST, 4, 6, 1, 1 };
   static const uint64_t bounds[2] = { 10, 20 };
   size_t i;
   DONE(bs_make(m, &options));

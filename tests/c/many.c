@@ -40,7 +40,7 @@ static bs_txn begin(void) {
 }
 
 static void make_graph(uint32_t nodes) {
-  bs_options options = { 0, 0, 0, 0, 0 }, was;
+  bs_options options = { 0, 0, 0, 0, 0, 0 }, was;
   options.nodes = nodes;
   done(bs_make(&m, &options));
   done(bs_limits(&m, &was));

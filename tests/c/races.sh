@@ -19,7 +19,9 @@ compile() {
   local with=("${@:3}") compiler=${CC:-cc}
   [ "$2" = running ] || with+=("$top/c/burlapslate_running.c")
   [ "$2" = traces ] || with+=("$top/c/burlapslate_trace.c")
-  [[ $2 != group* ]] || with+=("$top/c/burlapslate_shared.c")
+  [[ $2 != group* && $2 != parts ]] || with+=("$top/c/burlapslate_shared.c")
+  [[ $2 == group* ]] || with+=("$top/c/burlapslate_group.c")
+  [ "$2" != parts ] || with+=("$top/c/burlapslate_dump.c")
   # shellcheck disable=SC2054 # The commas are of one word.
   [ "$2" = crowd ] || with+=(-Wl,--wrap=malloc,--wrap=realloc,--wrap=free)
   # shellcheck disable=SC2086 # CC may have words after the name.
@@ -61,9 +63,11 @@ for tool in "$@"; do
         quiet "tsan, rows and their paths" "$work/row_paths-tsan" 60 || status=1
         quiet "tsan, times" "$work/running-tsan" 60 || status=1
         quiet "tsan, traces" "$work/traces-tsan" 60 || status=1
-        compile groups-tsan groups -fsanitize=thread && compile group_asks-tsan group_asks -fsanitize=thread || exit 1
+        compile groups-tsan groups -fsanitize=thread && compile group_asks-tsan group_asks -fsanitize=thread &&
+          compile parts-tsan parts -fsanitize=thread || exit 1
         quiet "tsan, a group" "$work/groups-tsan" || status=1
         quiet "tsan, the asks of a group" "$work/group_asks-tsan" || status=1
+        quiet "tsan, a table with parts" "$work/parts-tsan" || status=1
       elif command -v valgrind >/dev/null; then
         compile shared shared && compile asks asks && compile begins begins && compile waits waits &&
           compile own_ends own_ends && compile row_paths row_paths && compile running running || exit 1
@@ -86,7 +90,8 @@ for tool in "$@"; do
         ! compile own_ends-tsan own_ends -fsanitize=thread || ! compile row_paths-tsan row_paths -fsanitize=thread ||
         ! compile running-tsan running -fsanitize=thread ||
         ! compile traces-tsan traces -fsanitize=thread || ! compile groups-tsan groups -fsanitize=thread ||
-        ! compile group_asks-tsan group_asks -fsanitize=thread || ! compile crowd-tsan crowd -fsanitize=thread; then
+        ! compile group_asks-tsan group_asks -fsanitize=thread || ! compile parts-tsan parts -fsanitize=thread ||
+        ! compile crowd-tsan crowd -fsanitize=thread; then
         echo "tsan: this compiler has none, so nothing was tried"
         continue
       fi
@@ -100,6 +105,7 @@ for tool in "$@"; do
       quiet "tsan, traces" "$work/traces-tsan" 300 || status=1
       quiet "tsan, a group" "$work/groups-tsan" || status=1
       quiet "tsan, the asks of a group" "$work/group_asks-tsan" || status=1
+      quiet "tsan, a table with parts" "$work/parts-tsan" || status=1
       quiet "tsan, a crowd in a group" "$work/groups-tsan" 20 || status=1
       quiet "tsan, the crowd" "$work/crowd-tsan" 4 300 || status=1
       ;;

@@ -30,9 +30,9 @@ mapfile -t libraries < <("$top/tools/c_library.sh" --slots "$slots" 2>"$work/log
 compile() {
   local with=("${libraries[@]}")
   case $1 in
-    shared | crowd | asks | begins | waits | sessions | own_ends | row_paths) with=(-I"$top/c" "$top"/c/burlapslate_{running,trace}.c "${libraries[@]:1}") ;;
-    running) with=(-I"$top/c" "$top/c/burlapslate_trace.c" "${libraries[@]:1}") ;;
-    traces) with=(-I"$top/c" "$top/c/burlapslate_running.c" "${libraries[@]:1}") ;;
+    shared | crowd | asks | begins | waits | sessions | own_ends | row_paths) with=(-I"$top/c" "$top"/c/burlapslate_{group,running,trace}.c "${libraries[@]:1}") ;;
+    running) with=(-I"$top/c" "$top"/c/burlapslate_{group,trace}.c "${libraries[@]:1}") ;;
+    traces) with=(-I"$top/c" "$top"/c/burlapslate_{group,running}.c "${libraries[@]:1}") ;;
     groups | group_asks) with=(-I"$top/c" "${libraries[@]}") ;;
     schemas | twins | scenarios) with=("$top/tests/c/naive.c" "${libraries[@]}") ;;
   esac
@@ -114,6 +114,8 @@ compile traces -Wl,--wrap=malloc,--wrap=realloc,--wrap=free || exit 1
 timeout 60 "$work/traces" || exit 1
 compile groups -Wl,--wrap=malloc,--wrap=realloc,--wrap=free || exit 1
 timeout 60 "$work/groups" || exit 1
+compile parts -Wl,--wrap=malloc,--wrap=realloc,--wrap=free || exit 1
+timeout 60 "$work/parts" || exit 1
 compile group_asks -Wl,--wrap=malloc,--wrap=realloc,--wrap=free || exit 1
 timeout 60 "$work/group_asks" || exit 1
 compile crowd || exit 1

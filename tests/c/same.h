@@ -38,7 +38,7 @@ static inline uint64_t accepted_by(const bs_manager *m) {
 }
 
 static inline bs_options options_of(uint32_t detect, uint32_t victims, uint32_t transactions) {
-  bs_options options = { 0, 0, 0, 0, 0 };
+  bs_options options = { 0, 0, 0, 0, 0, 0 };
   options.detect = detect;
   options.victims = victims;
   options.transactions = transactions;
@@ -52,7 +52,7 @@ static inline bs_reply make_manager(bs_manager *m, uint32_t detect, uint32_t tra
 
 /* The limits of a manager. */
 static inline bs_options limits_of(const bs_manager *m) {
-  bs_options limits = { 0, 0, 0, 0, 0 };
+  bs_options limits = { 0, 0, 0, 0, 0, 0 };
   bs_limits(m, &limits);
   return limits;
 }

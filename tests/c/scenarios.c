@@ -399,7 +399,7 @@ static void make_many(void) {
 
 static bs_options options_of_seed(void) {
   static const uint32_t slots[] = { 4, 10, 32, 128 };
-  bs_options options = { 0, 0, 0, MOST_NODES, MOST_BOUNDS };
+  bs_options options = { 0, 0, 0, MOST_NODES, MOST_BOUNDS, 0 };
   options.detect = seed % 2 == 0 ? BS_AT_BLOCK : BS_BY_WATCHER;
   options.victims = seed / 2 % 2 == 0 ? BS_YOUNGEST : BS_FEWEST;
   options.transactions = slots[seed / 4 % 4];

@@ -3855,7 +3855,7 @@ static void an_end_in_the_middle(void) {
 
 static void a_table_by_options(void) {
   bs_table *t = NULL;
-  bs_options options = { 0, 0, 0, 0, 0 }, was = options;
+  bs_options options = { 0, 0, 0, 0, 0, 0 }, was = options;
   options.transactions = 5;
   options.nodes = 70000;
   options.bounds = 300;

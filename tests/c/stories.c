@@ -196,7 +196,7 @@ static void a_deadlock_has_a_victim(void) {
 /* Two young readers hold what an old writer requests, and wait for what it holds: the victim depends on the choice. */
 static bs_status asks_in_their_way(uint32_t choice) {
   bs_manager m = BS_NO_MANAGER_HERE;
-  bs_options options = { 0, 0, 0, 0, 0 };
+  bs_options options = { 0, 0, 0, 0, 0, 0 };
   bs_node wanted_node, held;
   bs_txn a, b, c;
   bs_status status;
@@ -1281,7 +1281,7 @@ static void numbers_out_of_range(void) {
 
 static void options_are_taken(void) {
   bs_manager m = BS_NO_MANAGER_HERE, usual = BS_NO_MANAGER_HERE;
-  bs_options options = { 0, 0, 0, 0, 0 }, was = options;
+  bs_options options = { 0, 0, 0, 0, 0, 0 }, was = options;
   bs_node root;
   DONE(bs_make(&usual, &options)); /* 0 means the default in each of them */
   was = limits_of(&usual);
@@ -1340,7 +1340,7 @@ static void has_bounds(const bs_options *options, uint32_t most) {
 
 static void bounds_are_chosen_for_themselves(void) {
   bs_manager m = BS_NO_MANAGER_HERE;
-  bs_options options = { 0, 0, 0, 0, 0 };
+  bs_options options = { 0, 0, 0, 0, 0, 0 };
   has_bounds(NULL, 256);
   options.nodes = 70000;
   has_bounds(&options, 256);
@@ -1360,7 +1360,7 @@ static void bounds_are_chosen_for_themselves(void) {
 
 static void intervals_are_nodes(void) {
   bs_manager m = BS_NO_MANAGER_HERE;
-  bs_options options = { 0, 0, 0, 0, 0 };
+  bs_options options = { 0, 0, 0, 0, 0, 0 };
   const uint64_t bounds[3] = { 1, 2, 3 };
   bs_node root, file, index;
   bs_txn a;
