@@ -70,6 +70,19 @@
  * leave in no other way; a pthread_cancel takes effect after it. It must acquire no mutex that any thread holds around
  * a call of the table. The thread whose call it is waits for it: so it must be short, as a write to an eventfd that
  * wakes the loop.
+ *
+ * PARTS. If `options.parts` is more than 1, a table has so many parts, with a latch each, and so serves many cores. Its
+ * calls are those of the group of tables that bs_table_group_of names, and burlapslate_group.h has the rules: what is
+ * locked where, what a call costs, and how deadlocks over parts are detected. It takes BS_AT_BLOCK alone, and
+ *   - bs_table_lock, bs_table_try, bs_table_ask, the like of rows, and bs_table_insert lock what must be held above too;
+ *   - each command of a list is a critical section of its own, and what a list has left waiting goes on by itself:
+ *     bs_table_await sleeps until its end, whatever node and mode it is given;
+ *   - `told` is emptied;
+ *   - a savepoint takes memory, and a rollback keeps what the transaction has in the main table;
+ *   - a session keeps intentions as bs_group_keep does, at least as many as it says;
+ *   - bs_table_hold lends nothing; bs_group_hold lends the manager of a part;
+ *   - bs_table_move, bs_table_settle, bs_table_watch, bs_table_ask_await, asks of begins, bs_table_dump,
+ *     bs_table_name_nodes, traces, and the calls of burlapslate_running.h are refused with BS_IN_PARTS.
  */
 #ifndef BURLAPSLATE_SHARED_H
 #define BURLAPSLATE_SHARED_H
@@ -94,7 +107,7 @@ typedef struct bs_table bs_table;
  * Tables.
  */
 
-/* Makes a table, by options as bs_make takes them, and writes the pointer to it, which must be null before. If it is
+/* Makes a table, by options as bs_make takes them, or with parts (see above), and writes the pointer to it, which must be null before. If it is
  * refused, it writes nothing. Refused with BS_NULL_POINTER, BS_OTHER_VERSION, BS_OTHER_SLOTS, with BS_IN_USE if the
  * pointer is not null, and with BS_BAD_NUMBER, BS_NO_MEMORY. Takes memory. */
 static inline bs_reply bs_table_make(bs_table **table, const bs_options *options) {

@@ -767,7 +767,7 @@ static void goes_further(void) {
 /* Opens both, and draws from this stream from now on. */
 static void opens(uint64_t stream) {
   static const bs_txn nobody = { 0, 0 };
-  bs_options options = { 0, 0, TXNS, MOST_NODES, MOST_BOUNDS };
+  bs_options options = { 0, 0, TXNS, MOST_NODES, MOST_BOUNDS, 0 };
   size_t i;
   ended = nobody;
   options.detect = scenario->detect;

@@ -1312,7 +1312,7 @@ static void options_are_taken(void) {
 
 /* A caller may know fewer options than the library, or more. */
 static void options_of_another_size(void) {
-  struct { bs_options known; uint32_t more; } longer = { { 0, 0, 0, 9, 7 }, 5 };
+  struct { bs_options known; uint32_t more; } longer = { { 0, 0, 0, 9, 7, 0 }, 5 };
   WANT(bs_call_chosen(&longer.known, sizeof longer).bounds == 7);
   WANT(bs_call_chosen(&longer.known, offsetof(bs_options, bounds)).nodes == 9);
   WANT(bs_call_chosen(&longer.known, offsetof(bs_options, bounds)).bounds == 256);

@@ -24,7 +24,7 @@ mapfile -t libraries < <("$top/tools/c_library.sh" 2>"$work/log")
 compile() {
   # shellcheck disable=SC2086 # CC may have words after the name.
   $compiler -std=c99 -D_POSIX_C_SOURCE=200809L -pthread -O1 -I"$top/include" -I"$top/c" -o "$work/$1" \
-    "$top/tests/c/$1.c" "$top/c/burlapslate_running.c" "${libraries[@]:1}" "${@:2}"
+    "$top/tests/c/$1.c" "$top"/c/burlapslate_{group,running}.c "${libraries[@]:1}" "${@:2}"
 }
 
 # says TRACE: the answers and notices that a trace says.
