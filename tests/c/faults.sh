@@ -455,6 +455,22 @@ group-turns-are-kept	/ group_begin_by_turn(/,/^}/s/^  bs_table_abort(.*//
 group-renews-as-new	/^bs_reply bs_group_renew(/,/^}/s/group_begin_in(group, own, since)/group_begin_in(group, own, UINT64_MAX)/
 group-watches-never	/group_watch_over(void/,/^}/s/ group_settle_all(group);/ ;/
 group-leaves-who-sleeps-for-a-slot	/ group_end_turns(/,/^}/s/^  if (turns->table != NULL) bs_table_end(turns->table);//
+parts-leave-told	/ table_told_nobody(/,/^}/s/^  if (told != NULL) told->count = 0;//
+parts-lend-a-manager	/^static inline bool table_enter(/,/^}/s/ || table->group != NULL//
+parts-refuse-as-ended	/^static bs_status table_shut(/,/^}/s/^  if (table->group != NULL) .*//
+parts-leave-their-memory	/^static bs_reply table_free_parts(/,/^}/s/^  free(\*table);//
+parts-sum-no-locks	/^bs_reply bs_inside_mark(/,/^}/s/reply.count += savepoint/reply.count = savepoint/
+parts-keep-old-savepoints	/ \*group_new_savepoint(/,/^}/s/^    own->savepoint_count--;/    break;/
+parts-keep-savepoints-of-others	/ group_end_in_all(/,/^}/s/^  own->savepoint_count = 0;//
+parts-roll-back-to-an-older-one	/^bs_reply bs_inside_release_to(/,/^}/s/^  while (place < own->savepoint_count .*/  while (place + 1 < own->savepoint_count \&\& group_savepoint_at(group, own, place + 1)[0] <= locks) place++;/
+parts-forget-a-savepoint	/^bs_reply bs_inside_mark(/,/^}/s/^  memcpy(place + 1.*//
+parts-session-begins-twice	/^bs_reply bs_inside_session_begin(/,/^}/s/^  if (group_named(.*//
+parts-session-ends-in-a-transaction	/^bs_reply bs_inside_session_end(/,/^}/s/^  if (group_named(.*//
+parts-session-begins-as-new	/^bs_reply bs_inside_session_begin(/,/^}/s/group, since, until/group, UINT64_MAX, until/
+parts-session-keeps-nothing	/^static bs_reply group_session_has(/,/^}/s/^  if (__atomic_load_n(&group->most_kept.*//
+parts-session-commits-others	/^size_t bs_inside_session_run(/,/^}/s/if (is_own \&\& next->kind == BS_DO_COMMIT)/if (next->kind == BS_DO_COMMIT)/
+parts-session-loses-what-it-renewed	/^size_t bs_inside_session_run(/,/^}/s/^    if (is_own \&\& next->kind == BS_DO_RENEW) .*//
+parts-insert-with-any-keep	/^bs_reply bs_table_insert_path(/,/^}/s/keep > BS_KEEP_WAY ?/false ?/
 a-refused-list-of-a-session-tells	/^size_t bs_session_run(/,/^}/s/^    table_list_of(table, commands\[0\].told)->count = 0;//
 FAULTS
 }

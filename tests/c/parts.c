@@ -198,11 +198,29 @@ static void calls_are_those_of_a_table(world *w) {
   commit(w, next);
 }
 
-/* Transfers one of the lists. */
+/* Whether something rests for the next transaction of this one's slot in the part of a file. */
+static bool rests(world *w, bs_txn txn, bs_node file) {
+  bs_table_group *group = bs_table_group_of(w->table);
+  const bs_manager *m = bs_group_hold(group, bs_group_table(file));
+  bool is_there = bs_living(m, txn.slot).status == BS_DONE;
+  DONE(bs_group_let_go(group, bs_group_table(file)));
+  return is_there;
+}
+
+/* A session's transaction waits, for work that began before that of the other one, which closes a cycle. */
+static void old_work_is_no_victim(world *w, bs_session *session, bs_txn other) {
+  bs_command list = bs_do_at(BS_DO_LOCK, bs_begun(), w->records[0][1], BS_X);
+  DONE(bs_table_lock_path(w->table, session->txn, w->records[0][0], BS_X, NULL));
+  DONE(bs_table_lock_path(w->table, other, w->records[0][1], BS_X, NULL));
+  WANT(bs_session_run(session, &list, 1) == 0 && list.reply.status == BS_WAITING);
+  ANSWERS(BS_VICTIM, bs_table_lock_path(w->table, other, w->records[0][0], BS_X, NULL));
+  DONE(bs_table_cancel(w->table, session->txn, NULL));
+}
+
 static void lists_and_sessions_are_run(world *w) {
   bs_session session = bs_session_of(w->table, 16);
   bs_command list[4];
-  bs_txn holder = begun(w);
+  bs_txn holder = begun(w), other;
   bs_notices told;
   size_t places;
   ANSWERS(BS_NO_SUCH_TXN, bs_session_commit(&session, &told));
@@ -212,8 +230,9 @@ static void lists_and_sessions_are_run(world *w) {
   ANSWERS(BS_IN_USE, bs_session_end(&session));
   DONE(bs_table_lock_path(w->table, session.txn, w->records[0][0], BS_X, NULL));
   told.count = 2;
+  other = session.txn;
   DONE(bs_session_commit(&session, &told));
-  WANT(told.count == 0 && session.txn.age == 0);
+  WANT(told.count == 0 && session.txn.age == 0 && rests(w, other, w->files[0]));
   list[0] = bs_do_at(BS_DO_LOCK_PATH, bs_begun(), w->records[0][1], BS_X);
   list[1] = bs_do(BS_DO_MARK, bs_begun());
   list[2] = bs_do(BS_DO_RENEW, bs_begun());
@@ -230,7 +249,13 @@ static void lists_and_sessions_are_run(world *w) {
   list[0] = bs_do_at(BS_DO_TRY, holder, w->records[1][0], BS_S);
   list[1] = bs_do_at(BS_DO_LOCK, holder, w->records[1][1], BS_S);
   WANT(bs_table_try_first(w->table, list, 1) == 0 && bs_table_run(w->table, list, 2) == 2);
-  DONE(bs_session_begin_again(&session, 3, NULL));
+  other = begun(w);
+  DONE(bs_session_begin_again(&session, 1, NULL));
+  old_work_is_no_victim(w, &session, other);
+  DONE(bs_table_abort(w->table, other, NULL));
+  other = begun(w);
+  list[0] = bs_do(BS_DO_COMMIT, other);
+  WANT(bs_session_run(&session, list, 1) == 1);
   commit(w, session.txn);
   DONE(bs_session_end(&session));
   places = 0;
@@ -332,6 +357,11 @@ static void numbers_release_nothing_older(world *w) {
   DONE(bs_table_lock_path(w->table, txn, w->records[2][0], BS_X, NULL));
   WANT(DONE(bs_table_release_since(w->table, txn, 2, NULL)).count == 3);
   WANT(held(w, txn, w->files[0]) == BS_IX);
+  commit(w, txn);
+  /* The next transaction of the slot has no savepoint. */
+  txn = begun(w);
+  DONE(bs_table_lock_path(w->table, txn, w->records[1][0], BS_X, NULL));
+  WANT(DONE(bs_table_release_since(w->table, txn, 1, NULL)).count == 0);
   commit(w, txn);
 }
 
