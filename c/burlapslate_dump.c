@@ -333,9 +333,24 @@ static bs_reply dump_of(const bs_manager *held, bs_table *table, FILE *out) {
   return bs_call_only(is_whole ? BS_DONE : BS_NO_MANAGER);
 }
 
+/* Dumps each table of one with parts, up to the first that refuses it. */
+static bs_reply dump_of_group(bs_table_group *group, FILE *out) {
+  bs_table *table = bs_inside_table_of(group, 0);
+  bs_reply reply = bs_call_only(BS_DONE);
+  uint32_t number;
+  for (number = 0; table != NULL && reply.status == BS_DONE; table = bs_inside_table_of(group, ++number)) {
+    if (number == 0) fprintf(out, "Main table:\n");
+    else fprintf(out, "\nPart %u:\n", number);
+    reply = bs_table_dump(table, out);
+  }
+  return reply;
+}
+
 bs_reply bs_table_dump(bs_table *table, FILE *file) {
+  bs_table_group *group = bs_table_group_of(table);
   bs_status shut = bs_call_table_shut(table);
   if (file == NULL) return bs_call_null();
+  if (group != NULL) return dump_of_group(group, file);
   return shut == BS_DONE ? dump_of(NULL, table, file) : bs_call_only(shut);
 }
 

@@ -2627,6 +2627,10 @@ bs_reply bs_group_await(bs_table_group *group, bs_txn txn, const struct timespec
   return group_await_end(own->ask, until);
 }
 
+bs_table *bs_inside_table_of(bs_table_group *group, uint32_t number) {
+  return number <= group->parts ? group->tables[number].table : NULL;
+}
+
 /* ------------------------------------------------------------------------------------------------
  * Savepoints by a number, and sessions.
  */

@@ -137,7 +137,6 @@ static void what_parts_have_not_is_refused(world *w) {
   ANSWERS(BS_IN_PARTS, bs_table_metrics(w->table, dislikes_text, NULL));
   ANSWERS(BS_IN_PARTS, bs_table_trace(w->table, 1));
   ANSWERS(BS_IN_PARTS, bs_table_trace_end(w->table));
-  ANSWERS(BS_IN_PARTS, bs_table_dump(w->table, stdout));
   ANSWERS(BS_IN_PARTS, bs_table_name_nodes(w->table, NULL, NULL));
   WANT(strcmp(bs_text(BS_IN_PARTS), "InParts") == 0);
   commit(w, txn);
@@ -293,6 +292,33 @@ static void asks_are_told(world *w) {
   DONE(bs_table_watch_thread(w->table, 1000000));
   commit(w, one);
   commit(w, other);
+}
+
+/* Whether a file has a line. */
+static bool has_line(FILE *file, const char *line) {
+  char text[256];
+  rewind(file);
+  while (fgets(text, sizeof text, file) != NULL) {
+    if (strncmp(text, line, strlen(line)) == 0) return true;
+  }
+  return false;
+}
+
+static void each_part_is_dumped(world *w) {
+  bs_table_group *group = bs_table_group_of(w->table);
+  bs_txn txn = begun(w);
+  FILE *file = tmpfile();
+  WANT(file != NULL);
+  DONE(bs_table_lock_path(w->table, txn, w->records[0][0], BS_X, NULL));
+  ANSWERS(BS_NULL_POINTER, bs_table_dump(w->table, NULL));
+  DONE(bs_table_dump(w->table, file));
+  WANT(has_line(file, "Main table:") && has_line(file, "Part 1:") && has_line(file, "Part 5:"));
+  WANT(!has_line(file, "Part 6:") && has_line(file, "Locks by transaction:"));
+  WANT(bs_group_hold(group, 1) != NULL);
+  ANSWERS(BS_IN_USE, bs_table_dump(w->table, file));
+  DONE(bs_group_let_go(group, 1));
+  fclose(file);
+  commit(w, txn);
 }
 
 /* ------------------------------------------------------------------------------------------------
@@ -521,6 +547,7 @@ int main(void) {
   PLAY(calls_are_those_of_a_table);
   PLAY(lists_and_sessions_are_run);
   PLAY(asks_are_told);
+  PLAY(each_part_is_dumped);
   play_twins();
   PLAY(numbers_release_nothing_older);
   story = "threads_move_money";
