@@ -2627,6 +2627,12 @@ bs_reply bs_group_await(bs_table_group *group, bs_txn txn, const struct timespec
   return group_await_end(own->ask, until);
 }
 
+bs_reply bs_inside_lives(bs_table_group *group, bs_txn txn) {
+  bs_status shut = group_shut(group);
+  if (shut != BS_DONE) return group_only(shut);
+  return group_only(group_named(group, txn) == NULL ? BS_NO_SUCH_TXN : BS_DONE);
+}
+
 bs_table *bs_inside_table_of(bs_table_group *group, uint32_t number) {
   return number <= group->parts ? group->tables[number].table : NULL;
 }

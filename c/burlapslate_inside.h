@@ -203,6 +203,9 @@ bs_status bs_inside_end_resting(bs_table *table);
 /* A table of the group by its number; null if it has none. */
 bs_table *bs_inside_table_of(bs_table_group *group, uint32_t number);
 
+/* Whether a transaction of the group has this name: BS_DONE, or why not. */
+bs_reply bs_inside_lives(bs_table_group *group, bs_txn txn);
+
 bs_reply bs_inside_mark(bs_table_group *group, bs_txn txn);
 bs_reply bs_inside_release_to(bs_table_group *group, bs_txn txn, uint64_t savepoint);
 bs_reply bs_inside_session_begin(bs_session *session, uint64_t since, const struct timespec *until);

@@ -301,21 +301,76 @@ static void running_copy_waits(const bs_running *running, bs_waits *waits) {
   waits->longest = running_longest(running, bs_call_now(), &waits->waiting);
 }
 
+/* Adds the waits of one part to those of others. */
+static void running_add_waits(bs_waits *all, const bs_waits *one) {
+  size_t end, bucket;
+  for (end = 0; end < BS_WAIT_ENDS; end++) {
+    bs_histogram *to = &all->ended[end];
+    for (bucket = 0; bucket < BS_WAIT_BUCKETS; bucket++) to->buckets[bucket] += one->ended[end].buckets[bucket];
+    to->nanoseconds = running_sum(to->nanoseconds, one->ended[end].nanoseconds);
+  }
+  all->waiting += one->waiting;
+  all->longest = running_later(all->longest, one->longest);
+}
+
+/* The waits of all parts, each of its own moment. */
+static bs_reply running_waits_of_parts(bs_table_group *group, bs_waits *waits) {
+  bs_table *part = bs_inside_table_of(group, 0);
+  bs_reply reply = bs_call_only(BS_DONE);
+  bs_waits all, one;
+  uint32_t number = 0;
+  memset(&all, 0, sizeof all);
+  for (; part != NULL && reply.status == BS_DONE; part = bs_inside_table_of(group, ++number)) {
+    reply = bs_table_waits(part, &one);
+    if (reply.status == BS_DONE) running_add_waits(&all, &one);
+  }
+  if (reply.status == BS_DONE) *waits = all;
+  return reply;
+}
+
 bs_reply bs_table_waits(bs_table *table, bs_waits *waits) {
+  bs_table_group *group = bs_table_group_of(table);
   const bs_manager *m = waits == NULL ? NULL : bs_table_hold(table);
+  if (group != NULL && waits != NULL) return running_waits_of_parts(group, waits);
   if (m == NULL) return waits == NULL ? bs_call_null() : running_refused(table);
   running_copy_waits(bs_call_running(m), waits);
   bs_table_let_go(table);
   return bs_call_only(BS_DONE);
 }
 
-bs_reply bs_table_waited(bs_table *table, bs_txn txn) {
-  const bs_manager *m = bs_table_hold(table);
-  bs_reply reply;
-  if (m == NULL) return running_refused(table);
-  reply = bs_call_doing(m, txn);
+/* For how long a transaction has waited in a manager that this thread holds. */
+static bs_reply running_waited_here(const bs_manager *m, bs_txn txn) {
+  bs_reply reply = bs_call_doing(m, txn);
   if (reply.status == BS_DONE && reply.count != BS_WAITS) reply = bs_call_only(BS_NOT_WAITING);
   if (reply.status == BS_DONE) reply.count = running_from(bs_call_running(m)->waits[txn.slot].since, bs_call_now());
+  return reply;
+}
+
+/* The same in the part where a transaction of a group waits, with the name of the node in the group. */
+static bs_reply running_waited_in_parts(bs_table_group *group, bs_txn txn) {
+  bs_reply reply = bs_inside_lives(group, txn);
+  uint32_t number;
+  for (number = 0; reply.status == BS_DONE; number++) {
+    bs_table *part = bs_inside_table_of(group, number);
+    const bs_manager *m = part == NULL ? NULL : bs_table_hold(part);
+    if (part == NULL) return bs_call_only(BS_NOT_WAITING);
+    if (m == NULL) return running_refused(part);
+    reply = running_waited_here(m, bs_living(m, txn.slot).txn);
+    if (reply.status == BS_DONE) reply.node = bs_group_name_of(group, reply.node, number).node;
+    bs_table_let_go(part);
+    if (reply.status == BS_DONE) return reply;
+    reply.status = BS_DONE;
+  }
+  return reply;
+}
+
+bs_reply bs_table_waited(bs_table *table, bs_txn txn) {
+  bs_table_group *group = bs_table_group_of(table);
+  const bs_manager *m = bs_table_hold(table);
+  bs_reply reply;
+  if (group != NULL) return running_waited_in_parts(group, txn);
+  if (m == NULL) return running_refused(table);
+  reply = running_waited_here(m, txn);
   bs_table_let_go(table);
   return reply;
 }

@@ -81,8 +81,8 @@
  *   - a savepoint takes memory, and a rollback keeps what the transaction has in the main table;
  *   - a session keeps intentions as bs_group_keep does, at least as many as it says;
  *   - bs_table_hold lends nothing; bs_group_hold lends the manager of a part;
- *   - bs_table_move, bs_table_settle, bs_table_watch, bs_table_ask_await, asks of begins, bs_table_name_nodes, traces,
- *     and the calls of burlapslate_running.h are refused with BS_IN_PARTS.
+ *   - bs_table_move, bs_table_settle, bs_table_watch, bs_table_ask_await, asks of begins, bs_table_name_nodes,
+ *     bs_table_awaited, bs_table_on_long_wait, bs_table_metrics and traces are refused with BS_IN_PARTS.
  */
 #ifndef BURLAPSLATE_SHARED_H
 #define BURLAPSLATE_SHARED_H

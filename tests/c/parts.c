@@ -119,7 +119,6 @@ static void what_parts_have_not_is_refused(world *w) {
   bs_watcher watcher = BS_NO_WATCHER_HERE;
   bs_notices told;
   bs_awaited awaited;
-  bs_waits waits;
   told.count = 4;
   WANT(bs_table_hold(w->table) == NULL);
   ANSWERS(BS_NOT_HELD, bs_table_let_go(w->table));
@@ -130,8 +129,6 @@ static void what_parts_have_not_is_refused(world *w) {
   ANSWERS(BS_IN_PARTS, bs_table_ask_begin(w->table, NULL, NULL));
   ANSWERS(BS_IN_PARTS, bs_table_cancel_begin(w->table, NULL));
   ANSWERS(BS_IN_PARTS, bs_table_watch(w->table, &watcher));
-  ANSWERS(BS_IN_PARTS, bs_table_waits(w->table, &waits));
-  ANSWERS(BS_IN_PARTS, bs_table_waited(w->table, txn));
   ANSWERS(BS_IN_PARTS, bs_table_awaited(w->table, &awaited, false));
   ANSWERS(BS_IN_PARTS, bs_table_on_long_wait(w->table, 1, hears_nothing, NULL));
   ANSWERS(BS_IN_PARTS, bs_table_metrics(w->table, dislikes_text, NULL));
@@ -292,6 +289,30 @@ static void asks_are_told(world *w) {
   DONE(bs_table_watch_thread(w->table, 1000000));
   commit(w, one);
   commit(w, other);
+}
+
+/* Waits are counted and timed in their parts. */
+static void waits_are_timed(world *w) {
+  bs_txn holder = begun(w), txn = begun(w);
+  bs_command list = bs_do_at(BS_DO_LOCK, txn, w->records[2][0], BS_S);
+  bs_reply reply;
+  bs_waits waits;
+  ANSWERS(BS_NULL_POINTER, bs_table_waits(w->table, NULL));
+  DONE(bs_table_lock_path(w->table, holder, w->records[2][0], BS_X, NULL));
+  WANT(bs_table_run(w->table, &list, 1) == 0);
+  nap();
+  DONE(bs_table_waits(w->table, &waits));
+  WANT(waits.waiting == 1 && waits.longest > 0 && waits.ended[BS_END_GRANTED].nanoseconds == 0);
+  reply = DONE(bs_table_waited(w->table, txn));
+  WANT(reply.count >= waits.longest && reply.mode == BS_S);
+  WANT(reply.node.key == w->records[2][0].key && reply.node.birth == w->records[2][0].birth);
+  ANSWERS(BS_NOT_WAITING, bs_table_waited(w->table, holder));
+  commit(w, holder);
+  DONE(bs_table_waits(w->table, &waits));
+  WANT(waits.waiting == 0 && waits.longest == 0 && waits.ended[BS_END_GRANTED].nanoseconds > 0);
+  ANSWERS(BS_NO_SUCH_TXN, bs_table_waited(w->table, holder));
+  DONE(bs_table_await(w->table, txn, w->records[2][0], BS_S, NULL));
+  commit(w, txn);
 }
 
 /* Whether a file has a line. */
@@ -548,6 +569,7 @@ int main(void) {
   PLAY(lists_and_sessions_are_run);
   PLAY(asks_are_told);
   PLAY(each_part_is_dumped);
+  PLAY(waits_are_timed);
   play_twins();
   PLAY(numbers_release_nothing_older);
   story = "threads_move_money";
