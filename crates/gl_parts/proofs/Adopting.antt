@@ -1,5 +1,5 @@
 -- The node of a row that is made: no path to a row passes more by it.
-use Rattle.std.specs.Prelude.{◌≡◌, ℕ, zero, suc, true, ◌&&◌, List, [], ◌∷◌, Option, Some, None, if◌then◌else◌}
+use Rattle.std.specs.Prelude.{◌≡◌, ℕ, zero, suc, true, ◌&&◌, List, [], ◌∷◌, Option, Some, None, if◌then◌else◌, take}
 use Rattle.std.specs.List.{list_any}
 use Rattle.std.proofs.Common.{refl, sym, ap, arith, subst, ◌∙◌}
 use Rattle.gl_modes.specs.declared.node.NodeId.{NodeId}
@@ -17,7 +17,7 @@ use Rattle.gl_model.specs.State.{is_write}
 use Rattle.gl_parts.specs.declared.passing.Target.{Target}
 use Rattle.gl_parts.specs.Passing.{Passes, can_have, is_mode_of, starts}
 use Rattle.gl_parts.specs.Promises.{AdoptsPassNoMore}
-use Rattle.gl_parts.proofs.OldWays.{start_live, way_was}
+use Rattle.gl_parts.proofs.OldWays.{next_live, start_live, way_was}
 use Rattle.gl_parts.proofs.Paths.{begins, row_has}
 
 -- a file with the mark is a file
@@ -76,7 +76,12 @@ module _ (g : Graph) (law : IsLawfulGraph g) (key : ℕ) (keys : List ℕ) (file
         record {
           start = pass.start;
           is_one = one;
-          leads = (pass.leads.0, way_was g after law parents_stay (is_write x.mode) pass.start n pass.leads.0 live pass.leads.1);
+          leads = (
+            pass.leads.0,
+            way_was g after (is_write x.mode) (λ q. is_live g q ≡ true)
+                (λ q alive. ap (λ ps. if is_write x.mode then ps else take 1 ps) (parents_stay q alive)) (λ q p alive. next_live g law (is_write x.mode) q p)
+                pass.start n pass.leads.0 live pass.leads.1,
+          );
         })
         (λ e. absurd (no (sym (ap (λ b. list_any (same_node pass.start)
         (if b then x.node ∷ (if x.is_row && is_write x.mode then indexes_of after x.node else []) else [])) e) ∙ pass.is_one)))

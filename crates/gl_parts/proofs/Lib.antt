@@ -17,6 +17,7 @@ mod Ways
 mod Paths
 mod OldWays
 mod Adopting
+mod BesideRecords
 mod NewIndexes
 mod Rests
 mod Boards

@@ -1,166 +1,217 @@
 -- A new index: which paths pass more by it, and for which rows a call lacks a key.
-use Rattle.std.specs.Prelude.{◌≡◌, ◌↔◌, ℕ, true, false, ◌&&◌, ◌+◌, List, [], ◌∷◌, ◌++◌, if◌then◌else◌, take}
+use Rattle.std.specs.Prelude.{◌≡◌, ◌≢◌, ◌↔◌, ◌⊎◌, Bool, true, false, not, ◌&&◌, List, [], ◌∷◌, ◌++◌, if◌then◌else◌, take}
 use Rattle.std.specs.List.{list_any}
-use Rattle.std.proofs.Common.{refl, sym, ap, arith, subst, ◌∙◌}
+use Rattle.std.proofs.Common.{refl, sym, ap, ap₂, inl, inr, subst, ⊎_elim, ◌∙◌}
 use Rattle.std.proofs.lemmas.List.{append-nil}
 use Rattle.std.proofs.lemmas.List.Folds.{list_any-append}
 use Rattle.gl_modes.specs.declared.node.NodeId.{NodeId}
 use Rattle.gl_modes.specs.Nodes.{same_node}
-use Rattle.gl_modes.proofs.NodeLemmas.{node_is, same_node-equal, same_node-refl}
-use Rattle.gl_modes.proofs.Words.{and_both, both, clash, or_left, or_right, split}
-use Rattle.gl_graph.specs.Changes.{IsIndexBorn, born_index}
-use Rattle.gl_graph.specs.Graph.{Graph, indexes_of, is_live, node_at, parents_in, parents_of, shape_in, shape_of}
+use Rattle.gl_modes.proofs.NodeLemmas.{same_node-refl}
+use Rattle.gl_modes.proofs.Words.{and_both, both, clash, not_true, or_left, or_right, split}
+use Rattle.gl_graph.specs.Graph.{Graph, indexes_of, is_child, is_live, is_record_of, parents_of, shape_of}
 use Rattle.gl_graph.specs.Lawful.{IsLawfulGraph}
 use Rattle.gl_graph.specs.Shapes.{is_file_shape, is_record_shape}
-use Rattle.gl_graph.proofs.Born.{old_below, old_same}
-use Rattle.gl_graph.proofs.KindRules.{file_plain, plain_live}
-use Rattle.gl_graph.proofs.NewIndex.{file_index, index_there, ns, others}
+use Rattle.gl_graph.proofs.KindRules.{file_plain, index_plain, is_plain, parent_plain, plain_live, rec_not_plain}
+use Rattle.gl_graph.proofs.Look.{child_live}
 use Rattle.gl_model.specs.State.{is_write}
+use Rattle.gl_parts.specs.declared.passing.AfterIndex.TheVariants.{BeginsAnew, LacksKey, WaitsOn}
 use Rattle.gl_parts.specs.declared.passing.Target.{Target}
-use Rattle.gl_parts.specs.Passing.{Passes, can_have, is_mode_of, is_row_of, keyed_by, starts}
+use Rattle.gl_parts.specs.Passing.{Passes, after_index, asked_above, can_have, is_mode_of, is_row_of, starts, writes_record_of}
 use Rattle.gl_parts.specs.Promises.{IndexesNeedKeys, IndexesPassMore, OthersPassTheSame, PassesMore}
-use Rattle.gl_parts.proofs.OldWays.{start_live, way_is, way_live, way_was}
-use Rattle.gl_parts.proofs.Paths.{begins, row_has}
+use Rattle.gl_parts.proofs.BesideRecords.{AddsIndex, over_adds, over_adds_to}
+use Rattle.gl_parts.proofs.OldWays.{next_child, start_is, start_live, way_is, way_live, way_more, way_was}
+use Rattle.gl_parts.proofs.Paths.{begins, begins_at, row_has}
 
-module _ (g : Graph) (law : IsLawfulGraph g) (key : ℕ) (ps : List NodeId) (f : NodeId) (bs ks : List ℕ) where
-  abbrev i : NodeId
-  i = record { key = key; birth = g.births + 1 }
+pub indexes_need_keys : IndexesNeedKeys
+indexes_need_keys g g' i ps f bs rs ks x law over =
+    split x.is_row
+    (λ e. ap (λ b. if b then indexes_of g' x.node else []) e ∙ over_adds_to g g' law i ps f bs rs ks over x.node
+    ∙ ap (λ b. (if b then indexes_of g x.node else []) ++ (if b && same_node x.node f then i ∷ [] else [])) (sym e))
+    (λ e. ap (λ b. if b then indexes_of g' x.node else []) e
+    ∙ ap (λ b. (if b then indexes_of g x.node else []) ++ (if b && same_node x.node f then i ∷ [] else [])) (sym e))
 
-  abbrev after : Graph
-  after = born_index g key ps f bs ks
+-- which waits end, and which go on
+ends_with : (row rec : Bool) → (if row then LacksKey else (if rec then BeginsAnew else WaitsOn)) ≢ WaitsOn → (row ≡ true) ⊎ (rec ≡ true)
+ends_with true rec h = inl refl
+ends_with false true h = inr refl
+ends_with false false h = absurd (h refl)
 
-  -- old nodes are as they were
-  stays : (q : NodeId) → is_live g q ≡ true → node_at after q ≡ node_at g q
-  stays q live = old_same g law (ns g law key ps f bs ks) q live
+goes_on : (row rec : Bool) → (if row then LacksKey else (if rec then BeginsAnew else WaitsOn)) ≡ WaitsOn → (row ≡ false) × (rec ≡ false)
+goes_on true rec h = cc
+goes_on false true h = cc
+goes_on false false h = (refl, refl)
 
-  parents_stay : (q : NodeId) → is_live g q ≡ true → parents_of after q ≡ parents_of g q
-  parents_stay q live = ap parents_in (stays q live)
+list_if : (b : Bool) (xs ys : List NodeId) → (b ≡ true → xs ≡ ys) → (if b then xs else []) ≡ (if b then ys else [])
+list_if true xs ys h = h refl
+list_if false xs ys h = refl
 
-  not_old : is_live g i ≡ true → ⊥
-  not_old live = let low = old_below g law [] i live in absurd (omega arith)
+module _ (g g' : Graph) (i : NodeId) (ps : List NodeId) (f : NodeId) (law : IsLawfulGraph g) (adds : AddsIndex g g' i ps f) (x : Target) where
+  abbrev writes : Bool
+  writes = is_write x.mode
 
-  indexes_after : (q : NodeId) → indexes_of after q ≡ indexes_of g q ++ (if same_node q f then i ∷ [] else [])
-  indexes_after q =
-      split (same_node q f)
-      (λ e. subst (λ x. indexes_of after x ≡ indexes_of g x ++ i ∷ []) (sym (same_node-equal q f e)) (file_index g law key ps f bs ks)
-      ∙ ap (λ b. indexes_of g q ++ (if b then i ∷ [] else [])) (sym e))
-      (λ e. others g law key ps f bs ks q e ∙ sym (append-nil (indexes_of g q)) ∙ ap (λ b. indexes_of g q ++ (if b then i ∷ [] else [])) (sym e))
+  can_still : is_live g x.node ≡ true → can_have g' x ≡ can_have g x
+  can_still live = ap₂ (λ a b. if x.is_row then a && is_mode_of true x.mode else is_mode_of b x.mode) (adds.files x.node live) (adds.records x.node live)
 
-  module _ (x : Target) where
-    keys : keyed_by after x ≡ keyed_by g x ++ (if is_row_of f x then i ∷ [] else [])
-    keys =
+  -- Paths that pass the same.
+
+  -- a node above which a path asks for what it asked for
+  abbrev Stays : NodeId → Type 0
+  Stays q = (is_live g q ≡ true) × ((writes && is_record_of g f q) ≡ false)
+
+  same_asked : (q : NodeId) → Stays q → asked_above writes g' q ≡ asked_above writes g q
+  same_asked q stays =
+      split writes
+      (λ w. ap (λ qs. if writes then qs else take 1 qs)
+      (adds.others q stays.0 (not_true (is_record_of g f q) (λ rec. clash (both writes _ w rec) stays.1))))
+      (λ w. ap (λ b. if b then parents_of g' q else take 1 (parents_of g' q)) w ∙ adds.firsts q stays.0
+      ∙ ap (λ b. if b then parents_of g q else take 1 (parents_of g q)) (sym w))
+
+  plain_stays : (q : NodeId) → is_plain (shape_of g q) ≡ true → Stays q
+  plain_stays q plain = (
+    plain_live g q plain,
+    not_true (writes && is_record_of g f q) (λ t.
+        rec_not_plain (shape_of g q) (and_both (is_record_shape (shape_of g q)) (is_child g f q) (and_both writes (is_record_of g f q) t).1).0 plain),
+  )
+
+  next_stays : (q p : NodeId) → Stays q → list_any (same_node p) (asked_above writes g q) ≡ true → Stays p
+  next_stays q p stays asked = plain_stays p (parent_plain g law q p (next_child g writes q p asked))
+
+  module _ (live : is_live g x.node ≡ true) (goes : (after_index g' x f ≡ WaitsOn) ⊎ (writes ≡ false)) where
+    no_row : (is_row_of f x && writes) ≡ false
+    no_row = not_true (is_row_of f x && writes) (λ t.
+        let it = and_both (is_row_of f x) writes t in
+        ⊎_elim (λ (on : after_index g' x f ≡ WaitsOn). clash it.0 (goes_on (is_row_of f x) (writes_record_of g' f x) on).0) (λ read. clash it.1 read) goes)
+
+    no_record : x.is_row ≡ false → (writes && is_record_of g f x.node) ≡ false
+    no_record single = not_true (writes && is_record_of g f x.node) (λ t.
+        let it = and_both writes (is_record_of g f x.node) t in
+        ⊎_elim (λ (on : after_index g' x f ≡ WaitsOn).
+        clash (both (writes && not x.is_row) _ (both writes (not x.is_row) it.0 (ap not single)) (adds.of_file x.node ∙ it.1))
+        (goes_on (is_row_of f x) (writes_record_of g' f x) on).1) (λ read. clash it.0 read) goes)
+
+    node_stays : can_have g x ≡ true → Stays x.node
+    node_stays have =
         split x.is_row
-        (λ e. ap (λ b. if b then indexes_of after x.node else []) e ∙ indexes_after x.node
-        ∙ ap (λ b. (if b then indexes_of g x.node else []) ++ (if b && same_node x.node f then i ∷ [] else [])) (sym e))
-        (λ e. ap (λ b. if b then indexes_of after x.node else []) e
-        ∙ ap (λ b. (if b then indexes_of g x.node else []) ++ (if b && same_node x.node f then i ∷ [] else [])) (sym e))
+        (λ row. plain_stays x.node (file_plain (shape_of g x.node)
+        (and_both (is_file_shape (shape_of g x.node)) (is_mode_of true x.mode) (sym (row_has g x row) ∙ have)).0))
+        (λ single. (live, no_record single))
 
-    module _ (live : is_live g x.node ≡ true) where
-      can_still : can_have after x ≡ can_have g x
-      can_still =
-          ap (λ o. if x.is_row then is_file_shape (shape_in o) && is_mode_of true x.mode else is_mode_of (is_record_shape (shape_in o)) x.mode)
-          (stays x.node live)
+    start_stays : (start : NodeId) → list_any (same_node start) (starts g x) ≡ true → Stays start
+    start_stays start one =
+        let it = start_is g x start one in
+        ⊎_elim (λ (e : start ≡ x.node). subst Stays (sym e) (node_stays it.0)) (λ h. plain_stays start (index_plain (shape_of g start) h)) it.1
 
-      -- where the paths begin that begin as before
-      same_starts : (is_row_of f x && is_write x.mode) ≡ false → starts after x ≡ starts g x
-      same_starts other =
-          ap (λ b. if b then x.node ∷ (if x.is_row && is_write x.mode then indexes_of after x.node else []) else []) can_still
-          ∙ ap (λ is. if can_have g x then x.node ∷ is else []) same
-        where
-          not_file : (x.is_row && is_write x.mode) ≡ true → same_node x.node f ≡ false
-          not_file w =
-              let it = and_both x.is_row (is_write x.mode) w in
-              split (same_node x.node f) (λ e. clash (both _ _ (both _ _ it.0 e) it.1) other) (λ e. e)
+    same_indexes : (x.is_row && writes) ≡ true → indexes_of g' x.node ≡ indexes_of g x.node
+    same_indexes t =
+        let it = and_both x.is_row writes t in
+        let other = not_true (same_node x.node f) (λ e. clash (both (is_row_of f x) writes (both x.is_row _ it.0 e) it.1) no_row) in
+        adds.indexes x.node ∙ ap (λ b. indexes_of g x.node ++ (if b then i ∷ [] else [])) other ∙ append-nil (indexes_of g x.node)
 
-          same : (if x.is_row && is_write x.mode then indexes_of after x.node else []) ≡ (if x.is_row && is_write x.mode then indexes_of g x.node else [])
-          same =
-              split (x.is_row && is_write x.mode)
-              (λ w. ap (λ b. if b then indexes_of after x.node else []) w ∙ others g law key ps f bs ks x.node (not_file w)
-              ∙ ap (λ b. if b then indexes_of g x.node else []) (sym w))
-              (λ w. ap (λ b. if b then indexes_of after x.node else []) w ∙ ap (λ b. if b then indexes_of g x.node else []) (sym w))
+    same_starts : starts g' x ≡ starts g x
+    same_starts =
+        ap (λ b. if b then x.node ∷ (if x.is_row && writes then indexes_of g' x.node else []) else []) (can_still live)
+        ∙ ap (λ is. if can_have g x then x.node ∷ is else [])
+        (list_if (x.is_row && writes) (indexes_of g' x.node) (indexes_of g x.node) same_indexes)
 
-      pass_the_same : (is_row_of f x && is_write x.mode) ≡ false → (n : NodeId) → Passes after x n ↔ Passes g x n
-      pass_the_same other n = (was, is)
-        where
-          was : Passes after x n → Passes g x n
-          was pass =
-              let one = ap (list_any (same_node pass.start)) (sym (same_starts other)) ∙ pass.is_one in
-              let old = start_live g x live pass.start one in
-              record {
-                start = pass.start;
-                is_one = one;
-                leads = (pass.leads.0, way_was g after law parents_stay (is_write x.mode) pass.start n pass.leads.0 old pass.leads.1);
-              }
+    pub pass_the_same : (n : NodeId) → Passes g' x n ↔ Passes g x n
+    pass_the_same n = (was, is)
+      where
+        was : Passes g' x n → Passes g x n
+        was pass =
+            let one = ap (list_any (same_node pass.start)) (sym same_starts) ∙ pass.is_one in
+            record {
+              start = pass.start;
+              is_one = one;
+              leads = (
+                pass.leads.0,
+                way_was g g' writes Stays same_asked next_stays pass.start n pass.leads.0 (start_stays pass.start one) pass.leads.1,
+              );
+            }
 
-          is : Passes g x n → Passes after x n
-          is pass = record {
-            start = pass.start;
-            is_one = ap (list_any (same_node pass.start)) (same_starts other) ∙ pass.is_one;
-            leads = (
-              pass.leads.0,
-              way_is g after law parents_stay (is_write x.mode) pass.start n pass.leads.0 (start_live g x live pass.start pass.is_one) pass.leads.1,
-            );
-          }
+        is : Passes g x n → Passes g' x n
+        is pass = record {
+          start = pass.start;
+          is_one = ap (list_any (same_node pass.start)) same_starts ∙ pass.is_one;
+          leads = (
+            pass.leads.0,
+            way_is g g' writes Stays same_asked next_stays pass.start n pass.leads.0 (start_stays pass.start pass.is_one) pass.leads.1,
+          );
+        }
 
-      -- a path to write a row of the file begins at the index too
-      module _ (row : is_row_of f x ≡ true) (writes : is_write x.mode ≡ true) (have : can_have g x ≡ true) where
-        of_file : indexes_of after x.node ≡ indexes_of g x.node ++ i ∷ []
-        of_file = indexes_after x.node ∙ ap (λ b. indexes_of g x.node ++ (if b then i ∷ [] else [])) (and_both x.is_row _ row).1
+  -- Paths that pass more.
 
-        starts_are : starts after x ≡ x.node ∷ (indexes_of g x.node ++ i ∷ [])
+  module _ (w : writes ≡ true) (have : can_have g x ≡ true) where
+    all_asked : (h : Graph) (q : NodeId) → asked_above writes h q ≡ parents_of h q
+    all_asked h q = ap (λ b. if b then parents_of h q else take 1 (parents_of h q)) w
+
+    by_index : is_live g x.node ≡ true → Passes g' x i → PassesMore g g' x i ps
+    by_index live pass = record {
+      index = pass;
+      is_new = λ old. clash (way_live g law writes old.start i old.leads.0 (start_live g x live old.start old.is_one) old.leads.1) adds.is_new;
+      above = λ p one. record {
+        start = pass.start;
+        is_one = pass.is_one;
+        leads = (
+          pass.leads.0 ++ p ∷ [],
+          way_more writes g' pass.start i p pass.leads.0 pass.leads.1 (ap (list_any (same_node p)) (all_asked g' i ∙ adds.parents) ∙ one),
+        );
+      };
+    }
+
+    -- a path to a row begins at the index too
+    row_more : is_row_of f x ≡ true → PassesMore g g' x i ps
+    row_more of_file = by_index live (record { start = i; is_one = at_index; leads = ([], refl) })
+      where
+        row : (x.is_row ≡ true) × (same_node x.node f ≡ true)
+        row = and_both x.is_row (same_node x.node f) of_file
+
+        live : is_live g x.node ≡ true
+        live = plain_live g x.node (file_plain (shape_of g x.node)
+            (and_both (is_file_shape (shape_of g x.node)) (is_mode_of true x.mode) (sym (row_has g x row.0) ∙ have)).0)
+
+        starts_are : starts g' x ≡ x.node ∷ (indexes_of g x.node ++ i ∷ [])
         starts_are =
-            begins after x (can_still ∙ have)
-            ∙ ap (λ b. x.node ∷ (if b then indexes_of after x.node else [])) (both _ _ (and_both x.is_row _ row).0 writes)
-            ∙ ap (λ is. x.node ∷ is) of_file
+            begins g' x (can_still live ∙ have)
+            ∙ ap (λ b. x.node ∷ (if b then indexes_of g' x.node else [])) (both x.is_row writes row.0 w)
+            ∙ ap (λ is. x.node ∷ is) (adds.indexes x.node ∙ ap (λ b. indexes_of g x.node ++ (if b then i ∷ [] else [])) row.1)
 
-        at_index : list_any (same_node i) (starts after x) ≡ true
+        at_index : list_any (same_node i) (starts g' x) ≡ true
         at_index =
             ap (list_any (same_node i)) starts_are
             ∙ or_right (same_node i x.node) _ (list_any-append (same_node i) (indexes_of g x.node) (i ∷ [])
             ∙ or_right (list_any (same_node i) (indexes_of g x.node)) _ (or_left (same_node i i) false (same_node-refl i)))
 
-        above : (p : NodeId) → list_any (same_node p) ps ≡ true → Passes after x p
-        above p one = record {
-          start = i;
-          is_one = at_index;
+    -- one to a record climbs to it by an interval
+    record_more : is_record_of g f x.node ≡ true → PassesMore g g' x i ps
+    record_more rec =
+        by_index live (record {
+          start = x.node;
+          is_one = begins_at g' x (can_still live ∙ have);
           leads = (
-            p ∷ [],
-            (ap (λ b. list_any (same_node p) (if b then parents_of after i else take 1 (parents_of after i))) writes ∙ up, refl),
+            up.0 ∷ i ∷ [],
+            (
+              ap (list_any (same_node up.0)) (all_asked g' x.node ∙ up.1) ∙ list_any-append (same_node up.0) (parents_of g x.node) (up.0 ∷ [])
+                  ∙ or_right (list_any (same_node up.0) (parents_of g x.node)) _ (or_left (same_node up.0 up.0) false (same_node-refl up.0)),
+              (ap (list_any (same_node i)) (all_asked g' up.0 ∙ up.2) ∙ or_left (same_node i i) false (same_node-refl i), refl),
+            ),
           );
-        }
-          where
-            up : list_any (same_node p) (parents_of after i) ≡ true
-            up = ap (λ o. list_any (same_node p) (parents_in o)) (index_there g law key ps f bs ks) ∙ one
+        })
+      where
+        live : is_live g x.node ≡ true
+        live = child_live g x.node f (and_both (is_record_shape (shape_of g x.node)) (is_child g f x.node) rec).1
 
-        more : PassesMore g after x i ps
-        more = record {
-          index = record { start = i; is_one = at_index; leads = ([], refl) };
-          is_new = λ pass. not_old (way_live g law (is_write x.mode) pass.start i pass.leads.0 (start_live g x live pass.start pass.is_one) pass.leads.1);
-          above = above;
-        }
+        up : (j : NodeId) × (parents_of g' x.node ≡ parents_of g x.node ++ j ∷ []) × (parents_of g' j ≡ i ∷ [])
+        up = adds.above x.node rec
 
--- the graph by its definition
-module _ (g g' : Graph) (i : NodeId) (ps : List NodeId) (f : NodeId) (bs : List ℕ) (born : IsIndexBorn g g' i ps f bs) where
-  index_is : i ≡ record { key = i.key; birth = g.births + 1 }
-  index_is = node_is i (record { key = i.key; birth = g.births + 1 }) refl born.birth
-
-pub indexes_need_keys : IndexesNeedKeys
-indexes_need_keys g g' i ps f bs x law born =
-    ap (λ (h : Graph). keyed_by h x) born.after ∙ keys g law i.key ps f bs born.interval_keys x
-    ∙ ap (λ j. keyed_by g x ++ (if is_row_of f x then j ∷ [] else [])) (sym (index_is g g' i ps f bs born))
+    pub more : after_index g' x f ≢ WaitsOn → PassesMore g g' x i ps
+    more ended =
+        ⊎_elim row_more (λ (t : writes_record_of g' f x ≡ true). record_more (sym (adds.of_file x.node) ∙ (and_both (writes && not x.is_row) _ t).1))
+        (ends_with (is_row_of f x) (writes_record_of g' f x) ended)
 
 pub others_pass_the_same : OthersPassTheSame
-others_pass_the_same g g' i ps f bs x law born live other n =
-    subst (λ (h : Graph). Passes h x n ↔ Passes g x n) (sym born.after) (pass_the_same g law i.key ps f bs born.interval_keys x live other n)
+others_pass_the_same g g' i ps f bs rs ks x law over all live goes =
+    pass_the_same g g' i ps f law (over_adds g g' law i ps f bs rs ks over all) x live goes
 
 pub indexes_pass_more : IndexesPassMore
-indexes_pass_more g g' i ps f bs x law born row writes have =
-    subst (λ (h : Graph). PassesMore g h x i ps) (sym born.after)
-    (subst (λ (j : NodeId). PassesMore g (born_index g i.key ps f bs born.interval_keys) x j ps) (sym (index_is g g' i ps f bs born))
-    (more g law i.key ps f bs born.interval_keys x live row writes have))
-  where
-    live : is_live g x.node ≡ true
-    live =
-        let is_row = (and_both x.is_row _ row).0 in
-        plain_live g x.node (file_plain (shape_of g x.node)
-        (and_both (is_file_shape (shape_of g x.node)) (is_mode_of true x.mode) (sym (row_has g x is_row) ∙ have)).0)
+indexes_pass_more g g' i ps f bs rs ks x law over all w have ended =
+    more g g' i ps f law (over_adds g g' law i ps f bs rs ks over all) x w have ended

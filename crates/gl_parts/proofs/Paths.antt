@@ -131,7 +131,7 @@ pub row_has : (g : Graph) (x : Target) → x.is_row ≡ true → can_have g x �
 row_has g x row =
     ap (λ b. if b then is_file_shape (shape_of g x.node) && is_mode_of true x.mode else is_mode_of (is_record_shape (shape_of g x.node)) x.mode) row
 
-begins_at : (g : Graph) (x : Target) → can_have g x ≡ true → list_any (same_node x.node) (starts g x) ≡ true
+pub begins_at : (g : Graph) (x : Target) → can_have g x ≡ true → list_any (same_node x.node) (starts g x) ≡ true
 begins_at g x h = ap (list_any (same_node x.node)) (begins g x h) ∙ or_left (same_node x.node x.node) _ (same_node-refl x.node)
 
 -- who lacks nothing holds the intention in the main manager where the part is marked

@@ -7,10 +7,12 @@ use Rattle.gl_modes.specs.declared.mode.Mode.TheVariants.{NL, S, X}
 use Rattle.gl_modes.specs.declared.node.NodeId.{NodeId}
 use Rattle.gl_modes.specs.Modes.{is_at_least, same_mode}
 use Rattle.gl_modes.specs.Nodes.{same_node}
-use Rattle.gl_graph.specs.Graph.{Graph, indexes_of, parents_of, shape_of}
+use Rattle.gl_graph.specs.Graph.{Graph, indexes_of, is_record_of, parents_of, shape_of}
 use Rattle.gl_graph.specs.Shapes.{is_file_shape, is_record_shape}
 use Rattle.gl_model.specs.State.{State, is_write}
 use Rattle.gl_catalog.specs.Paths.{intention}
+use Rattle.gl_parts.specs.declared.passing.AfterIndex.{AfterIndex}
+use Rattle.gl_parts.specs.declared.passing.AfterIndex.TheVariants.{BeginsAnew, LacksKey, WaitsOn}
 use Rattle.gl_parts.specs.declared.passing.Mark.{Mark}
 use Rattle.gl_parts.specs.declared.passing.Target.{Target}
 use Rattle.gl_parts.specs.Visiting.{IsClear}
@@ -59,6 +61,14 @@ is_row_of f x = x.is_row && same_node x.node f
 -- the indexes for which a call that waits for the target has brought a key: of a row those of its file
 abbrev pub keyed_by : Graph → Target → List NodeId
 keyed_by g x = if x.is_row then indexes_of g x.node else []
+
+-- a path to the target is one to write a record of this file, by its node
+abbrev pub writes_record_of : Graph → NodeId → Target → Bool
+writes_record_of g f x = is_write x.mode && not x.is_row && is_record_of g f x.node
+
+-- what becomes of a wait for the target after an index of this file was made: a call for a row lacks a key, and a path to write a record passes more
+abbrev pub after_index : Graph → Target → NodeId → AfterIndex
+after_index g x f = if is_row_of f x then LacksKey else if writes_record_of g f x then BeginsAnew else WaitsOn
 
 -- what slot t holds on n in a manager that may be unknown: then NL
 abbrev pub held_if_known : Option State → ℕ → NodeId → Mode

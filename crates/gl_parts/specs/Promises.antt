@@ -7,9 +7,10 @@ use Rattle.gl_modes.specs.declared.node.NodeId.{NodeId}
 use Rattle.gl_modes.specs.declared.refusal.Refusal.TheVariants as no
 use Rattle.gl_modes.specs.Modes.{is_at_least}
 use Rattle.gl_modes.specs.Nodes.{same_node}
-use Rattle.gl_graph.specs.Changes.{IsAdopted, IsIndexBorn}
+use Rattle.gl_graph.specs.Changes.{IsAdopted}
 use Rattle.gl_graph.specs.Graph.{Graph, first_parent, is_live, parents_of, shape_of}
 use Rattle.gl_graph.specs.Lawful.{IsLawfulGraph}
+use Rattle.gl_graph.specs.Over.{IsIndexOver, are_keyed}
 use Rattle.gl_graph.specs.Shapes.{is_inner_shape, is_record_shape}
 use Rattle.gl_waits.specs.declared.board.Board.{Board}
 use Rattle.gl_waits.specs.Boards.{ShowsNobody, board_edge}
@@ -30,9 +31,10 @@ use Rattle.gl_parts.specs.Whole.{Each, IsInOne, IsLedBy, Part, held_at, is_in, i
 use Rattle.gl_parts.specs.Leading.{AgreesWith, CanCopy, Follower, Leads, Managers, Obeys, WorkAsOne, covers, is_ready, managers, parts}
 use Rattle.gl_parts.specs.Actions.{Acts, AreKept, AreVisited, AskersAreReady, KeepsName, MayRequest, Runs, Takes, may_wait, releases, requests_at, txn_at}
 use Rattle.gl_parts.specs.Actions.{with_mark}
+use Rattle.gl_parts.specs.declared.passing.AfterIndex.TheVariants as after
 use Rattle.gl_parts.specs.declared.passing.Mark.{Mark}
 use Rattle.gl_parts.specs.declared.passing.Target.{Target}
-use Rattle.gl_parts.specs.Passing.{IsFirst, Lacks, MayClear, Passes, can_have, is_row_of, keyed_by}
+use Rattle.gl_parts.specs.Passing.{IsFirst, Lacks, MayClear, Passes, after_index, can_have, is_row_of, keyed_by}
 use Rattle.gl_parts.specs.declared.visits.ToCopy.{ToCopy}
 use Rattle.gl_parts.specs.declared.visits.Way.{Way}
 use Rattle.gl_parts.specs.declared.visits.Way.TheVariants as way
@@ -312,29 +314,33 @@ AdoptsPassNoMore =
 
 -- New indexes.
 
--- after an index of a file was made, a call that waits for a row of the file needs a key more, for the index; any other needs the keys that it has brought
+-- after an index of a file was made, beside records or not, a call that waits for a row of the file needs a key more, for the index; any other needs the keys
+-- that it has brought
 abbrev pub IndexesNeedKeys : Type 0
 IndexesNeedKeys =
-    (g g' : Graph) (i : NodeId) (ps : List NodeId) (f : NodeId) (bs : List ℕ) (x : Target) → IsLawfulGraph g → IsIndexBorn g g' i ps f bs
+    (g g' : Graph) (i : NodeId) (ps : List NodeId) (f : NodeId) (bs : List ℕ) (rs : List NodeId) (ks : List ℕ) (x : Target) → IsLawfulGraph g
+    → IsIndexOver g g' i ps f bs rs ks
     → keyed_by g' x ≡ keyed_by g x ++ (if is_row_of f x then i ∷ [] else [])
 
--- a path to write a row of the file passes the index, which it did not pass before, and each parent of that
+-- a path to the target passes the index, which it did not pass before, and each parent of that
 pub record PassesMore (g g' : Graph) (x : Target) (i : NodeId) (ps : List NodeId) : Type 0 where
   pub index : Passes g' x i
   pub is_new : Passes g x i → ⊥
   pub above : (p : NodeId) → list_any (same_node p) ps ≡ true → Passes g' x p
 
+-- a path to write passes more if its wait is ended: that to a row of the file, and that to a record of it by its node
 abbrev pub IndexesPassMore : Type 0
 IndexesPassMore =
-    (g g' : Graph) (i : NodeId) (ps : List NodeId) (f : NodeId) (bs : List ℕ) (x : Target) → IsLawfulGraph g → IsIndexBorn g g' i ps f bs
-    → is_row_of f x ≡ true → is_write x.mode ≡ true → can_have g x ≡ true
+    (g g' : Graph) (i : NodeId) (ps : List NodeId) (f : NodeId) (bs : List ℕ) (rs : List NodeId) (ks : List ℕ) (x : Target) → IsLawfulGraph g
+    → IsIndexOver g g' i ps f bs rs ks → are_keyed g f rs ks ≡ true → is_write x.mode ≡ true → can_have g x ≡ true → after_index g' x f ≢ after.WaitsOn
     → PassesMore g g' x i ps
 
--- a path to any other target passes what it passed, and so does one to read a row of the file
+-- a path to a node that lives passes what it passed if its wait goes on, and if it is one to read
 abbrev pub OthersPassTheSame : Type 0
 OthersPassTheSame =
-    (g g' : Graph) (i : NodeId) (ps : List NodeId) (f : NodeId) (bs : List ℕ) (x : Target) → IsLawfulGraph g → IsIndexBorn g g' i ps f bs
-    → is_live g x.node ≡ true → (is_row_of f x && is_write x.mode) ≡ false → (n : NodeId) → Passes g' x n ↔ Passes g x n
+    (g g' : Graph) (i : NodeId) (ps : List NodeId) (f : NodeId) (bs : List ℕ) (rs : List NodeId) (ks : List ℕ) (x : Target) → IsLawfulGraph g
+    → IsIndexOver g g' i ps f bs rs ks → are_keyed g f rs ks ≡ true → is_live g x.node ≡ true
+    → (after_index g' x f ≡ after.WaitsOn) ⊎ (is_write x.mode ≡ false) → (n : NodeId) → Passes g' x n ↔ Passes g x n
 
 -- Requests in progress.
 

@@ -128,12 +128,14 @@ pub fn paths()
     ensures adopts { AdoptsPassNoMore }
 {}
 
-/// After an index of a file was made, a call that waits for a row of the file lacks a key for it, whatever
-/// mode it waits for; no other call lacks one. A path to write such a row passes the index and its parents,
-/// where it may lack something. Any other path to a node that lives passes what it passed before.
+/// After an index of a file was made, beside its records if it has any, a call that waits for a row of the
+/// file lacks a key for it, whatever mode it waits for; no other call lacks one. A path to write such a row,
+/// or a record of the file by its node, passes the index and its parents, where it may lack something: those
+/// are the paths to write whose waits `after_index` ends. A path whose wait goes on by that passes what it
+/// passed before, if its node lives, and so does each path to read.
 pub fn new_indexes()
     ensures keys { IndexesNeedKeys }
-    ensures rows { IndexesPassMore }
+    ensures more { IndexesPassMore }
     ensures others { OthersPassTheSame }
 {}
 

@@ -8,6 +8,8 @@ mod resting;
 mod visits;
 
 pub use joining::join_board;
-pub use passing::{Mark, Marked, Target, first_lack, intention, lacks_key, may_clear};
+pub use passing::{
+    AfterIndex, Mark, Marked, Target, after_index, first_lack, intention, may_clear,
+};
 pub use resting::{may_rest, takes_up};
 pub use visits::{ToCopy, Way, is_clear, next_copy, own_copy, way_for};

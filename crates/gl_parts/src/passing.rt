@@ -8,8 +8,8 @@ ghost use Rattle.gl_graph.specs.Seen.{with_all};
 ghost use Rattle.gl_graph.specs.View.{graph_of};
 ghost use Rattle.gl_catalog.specs.Manager.{state_of};
 ghost use Rattle.gl_catalog.specs.Paths.{intention};
-ghost use Rattle.gl_parts.specs.Passing.{IsFirst, Lacks, MayClear, Passes, asked_above, can_have, held_if_known, is_held_at, is_mode_of, is_row_of};
-ghost use Rattle.gl_parts.specs.Passing.{is_unheld_at, starts};
+ghost use Rattle.gl_parts.specs.Passing.{IsFirst, Lacks, MayClear, Passes, after_index, asked_above, can_have, held_if_known, is_held_at, is_mode_of};
+ghost use Rattle.gl_parts.specs.Passing.{is_unheld_at, starts, writes_record_of};
 
 use crate::visits::is_clear;
 use arrayvec::ArrayVec;
@@ -39,6 +39,17 @@ pub struct Target {
 pub struct Mark {
     pub in_main: NodeId,
     pub in_part: NodeId,
+}
+
+/// What becomes of a wait in a part after an index of a file was made there.
+#[derive(Clone, Copy, PartialEq, Eq, Debug)]
+pub enum AfterIndex {
+    /// Its path passes what it passed before.
+    WaitsOn,
+    /// Its path passes more, and must begin anew.
+    BeginsAnew,
+    /// It waits for a row of the file, and has no key for the index.
+    LacksKey,
 }
 
 /// What has the names of a mark.
@@ -179,13 +190,30 @@ pub fn may_clear(main: &Manager, node: NodeId, in_progress: u64) -> bool
     in_progress == 0 && is_clear(main, node)
 }
 
-/// Whether a call that waits for this target lacks a key after an index of this file was made: if it waits
-/// for a row of that file, for which it has brought keys. A path to write the row then passes the new index
-/// too, and what is above it. A path to any other node passes what it passed.
-pub fn lacks_key(target: Target, file: NodeId) -> bool
-    ensures { result ≡ is_row_of file target }
+/// What becomes of a wait for this target after an index of this file was made in the part, which is asked
+/// as it is then. A call that waits for a row of the file has brought keys, and lacks one for the index. A
+/// path to write a record of the file passes the index too, and what is above it. Each other path passes what
+/// it passed: one to read passes first parents alone, and a record is below the index by its last parent.
+pub fn after_index(part: &Manager, target: Target, file: NodeId) -> AfterIndex
+    ensures { result ≡ after_index (state_of part.now).graph target file }
 {
-    target.is_row && target.node == file
+    if target.is_row && target.node == file {
+        AfterIndex::LacksKey
+    } else if writes_record_of(part.graph(), target, file) {
+        AfterIndex::BeginsAnew
+    } else {
+        AfterIndex::WaitsOn
+    }
+}
+
+/// Whether a path to this target is one to write a record of this file, by its node.
+fn writes_record_of(graph: &Graph, target: Target, file: NodeId) -> bool
+    ensures { result ≡ writes_record_of (graph_of graph.now) file target }
+{
+    covers(target.mode, Mode::IX)
+        && !target.is_row
+        && graph.kind(target.node) == Some(Kind::Rec)
+        && is_among(graph.parents(target.node), file)
 }
 
 /// The nodes that a path to a target passes: where it may request an intention, and where it begins. A

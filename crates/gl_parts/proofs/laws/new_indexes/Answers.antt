@@ -2,4 +2,4 @@ use Rattle.gl_parts.proofs.NewIndexes.{indexes_need_keys, indexes_pass_more, oth
 use Rattle.gl_parts.proofs.laws.new_indexes.Goals as goal
 
 pub returns : goal.returns
-returns c = record { keys = indexes_need_keys; rows = indexes_pass_more; others = others_pass_the_same }
+returns c = record { keys = indexes_need_keys; more = indexes_pass_more; others = others_pass_the_same }
