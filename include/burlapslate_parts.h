@@ -93,13 +93,12 @@ static inline bs_reply bs_path_lacks(const bs_manager *manager, const bs_manager
   return manager == part ? bs_call_only(BS_IN_USE) : bs_call_path_lacks(manager, part, slot, &target, marks, count);
 }
 
-/* Whether a call that waits for this target lacks a key after an index of the file was made, in `count`: 1 if it waits
- * for a row of that file, else 0. A path to write the row passes the index too, and what is above it. So does a path to
- * write a record of the file by its node, if the index was made beside records (bs_index_records): it lacks no key, but
- * end its wait too, and begin the path anew. Each other path passes what it passed before. Refused with BS_BAD_NUMBER if
- * there is no such mode. */
-static inline bs_reply bs_lacks_key(bs_target target, bs_node file) {
-  return bs_call_lacks_key(&target, file);
+/* What becomes of a wait in a part, for this target, after an index of the file was made there. BS_DONE: its path passes
+ * what it passed before, so let it wait on. BS_MOVED: a path to write a record of the file now passes the index, and what
+ * is above it, so end the wait, and begin the path anew. BS_BAD_KEYS: a call that waits for a row of the file has no key
+ * for the index, so end it with this status. Refused with BS_BAD_NUMBER if there is no such mode. */
+static inline bs_reply bs_after_index(const bs_manager *part, bs_target target, bs_node file) {
+  return bs_call_can_ask(part) ? bs_call_after_index(part, &target, file) : bs_call_unasked(part);
 }
 
 /* Whether a transaction that ends in a part may leave locks there that rest for the next transaction of its slot, at most

@@ -1,5 +1,6 @@
--- Replies to what a path in a part lacks in the main manager, what a transaction has to copy of its own, when marks may be cleared, and who lacks a key.
-use Rattle.std.specs.Prelude.{◌≡◌, ◌⊎◌, ℕ, not, ◌==◌, if◌then◌else◌, List, map, Option, Some, None}
+-- Replies to what a path in a part lacks in the main manager, what a transaction has to copy of its own, when marks may be cleared, and what becomes of a wait
+-- after an index was made.
+use Rattle.std.specs.Prelude.{◌≡◌, ◌⊎◌, ℕ, not, ◌==◌, List, map, Option, Some, None}
 use Rattle.gl_modes.specs.declared.mode.Mode.{Mode}
 use Rattle.gl_modes.specs.declared.node.NodeId.{NodeId}
 use Rattle.gl_modes.specs.declared.refusal.Refusal.TheVariants as no
@@ -8,9 +9,11 @@ use Rattle.gl_model.specs.Calls.{group_tests}
 use Rattle.gl_model.specs.State.{State}
 use Rattle.gl_catalog.specs.Manager.{state_of}
 use Rattle.gl_catalog.specs.Paths.{intention}
+use Rattle.gl_parts.specs.declared.passing.AfterIndex.{AfterIndex}
+use Rattle.gl_parts.specs.declared.passing.AfterIndex.TheVariants.{BeginsAnew, LacksKey, WaitsOn}
 use Rattle.gl_parts.specs.declared.passing.Mark.{Mark as TheMark}
 use Rattle.gl_parts.specs.declared.passing.Target.{Target as TheTarget}
-use Rattle.gl_parts.specs.Passing.{IsFirst, Lacks, MayClear, is_row_of}
+use Rattle.gl_parts.specs.Passing.{IsFirst, Lacks, MayClear, after_index}
 use Rattle.gl_parts.specs.Visiting.{own_copy}
 use Rattle.gl_c.specs.declared.answers.reply.Reply.{Reply}
 use Rattle.gl_c.specs.declared.questions.passing.Mark.{Mark}
@@ -19,7 +22,7 @@ use Rattle.gl_c.specs.managers.Carries.{Declines, Where}
 use Rattle.gl_c.specs.managers.Guarded.{GuardedView}
 use Rattle.gl_c.specs.questions.Visits.{Unless}
 use Rattle.gl_c.specs.Names.{node_id, node_of}
-use Rattle.gl_c.specs.Numbers.{bad_number, done, mode_at, mode_number, no_manager, no_place, slot_at}
+use Rattle.gl_c.specs.Numbers.{bad_number, done, mode_at, mode_number, moved, no_manager, no_place, slot_at}
 use Rattle.gl_c.specs.answers.Replies.{count_reply, refused_reply, status_reply}
 
 -- the names of a mark
@@ -96,8 +99,19 @@ AsksMayClear None n in_progress r s' = Declines None no_manager r s'
 AsksMayClear (Some g) n in_progress r s' =
     Unless (first_refusal (group_tests (state_of g.manager) n)) r (TellsMayClear (state_of g.manager) n in_progress r) × (s' ≡ Some g)
 
--- Who lacks a key.
+-- What becomes of a wait after an index was made.
 
--- 1 for a row of the file, else 0, if the number names a mode
-abbrev pub TellsLacksKey : Target → NodeId → Reply → Type 0
-TellsLacksKey x f r = Where (mode_at x.mode) (λ m. r ≡ count_reply (if is_row_of f (target_id x m) then 1 else 0)) (r ≡ status_reply bad_number)
+-- its path passes what it passed, or must begin anew, or the call lacks a key
+abbrev pub wait_reply : AfterIndex → Reply
+wait_reply WaitsOn = status_reply done
+wait_reply BeginsAnew = status_reply moved
+wait_reply LacksKey = refused_reply no.BadKeys
+
+-- the same, if the number names a mode
+abbrev pub TellsAfterIndex : State → Target → NodeId → Reply → Type 0
+TellsAfterIndex s x f r = Where (mode_at x.mode) (λ m. r ≡ wait_reply (after_index s.graph (target_id x m) f)) (r ≡ status_reply bad_number)
+
+-- a call that asks what becomes of a wait after an index of a file was made: nothing changes
+abbrev pub AsksAfterIndex : Option GuardedView → Target → NodeId → Reply → Option GuardedView → Type 0
+AsksAfterIndex None x f r s' = Declines None no_manager r s'
+AsksAfterIndex (Some g) x f r s' = TellsAfterIndex (state_of g.manager) x f r × (s' ≡ Some g)

@@ -1,5 +1,6 @@
 //! Several managers that work as one: what a path in a part lacks in the main manager, what a transaction
-//! has to copy of its own, whether marks may be cleared, and who lacks a key. The calls change nothing.
+//! has to copy of its own, whether marks may be cleared, and what becomes of a wait after an index was made.
+//! The calls change nothing.
 
 ghost use Rattle.std.specs.Option.{option_map};
 ghost use Rattle.std.specs.Prelude.{◌≡◌, None};
@@ -7,19 +8,19 @@ ghost use Rattle.gl_graph.specs.Refusals.{first_refusal};
 ghost use Rattle.gl_model.specs.Calls.{group_tests};
 ghost use Rattle.gl_catalog.specs.Manager.{state_of};
 ghost use Rattle.gl_c.specs.managers.Handle.{guarded_in};
-ghost use Rattle.gl_c.specs.questions.Passing.{AnswersLack, AnswersOwn, AsksLack, AsksMayClear, AsksOwn, FindsLack, TellsLacksKey, TellsMayClear};
-ghost use Rattle.gl_c.specs.questions.Passing.{lack_reply, own_reply, target_id};
+ghost use Rattle.gl_c.specs.questions.Passing.{AnswersLack, AnswersOwn, AsksAfterIndex, AsksLack, AsksMayClear, AsksOwn, FindsLack, TellsAfterIndex};
+ghost use Rattle.gl_c.specs.questions.Passing.{TellsMayClear, lack_reply, own_reply, target_id, wait_reply};
 ghost use Rattle.gl_c.specs.questions.Visits.{Unless};
 ghost use Rattle.gl_c.specs.Names.{node_id};
 
 use crate::answers::reply::Reply;
 use crate::managers::handle::Handle;
 use crate::names::Node;
-use crate::numbers::{BAD_NUMBER, DONE, NO_PLACE, mode_at, mode_number, slot_at};
+use crate::numbers::{BAD_NUMBER, DONE, MOVED, NO_PLACE, mode_at, mode_number, slot_at};
 use crate::questions::visits::refusal_of;
 use gl_catalog::Manager;
 use gl_modes::{Mode, NodeId, Refusal};
-use gl_parts::{Marked, first_lack, intention, lacks_key, may_clear, own_copy};
+use gl_parts::{AfterIndex, Marked, after_index, first_lack, intention, may_clear, own_copy};
 use std::alloc::{AllocError, Global};
 
 /// A node for which a part is marked, by its names in the main manager and in the part.
@@ -117,15 +118,12 @@ pub extern "C" fn bs_call_may_clear(manager: &mut Handle, node: Node, in_progres
     manager.may_clear(node.id(), in_progress)
 }
 
-/// Whether a call that waits for this target lacks a key after an index of a file was made.
+/// What becomes of a wait in a part, for this target, after an index of a file was made there.
 #[unsafe(no_mangle)]
-pub extern "C" fn bs_call_lacks_key(target: &Target, file: Node) -> Reply
-    ensures { TellsLacksKey target.now (node_id file) result }
+pub extern "C" fn bs_call_after_index(part: &mut Handle, target: &Target, file: Node) -> Reply
+    ensures { AsksAfterIndex (guarded_in part.old) target.now (node_id file) result (guarded_in part.new) }
 {
-    match mode_at(target.mode) {
-        Some(mode) => Reply::with_count(u64::from(lacks_key(target.id(mode), file.id()))),
-        None => Reply::with_status(BAD_NUMBER),
-    }
+    part.after_index(*target, file.id())
 }
 
 /// The reply for what a path lacks.
@@ -207,5 +205,26 @@ pub(crate) fn may_clear_reply(manager: &Manager, node: NodeId, in_progress: u64)
     match refusal_of(manager, node) {
         Some(refusal) => Reply::refused(refusal),
         None => Reply::with_count(u64::from(may_clear(manager, node, in_progress))),
+    }
+}
+
+/// What becomes of a wait after an index of a file was made, if the number of its mode names one.
+pub(crate) fn after_index_reply(part: &Manager, target: Target, file: NodeId) -> Reply
+    ensures { TellsAfterIndex (state_of part.now) target file result }
+{
+    match mode_at(target.mode) {
+        Some(mode) => wait_reply(after_index(part, target.id(mode), file)),
+        None => Reply::with_status(BAD_NUMBER),
+    }
+}
+
+/// The reply for what becomes of a wait.
+fn wait_reply(after: AfterIndex) -> Reply
+    ensures { result ≡ wait_reply after }
+{
+    match after {
+        AfterIndex::WaitsOn => Reply::with_status(DONE),
+        AfterIndex::BeginsAnew => Reply::with_status(MOVED),
+        AfterIndex::LacksKey => Reply::refused(Refusal::BadKeys),
     }
 }

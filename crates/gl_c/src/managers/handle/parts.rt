@@ -1,14 +1,16 @@
-//! Questions about two managers that work as one with others, or about marks.
+//! Questions about managers that work as one with others.
 
 ghost use Rattle.std.specs.Option.{option_map};
 ghost use Rattle.gl_catalog.specs.Manager.{state_of};
 ghost use Rattle.gl_c.specs.managers.Handle.{guarded_in};
-ghost use Rattle.gl_c.specs.questions.Passing.{AsksLack, AsksMayClear, AsksOwn, FindsLack, FindsOwn};
+ghost use Rattle.gl_c.specs.questions.Passing.{AsksAfterIndex, AsksLack, AsksMayClear, AsksOwn, FindsLack, FindsOwn};
 
 use super::Handle;
 use crate::answers::reply::Reply;
 use crate::numbers::NO_MANAGER;
-use crate::questions::passing::{Mark, Target, lacks_reply, may_clear_reply, own_copy_reply};
+use crate::questions::passing::{
+    Mark, Target, after_index_reply, lacks_reply, may_clear_reply, own_copy_reply,
+};
 use gl_catalog::Manager;
 use gl_modes::NodeId;
 
@@ -92,6 +94,19 @@ impl Handle {
             return Reply::with_status(NO_MANAGER);
         };
         let reply = may_clear_reply(session.manager(), node, in_progress);
+        *self = Handle::of(alloc, session);
+        reply
+    }
+
+    /// What becomes of a wait in this part after an index of a file was made here.
+    pub(crate) fn after_index(&mut self, target: Target, file: NodeId) -> Reply
+        ensures { AsksAfterIndex (guarded_in self.old) target file result (guarded_in self.new) }
+    {
+        let alloc = self.alloc;
+        let Some(session) = self.take() else {
+            return Reply::with_status(NO_MANAGER);
+        };
+        let reply = after_index_reply(session.manager(), target, file);
         *self = Handle::of(alloc, session);
         reply
     }
