@@ -6,10 +6,10 @@
  * allowed leaves it so. What is decided of a group is the library's too, and proved: what a path lacks in the main table
  * (bs_path_lacks), where each request of a path that lacks nothing is such a step; what a visit copies (bs_next_copy),
  * and what a transaction copies of its own (bs_own_copy); when marks may be cleared (bs_may_clear); who waits for whom
- * in all tables (bs_join_board), and who falls (bs_suspects, bs_youngest); which sleeps for rows a new index ends
- * (bs_lacks_key); where something may rest, and who takes it up (bs_may_rest, bs_takes_up). This source keeps the
- * latches, the sleeps, the marks and the counts of requests in progress, and asks all that at its time; and it says
- * which paths to records begin anew after a new index. That is written in C, and tested.
+ * in all tables (bs_join_board), and who falls (bs_suspects, bs_youngest); which waits a new index ends (bs_after_index);
+ * where something may rest, and who takes it up (bs_may_rest, bs_takes_up); and the order of begins that sleep for a slot,
+ * since they are in the queue of a node of a table. This source keeps the latches, the sleeps, the marks and the counts
+ * of requests in progress, and asks all that at its time. That is written in C, and tested.
  *
  * LATCHES are acquired by rising number: nobody acquires the main table's while holding a part's.
  *
@@ -35,8 +35,8 @@
  * NEW INDEXES. A path to write a row or a record passes each node above the indexes of its file. So a path that waits in
  * a part passes more after an index is made, and may lack that in the main table. Its wait ends as the index is made, with
  * the latch held: that for a row with BS_BAD_KEYS, since it has no key for it. Otherwise it would go on if another index
- * was dropped meanwhile, so that the file has as many as before. A path to a record by its node begins anew, and so
- * requests what it lacks by now. No other call makes a path that waits pass more.
+ * was dropped meanwhile, so that the file has as many as before. A path to write a record by its node begins anew, and
+ * so requests what it lacks by now. No other call makes a path that waits pass more.
  *
  * BEFORE A SLEEP in the main table all that a transaction holds in its parts on inner nodes is copied there, since
  * nobody can copy it while it waits.
@@ -856,15 +856,6 @@ static bs_status group_part_of(bs_table_group *group, bs_node node, bs_status in
   return status == BS_DONE ? inner : status;
 }
 
-/* How the sleep of a call for this target ends after an index of this file was made: with BS_BAD_KEYS if it lacks a key
- * for it; with BS_MOVED if it waits for a record of the file by its node, so that its path begins anew. BS_DONE: it
- * passes what it passed, and sleeps on. */
-static bs_status group_end_by_index(const group_table *t, bs_target target, bs_node file) {
-  if (bs_lacks_key(target, file).count != 0) return BS_BAD_KEYS;
-  if (target.rows == 0 && group_is_node(bs_parent(t->manager, target.node, 0).node, file)) return BS_MOVED;
-  return BS_DONE;
-}
-
 /* Leaves a part after a call for an index of a file that was answered so. If it was made, each sleep ends whose path
  * would pass more since then. */
 static bs_reply group_indexed(bs_table_group *group, const group_table *t, bs_node file, bs_reply reply) {
@@ -872,7 +863,7 @@ static bs_reply group_indexed(bs_table_group *group, const group_table *t, bs_no
   for (slot = 0; reply.status == BS_DONE && slot < group->most; slot++) {
     bs_status end;
     if (!bs_inside_sleeps(t->table, slot)) continue;
-    end = group_end_by_index(t, group_slot_at(group, slot)->target, file);
+    end = bs_after_index(t->manager, group_slot_at(group, slot)->target, file).status;
     if (end != BS_DONE) bs_inside_end_sleep(t->table, slot, end);
   }
   return group_leave(t, reply);

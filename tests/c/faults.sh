@@ -391,13 +391,13 @@ group-wakes-nobody-by-what-it-keeps	/^bs_reply bs_inside_commit_and_rest(/,/^}/s
 group-tries-keep-the-way	/ group_tries(/,/^}/s/^  manner.keep = keep;/  manner.keep = BS_KEEP_WAY;/
 group-tries-sleep	/ group_tries(/,/^}/s/NULL, false,/NULL, true,/
 group-refused-requests-leave-marks	/ group_more_ended(/,/^}/s/^  if (status != BS_DONE) group_clear(.*//
-group-new-indexes-end-no-sleep	/ group_end_by_index(/,/^}/s/return BS_BAD_KEYS;/return BS_DONE;/
-group-new-indexes-end-no-path	/ group_end_by_index(/,/^}/s/return BS_MOVED;/return BS_DONE;/
-group-new-indexes-end-each-path	/ group_end_by_index(/,/^}/s/^  if (target.rows == 0 .*/  return BS_MOVED;/
+group-new-indexes-end-no-sleep	/ group_indexed(/,/^}/s/^    if (end != BS_DONE) .*//
+group-new-indexes-end-no-path	/ group_indexed(/,/^}/s/^    if (end != BS_DONE) /    if (end == BS_BAD_KEYS) /
+group-new-indexes-end-each-path	/ group_indexed(/,/^}/s/^    if (end != BS_DONE) bs_inside_end_sleep(t->table, slot, end)/    bs_inside_end_sleep(t->table, slot, end == BS_DONE ? BS_MOVED : end)/
 group-answers-that-it-moved	/^bs_reply bs_group_lock_path(/,/^}/s/reply.status == BS_MOVED, 0/false, 0/
 group-gives-records-their-own-names	/ group_index_once(/,/^}/s/ = group_name_there(call->at, index->records\[i\]);/ = index->records[i];/
 group-keeps-the-names-of-records	/^bs_reply bs_group_index_records(/,/^}/s/^  free(index.there);//
-group-new-indexes-end-any-sleep	/ group_end_by_index(/,/^}/s/^  if (bs_lacks_key(.*/  return BS_BAD_KEYS;/
+group-new-indexes-end-any-sleep	/ group_indexed(/,/^}/s/^    if (end != BS_DONE) bs_inside_end_sleep(t->table, slot, end)/    bs_inside_end_sleep(t->table, slot, BS_BAD_KEYS)/
 group-rolls-back-and-keeps	/ group_release_in(/,/^}/s/^  if (kept->count > savepoint) .*//
 group-rolls-back-where-it-was	/^bs_reply bs_group_release_since(/,/^}/s/left = own->used;/left = own->used \& -own->used;/
 group-keeps-what-was-for-an-instant	s/mode | manner->instant, manner->until)/mode, manner->until)/

@@ -1503,16 +1503,41 @@ static void paths_lack_intentions(void) {
   DONE(bs_end(&part));
 }
 
-/* Which sleeps a new index ends, what may rest beside which marks, and who takes it up. */
-static void rows_lack_keys_and_some_rest(void) {
-  bs_node file = { 7, 3 }, other = { 7, 4 };
-  bs_target row = { file, BS_S, 1 }, whole = { file, BS_X, 0 };
+/* Which waits a new index ends. */
+static void waits_end_after_an_index(void) {
+  bs_manager part = BS_NO_MANAGER_HERE;
+  bs_node root, file, other, record;
+  bs_target to;
+  bs_txn txn;
+  DONE(bs_make(&part, NULL));
+  root = DONE(bs_add_inner(&part, NULL, 0)).node;
+  file = DONE(bs_add_file(&part, &root, 1)).node;
+  other = DONE(bs_add_file(&part, &root, 1)).node;
+  txn = DONE(bs_begin(&part)).txn;
+  DONE(bs_lock_path(&part, txn, file, BS_X, &told));
+  record = DONE(bs_insert(&part, txn, file, NULL, 0)).node;
+  to.node = file;
+  to.rows = 1;
+  to.mode = BS_S;
+  WANT(bs_after_index(&part, to, file).status == BS_BAD_KEYS && bs_after_index(&part, to, other).status == BS_DONE);
+  to.mode = BS_X;
+  WANT(bs_after_index(&part, to, file).status == BS_BAD_KEYS);
+  to.rows = 0;
+  WANT(bs_after_index(&part, to, file).status == BS_DONE);
+  to.node = record;
+  WANT(bs_after_index(&part, to, file).status == BS_MOVED && bs_after_index(&part, to, other).status == BS_DONE);
+  to.mode = BS_S;
+  WANT(bs_after_index(&part, to, file).status == BS_DONE);
+  to.mode = 6;
+  WANT(bs_after_index(&part, to, file).status == BS_BAD_NUMBER);
+  WANT(bs_after_index(NULL, to, file).status == BS_NULL_POINTER);
+  DONE(bs_end(&part));
+  WANT(bs_after_index(&part, to, file).status == BS_NO_MANAGER);
+}
+
+/* What may rest beside which marks, and who takes it up. */
+static void some_may_rest(void) {
   const bs_marked mark = { { 1, 1 }, { 1, 2 } };
-  WANT(DONE(bs_lacks_key(row, file)).count == 1 && DONE(bs_lacks_key(row, other)).count == 0);
-  row.mode = BS_X;
-  WANT(DONE(bs_lacks_key(row, file)).count == 1 && DONE(bs_lacks_key(whole, file)).count == 0);
-  row.mode = 6;
-  WANT(bs_lacks_key(row, file).status == BS_BAD_NUMBER);
   WANT(bs_may_rest(true, 1, NULL, 0) && bs_may_rest(true, UINT64_MAX, &mark, 0));
   WANT(!bs_may_rest(true, 1, &mark, 1) && !bs_may_rest(true, 1, NULL, 1));
   WANT(!bs_may_rest(false, 1, NULL, 0) && !bs_may_rest(true, 0, NULL, 0));
@@ -2164,7 +2189,8 @@ int main(void) {
   TELL(names_that_name_nothing);
   TELL(a_part_is_visited);
   TELL(paths_lack_intentions);
-  TELL(rows_lack_keys_and_some_rest);
+  TELL(waits_end_after_an_index);
+  TELL(some_may_rest);
   TELL(boards_are_joined);
   TELL(visits_are_refused);
   TELL(a_refused_call_tells_nobody);
