@@ -221,6 +221,7 @@ impl Options {
             transactions: self.transactions as u32,
             nodes: self.nodes as u32,
             bounds: self.bounds as u32,
+            parts: 1,
         })
     }
 }

@@ -214,6 +214,7 @@ pub(crate) struct Options {
     pub(crate) transactions: u32,
     pub(crate) nodes: u32,
     pub(crate) bounds: u32,
+    pub(crate) parts: u32,
 }
 
 /// What stays where it is on the heap: the place of a manager, and the notices of its last command.
