@@ -1119,7 +1119,8 @@ static bs_status group_way_by_main(group_way *way) {
 }
 
 /* Acquires all that a request lacks in the main table. If that is done, the part's latch is held, and it lacks nothing;
- * else no latch is. The part may get marks while the main table's latch is free. */
+ * else no latch is. The part may get marks while the main table's latch is free. What the main table has to tell is told
+ * before the part's latch is acquired, since callbacks may acquire any latch. */
 static GROUP_APART bs_reply group_reach_by_main(group_way *way) {
   group_table *main = &way->group->tables[0];
   bs_reply reply;
@@ -1138,6 +1139,7 @@ static GROUP_APART bs_reply group_reach_by_main(group_way *way) {
     }
     bs_inside_release(way->part->table);
     reply = lacks.status == BS_DONE ? group_acquire(way, lacks) : lacks;
+    bs_inside_tell(main->table);
   }
   if (reply.status == BS_VICTIM) group_falls(way->own);
   return group_leave(main, reply);

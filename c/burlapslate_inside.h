@@ -133,6 +133,10 @@ void bs_inside_take(bs_table *table);
 void bs_inside_release(bs_table *table);
 bool bs_inside_holds(const bs_table *table);
 
+/* If this hold has ended waits: releases the latch, wakes and tells these, and acquires it again, whether the table is
+ * open by then or not. */
+void bs_inside_tell(bs_table *table);
+
 /* Its manager; it is closed if the table was ended. It stays in its place. */
 bs_manager *bs_inside_manager(bs_table *table);
 

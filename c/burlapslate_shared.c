@@ -2590,6 +2590,10 @@ void bs_inside_release(bs_table *table) {
   table_release(table);
 }
 
+void bs_inside_tell(bs_table *table) {
+  table_tell_between(table);
+}
+
 bool bs_inside_holds(const bs_table *table) {
   return table_holds(table);
 }

@@ -439,6 +439,7 @@ group-limits-the-next	/ group_end_in_all(/,/^}/s/^  own->has_deadline = false;//
 group-expires-without-a-look	/^bs_reply bs_group_expire(/,/^}/s/^  if (all.status == BS_DONE) group_look_again(group);//
 group-expires-to-the-last-time	/^bs_reply bs_group_expire(/,/^}/s/(all.count == 0 || group_is_before(&time, &earliest))/true/
 group-tells-with-latches	/ group_settle_all(/,/^}/s/^  bs_inside_keep_ends(&ends);/  ends.first = NULL;/
+group-tells-with-the-latch-of-a-part	/ group_reach_by_main(/,/^}/s/^    bs_inside_tell(main->table);//
 group-sees-no-asks	/^bool bs_inside_any_waits(/,/^}/s/return any != 0;/return any != 0 \&\& table->sleepers > 0;/
 group-lists-wake-nobody	/ group_end_list(/,/^}/s/^  pthread_cond_broadcast(.*//
 group-lists-bar-their-transaction	/ group_end_list(/,/^}/s/^  __atomic_fetch_and(.*//

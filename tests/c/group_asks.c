@@ -451,6 +451,32 @@ static void callbacks_call(void) {
   commit(callback_other);
 }
 
+/* A path to a part takes the place of a victim in a queue of the main table: that one is told before the part's latch is
+ * acquired, so its callback may use the part. */
+static void abort_and_try_in_callback(bs_txn txn) {
+  DONE(bs_group_abort(group, txn));
+  DONE(bs_group_try_path(group, callback_other, records[2][1], BS_S, 0));
+}
+
+static void victims_are_told_before_a_part_is_entered(void) {
+  bs_txn reader = DONE(bs_group_begin_again(group, 0)).txn, holder = DONE(bs_group_begin_again(group, 1)).txn;
+  bs_txn victim = begun();
+  callback_other = begun();
+  listen();
+  DONE(lock_path(holder, areas[1], BS_S));
+  DONE(lock_path(reader, areas[2], BS_X));
+  waits_for(ask(victim, areas[1], BS_X), victim, areas[1]);
+  waits_for(ask(holder, areas[2], BS_S), holder, areas[2]);
+  told_does = abort_and_try_in_callback;
+  DONE(lock_path(reader, records[2][0], BS_S));
+  told_does = NULL;
+  tells(victim, BS_VICTIM);
+  commit(reader);
+  tells(holder, BS_DONE);
+  commit(holder);
+  commit(callback_other);
+}
+
 /* The second waits in no table by then: it is on its way from the main table to its part. */
 static void cancel_in_callback(bs_txn txn) {
   if (txn.slot == callback_other.slot) return;
@@ -532,6 +558,7 @@ static void lists_wait(void) {
   bs_txn holder = begun(), txn = begun();
   bs_command list[3];
   bs_reply reply;
+  listen();
   DONE(lock_path(holder, records[1][0], BS_X));
   list[0] = bs_do_at(BS_DO_LOCK_PATH, txn, records[2][0], BS_X);
   list[1] = bs_do_at(BS_DO_LOCK_PATH, txn, records[1][0], BS_S);
@@ -735,7 +762,7 @@ static void ends_tell_all(void) {
   own.txn = last;
   DONE(lock_path(holder, base, BS_X));
   waits_for(ask(one, records[1][0], BS_S), one, base);
-  waits_for(ask(other, areas[1], BS_X), other, areas[1]);
+  waits_for(ask(other, areas[1], BS_X), other, base);
   run_one(last, records[1][0], BS_X, BS_WAITING);
   start(&own.thread, await_it, &own);
   while (bs_group_begin(group).status == BS_DONE) continue;
@@ -768,11 +795,13 @@ static const struct {
   uint32_t slots;
 } stories[] = {
   STORY(wrong_asks_are_refused), STORY(what_can_be_had_is_answered), STORY(ends_are_told),
-  STORY(asks_go_on_from_table_to_table), STORY(asks_find_the_part_of_a_row), STORY(asks_are_visited), STORY(strong_asks_stay_in_progress),
-  STORY(times_are_noticed), STORY(deadlines_hold_in_each_table), STORY(sleepers_are_cancelled),
-  STORY(cycles_of_asks_end), STORY(a_thread_watches), STORY(sleepers_end_cycles_of_asks), STORY(new_indexes_end_asks),
-  STORY(callbacks_call), STORY(asks_are_cancelled_between_tables), STORY(refused_memory_asks_for_nothing), STORY(lists_are_made_in_order), STORY(lists_wait),
-  STORY(awaits_are_woken), STORY(cycles_of_lists_end), STORY(the_first_is_acquired), STORY(transactions_are_renewed),
+  STORY(asks_go_on_from_table_to_table), STORY(asks_find_the_part_of_a_row), STORY(asks_are_visited),
+  STORY(strong_asks_stay_in_progress), STORY(times_are_noticed), STORY(deadlines_hold_in_each_table),
+  STORY(sleepers_are_cancelled), STORY(cycles_of_asks_end), STORY(a_thread_watches),
+  STORY(sleepers_end_cycles_of_asks), STORY(new_indexes_end_asks), STORY(callbacks_call),
+  STORY(victims_are_told_before_a_part_is_entered), STORY(asks_are_cancelled_between_tables),
+  STORY(refused_memory_asks_for_nothing), STORY(lists_are_made_in_order), STORY(lists_wait), STORY(awaits_are_woken),
+  STORY(cycles_of_lists_end), STORY(the_first_is_acquired), STORY(transactions_are_renewed),
   { "begins_are_served_in_order", begins_are_served_in_order, 2 }, { "no_turn_is_lost", no_turn_is_lost, 2 },
 };
 

@@ -348,9 +348,10 @@ static void each_part_is_dumped(world *w) {
 
 enum { MOST_MARKS = 6, STEPS = 400 };
 
+/* On an inner node the second may have less: what was raised in one part stays, but what is new in another is released. */
 static void want_same_locks(world *one, world *other, bs_txn a, bs_txn b) {
   size_t i, j;
-  WANT(held(one, a, one->base) == held(other, b, other->base));
+  WANT(held(one, a, one->base) >= held(other, b, other->base));
   for (i = 0; i < FILES; i++) {
     WANT(held(one, a, one->files[i]) == held(other, b, other->files[i]));
     for (j = 0; j < RECORDS; j++) WANT(held(one, a, one->records[i][j]) == held(other, b, other->records[i][j]));

@@ -55,7 +55,7 @@ static inline void nap(void) {
 }
 
 /* The time in this many microseconds. */
-static struct timespec moment_in(long microseconds) {
+static inline struct timespec moment_in(long microseconds) {
   struct timespec moment;
   clock_gettime(CLOCK_MONOTONIC, &moment);
   moment.tv_sec += microseconds / 1000000;
