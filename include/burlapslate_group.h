@@ -304,7 +304,7 @@ bs_reply bs_group_index_by(bs_table_group *group, bs_txn txn, const bs_node *par
 
 /* As bs_table_index_records: `records` are names of the group, and one of another part is refused with BS_BAD_KEYS. The
  * transaction must hold BS_X on the file and on each index of it; a parent that it lacks, and sleeps for rows, are as of
- * bs_group_index_by. A path that sleeps for a record of the file begins anew. Takes memory for the names too. */
+ * bs_group_index_by. A path that sleeps to write a record of the file begins anew. Takes memory for the names too. */
 bs_reply bs_group_index_records(bs_table_group *group, bs_txn txn, const bs_node *parents, size_t count, bs_node file,
                                 const uint64_t *bounds, size_t bound_count, const bs_node *records,
                                 const uint64_t *keys, size_t record_count);
