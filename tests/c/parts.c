@@ -577,7 +577,7 @@ int main(void) {
   feed(20);
   threads_move_money(1);
   threads_move_money(PARTS);
-  threads_move_money(BS_MOST_PARTS);
+  threads_move_money(16);
   printf("%s\n", story);
   PLAY(refused_memory_sets_no_savepoint);
   story = "refused_memory_makes_no_table";

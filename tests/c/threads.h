@@ -54,7 +54,7 @@ static inline void nap(void) {
   nanosleep(&time, NULL);
 }
 
-/* The time in this many microseconds. */
+/* The time in this many microseconds; before now if they are negative. */
 static inline struct timespec moment_in(long microseconds) {
   struct timespec moment;
   clock_gettime(CLOCK_MONOTONIC, &moment);
@@ -63,6 +63,10 @@ static inline struct timespec moment_in(long microseconds) {
   if (moment.tv_nsec >= 1000000000) {
     moment.tv_sec++;
     moment.tv_nsec -= 1000000000;
+  }
+  if (moment.tv_nsec < 0) {
+    moment.tv_sec--;
+    moment.tv_nsec += 1000000000;
   }
   return moment;
 }
