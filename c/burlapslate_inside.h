@@ -126,8 +126,9 @@ typedef struct bs_inside_asks {
 void bs_inside_keep_ends(bs_inside_asks *ends);
 void bs_inside_tell_ends(bs_inside_asks *ends);
 
-/* Acquires the latch if the table is open, and answers whether it is; the second acquires it in any case. Releases it,
- * and wakes those whose wait has ended. Whether this thread holds the table by bs_table_hold. */
+/* Acquires the latch if the table is open, and answers whether it is; the second acquires it in any case. The thread does
+ * not hold the table by bs_table_hold. Releases it, and wakes those whose wait has ended. Whether this thread holds the
+ * table by bs_table_hold. */
 bool bs_inside_enter(bs_table *table);
 void bs_inside_take(bs_table *table);
 void bs_inside_release(bs_table *table);

@@ -2579,7 +2579,8 @@ void bs_inside_deadline(bs_table *table, bs_txn txn, const struct timespec *unti
 }
 
 bool bs_inside_enter(bs_table *table) {
-  return table_enter(table);
+  table_take(table);
+  return __builtin_expect(table->stage == TABLE_OPEN, 1) || table_turned_away(table);
 }
 
 void bs_inside_take(bs_table *table) {

@@ -418,7 +418,6 @@ group-asks-end-in-the-main-table	/ group_ask_goes_on(/,/^}/s/bool is_on_the_way 
 group-asks-for-rows-end-in-the-main-table	/ group_ask_goes_on(/,/^}/s/(ask->is_row || \(.*\));/\1;/
 group-asks-go-on-after-any-end	/ group_ask_goes_on(/,/^}/s/? end.status == BS_DONE :/? true :/
 group-asks-do-not-begin-anew	/ group_ask_goes_on(/,/^}/s/: end.status == BS_MOVED .*) return/: false) return/
-group-asks-for-rows-begin-anew	/ group_ask_goes_on(/,/^}/s/: end.status == BS_MOVED \&\& !ask->is_row/: end.status == BS_MOVED || end.status == BS_BAD_KEYS/
 group-asks-leave-their-transaction-free	s/^  __atomic_fetch_or(&own->barred, GROUP_WAITS, .*//
 group-asks-bar-their-transaction	/ group_ask_for(/,/^}/s/^  if (reply.status != BS_WAITING) .*//
 group-callbacks-find-it-barred	/ group_ask_ended(/,/^}/s/^  __atomic_fetch_and(.*//

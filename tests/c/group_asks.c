@@ -188,7 +188,7 @@ static void asks_go_on_from_table_to_table(void) {
   WANT(sleeps_in(1, txn));
   ANSWERS(BS_TXN_WAITING, bs_group_commit(group, txn));
   commit(reader);
-  tells(txn, BS_DONE);
+  WANT(DONE(bs_group_held(group, txn, tells(txn, BS_DONE).node)).mode == BS_X);
   WANT(held_in(group, 1, txn, areas[1]) == BS_IX);
   commit(txn);
 }
@@ -269,6 +269,25 @@ static void times_are_noticed(void) {
   commit(last);
 }
 
+/* The earliest of the times in any table is the next. */
+static void the_earliest_time_is_next(void) {
+  bs_txn holder = begun(), one = begun(), other = begun();
+  struct timespec next = { 0, 0 }, far = bs_after(100000), near = bs_after(50000);
+  listen();
+  DONE(lock_path(holder, records[1][0], BS_X));
+  DONE(lock_path(holder, records[2][0], BS_X));
+  waits_for(ask_until(one, records[1][0], BS_S, near), one, records[1][0]);
+  waits_for(ask_until(other, records[2][0], BS_S, far), other, records[2][0]);
+  WANT(DONE(bs_group_expire(group, &next)).count == 2);
+  WANT(next.tv_sec == near.tv_sec && next.tv_nsec == near.tv_nsec);
+  DONE(bs_group_cancel(group, one));
+  tells(one, BS_NOT_WAITING);
+  commit(holder);
+  tells(other, BS_DONE);
+  commit(one);
+  commit(other);
+}
+
 /* The limit of a transaction holds in each table, whether it joins it before or after. */
 static void deadlines_hold_in_each_table(void) {
   bs_txn holder = begun(), txn = begun();
@@ -287,6 +306,8 @@ static void deadlines_hold_in_each_table(void) {
   DONE(bs_group_cancel(group, txn));
   tells(txn, BS_NOT_WAITING);
   waits_for(ask(txn, areas[1], BS_X), txn, areas[1]);
+  DONE(bs_group_expire(group, NULL));
+  tells_nobody();
   DONE(bs_group_cancel(group, txn));
   tells(txn, BS_NOT_WAITING);
   DONE(bs_group_deadline(group, txn, &at_once));
@@ -796,7 +817,7 @@ static const struct {
 } stories[] = {
   STORY(wrong_asks_are_refused), STORY(what_can_be_had_is_answered), STORY(ends_are_told),
   STORY(asks_go_on_from_table_to_table), STORY(asks_find_the_part_of_a_row), STORY(asks_are_visited),
-  STORY(strong_asks_stay_in_progress), STORY(times_are_noticed), STORY(deadlines_hold_in_each_table),
+  STORY(strong_asks_stay_in_progress), STORY(times_are_noticed), STORY(the_earliest_time_is_next), STORY(deadlines_hold_in_each_table),
   STORY(sleepers_are_cancelled), STORY(cycles_of_asks_end), STORY(a_thread_watches),
   STORY(sleepers_end_cycles_of_asks), STORY(new_indexes_end_asks), STORY(callbacks_call),
   STORY(victims_are_told_before_a_part_is_entered), STORY(asks_are_cancelled_between_tables),
