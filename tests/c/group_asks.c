@@ -20,6 +20,7 @@ typedef struct told_end {
 static pthread_mutex_t told_latch = PTHREAD_MUTEX_INITIALIZER;
 static told_end told[MOST_TOLD];
 static size_t told_count;
+static char words[BS_SLOTS]; /* by slot: the word of each ask */
 static void (*told_does)(bs_txn txn); /* what the callback does beside, if it is not null */
 
 static void hear(void *context, bs_txn txn, bs_reply end, void *word) {
@@ -49,7 +50,7 @@ static bs_reply tells(bs_txn txn, bs_status status) {
   bs_reply end;
   WANT(heard() == 1);
   end = told[0].end;
-  WANT(told[0].txn.slot == txn.slot && told[0].txn.age == txn.age && told[0].word == &told[txn.slot]);
+  WANT(told[0].txn.slot == txn.slot && told[0].txn.age == txn.age && told[0].word == &words[txn.slot]);
   told_count = 0;
   ANSWERS(status, end);
   want_rules(group);
@@ -68,17 +69,17 @@ static void listen(void) {
 
 /* Asks; the word of a transaction is the same for each. */
 static bs_reply ask(bs_txn txn, bs_node node, bs_mode mode) {
-  return bs_group_ask_path(group, txn, node, mode, NULL, &told[txn.slot]);
+  return bs_group_ask_path(group, txn, node, mode, NULL, &words[txn.slot]);
 }
 
 static bs_reply ask_until(bs_txn txn, bs_node node, bs_mode mode, struct timespec until) {
-  return bs_group_ask_path(group, txn, node, mode, &until, &told[txn.slot]);
+  return bs_group_ask_path(group, txn, node, mode, &until, &words[txn.slot]);
 }
 
 static bs_reply ask_row(bs_txn txn, bs_node file, uint64_t number, bs_mode mode) {
   const uint64_t key = 200;
   size_t count = bs_group_table(file) == 0 ? 0 : 1; /* a spread file has no index */
-  return bs_group_ask_row_path(group, txn, file, number, &key, count, mode, NULL, &told[txn.slot]);
+  return bs_group_ask_row_path(group, txn, file, number, &key, count, mode, NULL, &words[txn.slot]);
 }
 
 static bs_reply lock_row(bs_txn txn, bs_node file, uint64_t number, bs_mode mode) {
