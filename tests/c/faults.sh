@@ -440,11 +440,10 @@ group-expires-to-the-last-time	/^bs_reply bs_group_expire(/,/^}/s/(all.count == 
 group-tells-with-latches	/ group_settle_all(/,/^}/s/^  bs_inside_keep_ends(&ends);/  ends.first = NULL;/
 group-tells-with-the-latch-of-a-part	/ group_reach_by_main(/,/^}/s/^    bs_inside_tell(main->table);//
 group-sees-no-asks	/^bool bs_inside_any_waits(/,/^}/s/return any != 0;/return any != 0 \&\& table->sleepers > 0;/
-group-lists-wake-nobody	/ group_end_list(/,/^}/s/^  pthread_cond_broadcast(.*//
 group-lists-bar-their-transaction	/ group_end_list(/,/^}/s/^  __atomic_fetch_and(.*//
 group-awaits-without-a-look	/ group_doze(/,/^}/s/^    group_look_again(.*//
 group-awaits-cancel-nothing	/ group_await_end(/,/^}/s/^    group_cancel_wait(.*//
-group-lists-name-no-made-node	/ group_name_made(/,/^}/s/^  if (.*//
+group-lists-name-no-made-node	/^static void group_name_made(/,/^}/s/^  if (.*//
 group-lists-forget-who-began	/^size_t bs_group_run(/,/^}/s/^    if (kind == BS_DO_BEGIN .*//
 group-lists-go-on-after-a-refusal	/^size_t bs_group_run(/,/^}/s/ == BS_DONE) {/ != BS_NOT_MADE) {/
 group-tries-pass-a-refusal	/^size_t bs_group_try_first(/,/^}/s/status != BS_WOULD_BLOCK \&\&/status != BS_WOULD_BLOCK \&\& status != BS_BAD_NUMBER \&\&/

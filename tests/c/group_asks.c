@@ -747,6 +747,10 @@ static void begins_are_served_in_order(void) {
   commit(DONE(second.reply).txn);
   WANT(group_slot_at(group, third.reply.txn.slot)->since == 1);
   commit(DONE(third.reply).txn);
+  /* A begin that came later gets no slot that is free for who sleeps. */
+  __atomic_fetch_add(&group->queued, 1, __ATOMIC_SEQ_CST);
+  ANSWERS(BS_TOO_MANY_TXNS, bs_group_begin(group));
+  __atomic_fetch_sub(&group->queued, 1, __ATOMIC_SEQ_CST);
   one = DONE(bs_group_begin_in_turn(group, NULL)).txn;
   commit(one);
 }
