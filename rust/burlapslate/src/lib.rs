@@ -119,6 +119,7 @@ mod session;
 mod sys;
 mod table;
 mod watcher;
+mod watching;
 
 pub use answers::Answers;
 pub use board::{Board, SlotIter, Slots};

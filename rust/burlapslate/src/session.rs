@@ -8,7 +8,7 @@ use crate::resting::Resting;
 use crate::sys::commands::{self, Command};
 use crate::sys::shared::{self, Calling, Kept};
 use crate::sys::{self, Reply};
-use crate::table::{node_of, Locking, Sought, Table};
+use crate::table::{node_of, Asker, Locking, Sought, Table};
 use std::error::Error;
 use std::fmt;
 use std::ops::Deref;
@@ -398,8 +398,9 @@ impl<'t> Session<'t> {
     }
 
     /// Locks what is requested, for a task.
-    fn locking<'a>(&'a mut self, sought: Sought<'a>) -> Locking<'a> {
-        Locking::new(&self.table, self.txn, sought, self.until(None))
+    fn locking<'a>(&'a mut self, sought: Sought<'a>) -> Locking<'a, Asker<'a>> {
+        let (table, txn) = (&*self.table, self.txn);
+        Locking::new(Asker { table, txn }, sought, self.until(None))
     }
 
     /// As [`Manager::lock`](crate::Manager::lock), but the call sleeps until the lock is granted or the

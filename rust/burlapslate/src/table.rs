@@ -8,13 +8,14 @@ use crate::notices::{Notice, Notices};
 use crate::refusal::{accepted, done, Refusal};
 use crate::session::{deadline, Session, Stop};
 use crate::sys::shared::{self, Calling, Time};
-use crate::sys::{Reply, DONE, IN_USE};
+use crate::sys::{Reply, DONE};
 use crate::watcher::Watcher;
+use crate::watching::Watching;
 use std::fmt;
-use std::sync::{Arc, Condvar, Mutex, MutexGuard, PoisonError};
+use std::sync::Arc;
 use std::time::{Duration, Instant};
 
-pub(crate) use asks::{Locking, Sought};
+pub(crate) use asks::{Asker, Locking, Sought};
 use begins::Beginning;
 pub use running::{Awaited, AwaitedNode, Blocker, Histogram, LongWait, Told, WaitEnd, Waits};
 
@@ -48,9 +49,7 @@ pub use running::{Awaited, AwaitedNode, Blocker, Histogram, LongWait, Told, Wait
 pub struct Table {
     shared: shared::Table,
     clock: Clock,
-    /// Whether the calls that watch over the table must return.
-    is_unwatched: Mutex<bool>,
-    unwatched: Condvar,
+    watching: Watching,
 }
 
 impl Table {
@@ -74,8 +73,7 @@ impl Table {
         Ok(Table {
             shared: shared::Table::new(&options.checked()?)?,
             clock: Clock::new(),
-            is_unwatched: Mutex::new(false),
-            unwatched: Condvar::new(),
+            watching: Watching::new(),
         })
     }
 
@@ -406,30 +404,14 @@ impl Table {
     /// # Ok::<(), burlapslate::Refusal>(())
     /// ```
     pub fn watch_over(&self, rest: Duration) -> Result<(), Refusal> {
-        if *self.is_unwatched() {
-            return Ok(());
-        }
-        let pace = u64::try_from(rest.as_nanos()).unwrap_or(u64::MAX);
-        let started = shared::bs_table_watch_thread(&self.call(), pace);
-        let has_one = started.status == IN_USE && shared::bs_call_table_shut(&self.call()) == DONE;
-        if !has_one {
-            done(started)?;
-        }
-        let is_watched = |is_unwatched: &mut bool| !*is_unwatched;
-        let ended = self.unwatched.wait_while(self.is_unwatched(), is_watched);
-        drop(ended);
-        Ok(())
+        let start = |pace| shared::bs_table_watch_thread(&self.call(), pace);
+        let may_call = || shared::bs_call_table_shut(&self.call()) == DONE;
+        self.watching.watch_over(rest, start, may_call)
     }
 
     /// Ends all calls of [`watch_over`](Table::watch_over), now and from now on. The table's thread watches on.
     pub fn end_watch(&self) {
-        *self.is_unwatched() = true;
-        self.unwatched.notify_all();
-    }
-
-    fn is_unwatched(&self) -> MutexGuard<'_, bool> {
-        let is_unwatched = self.is_unwatched.lock();
-        is_unwatched.unwrap_or_else(PoisonError::into_inner) // No holder of it panics.
+        self.watching.end();
     }
 
     /// The table for one call of the library.

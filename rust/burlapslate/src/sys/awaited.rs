@@ -1,9 +1,9 @@
 //! Asks of futures, and the ends of their waits, as `include/burlapslate_shared.h` and `include/burlapslate_rows.h` declare
 //! the calls of both.
 //!
-//! A slot has one ask that waits at most. So each slot of a table has one place for a waker and for the end of a wait, and
-//! the word of an ask is an even number: by that a late end, of an ask that nobody awaits any more, is told from the next
-//! one's, and from that of a [`begun`].
+//! A slot has one ask that waits at most. So each slot of a table or a group has one place for a waker and for the end of
+//! a wait, and the word of an ask is an even number: by that a late end, of an ask that nobody awaits any more, is told
+//! from the next one's, and from that of a [`begun`].
 
 use super::begun;
 use super::shared::{Shared, Until};
@@ -84,9 +84,20 @@ struct Wait {
     /// That of the ask: each has another even one.
     number: usize,
     waker: Option<Waker>,
-    /// How it ended, after that.
-    end: Option<Ended>,
+    state: State,
 }
+
+/// What became of an ask.
+#[derive(Clone, Copy)]
+enum State {
+    /// Its end is not told yet.
+    Waits,
+    /// It ended so.
+    Ended(Ended),
+}
+
+/// Of a slot that had no ask yet.
+const NOBODY: State = State::Ended(Err(Stop::Refused(Refusal::NoSuchTxn)));
 
 /// What a session requests. The mode of a lock for an instant says so.
 #[derive(Clone, Copy)]
@@ -112,7 +123,7 @@ impl Waits {
             Mutex::new(Wait {
                 number: 0,
                 waker: None,
-                end: None,
+                state: NOBODY,
             })
         });
         let places: Box<[Mutex<Wait>; SLOTS]> = places.into_boxed_slice().try_into().ok()?;
@@ -120,47 +131,22 @@ impl Waits {
         Some(unsafe { Box::from_raw(Box::into_raw(places).cast()) })
     }
 
-    /// Makes an ask whose end wakes this waker if it waits; answers its number too.
+    /// Makes an ask, by a call with this word, whose end wakes this waker if it waits; answers its number too, which is
+    /// the word.
     pub(super) fn ask(
         &self,
-        table: &Shared,
         txn: Txn,
-        sought: Sought<'_>,
-        until: Until<'_>,
         waker: &Waker,
+        call: impl FnOnce(usize) -> Reply,
     ) -> (Poll<Ended>, usize) {
-        let word = self.begin(txn, waker.clone());
-        let reply = match sought {
-            Sought::Node(node, mode) => bs_table_ask(table, txn, node, mode, until, word),
-            Sought::Path(node, mode) => bs_table_ask_path(table, txn, node, mode, until, word),
-            Sought::Left(node, mode) => bs_table_ask_await(table, txn, node, mode, until, word),
-            Sought::Row(row, keys, mode) | Sought::RowPath(row, keys, mode) => {
-                let (Row { file, number }, start) = (row, numbers(keys));
-                let ask = match sought {
-                    Sought::RowPath(..) => bs_table_ask_row_path,
-                    _ => bs_table_ask_row,
-                };
-                // SAFETY: the count is the list's own.
-                unsafe {
-                    ask(
-                        table,
-                        txn,
-                        file,
-                        number,
-                        start,
-                        keys.len(),
-                        mode,
-                        until,
-                        word,
-                    )
-                }
-            }
-        };
+        let number = self.begin(txn, waker.clone());
+        let reply = call(number);
         if reply.status == WAITING {
-            return (Poll::Pending, word);
+            return (Poll::Pending, number);
         }
-        self.forget_waker(txn, word);
-        (Poll::Ready(ended(&reply)), word)
+        let end = ended(&reply);
+        drop(self.end(txn, number, end)); // Without the lock, since that may call the table.
+        (Poll::Ready(end), number)
     }
 
     /// The number of a new wait. If the slot's last wait still has a waker, its transaction has ended, and the end is not
@@ -168,7 +154,7 @@ impl Waits {
     fn begin(&self, txn: Txn, waker: Waker) -> usize {
         let mut wait = self.of(txn);
         wait.number = wait.number.wrapping_add(2);
-        wait.end = None;
+        wait.state = State::Waits;
         let before = wait.waker.replace(waker);
         let number = wait.number;
         drop(wait);
@@ -184,7 +170,7 @@ impl Waits {
         if wait.number != number {
             return Poll::Ready(Err(Stop::Refused(Refusal::NoSuchTxn)));
         }
-        if let Some(end) = wait.end {
+        if let State::Ended(end) = wait.state {
             return Poll::Ready(end);
         }
         if wait.waker.as_ref().is_some_and(is_woken) {
@@ -201,9 +187,9 @@ impl Waits {
         if wait.number != number {
             return Poll::Ready(Err(Stop::Refused(Refusal::NoSuchTxn)));
         }
-        match wait.end {
-            Some(end) => Poll::Ready(end),
-            None => {
+        match wait.state {
+            State::Ended(end) => Poll::Ready(end),
+            State::Waits => {
                 swap(&mut wait.waker, &mut waker);
                 Poll::Pending
             }
@@ -217,7 +203,7 @@ impl Waits {
             return false;
         }
         let waker = wait.waker.take();
-        let waits = wait.end.is_none();
+        let waits = matches!(wait.state, State::Waits);
         drop(wait);
         drop(waker); // Without the lock, since that may call the table.
         waits
@@ -229,13 +215,59 @@ impl Waits {
         if wait.number != number {
             return None;
         }
-        wait.end = Some(end);
+        wait.state = State::Ended(end);
         wait.waker.take()
+    }
+
+    /// Of a callback: the wait of this number has ended so. Stores that, and wakes the task after it.
+    pub(super) fn ends(&self, txn: Txn, number: usize, end: &Reply) {
+        let end = match end.status {
+            NO_MANAGER => Err(Stop::Refused(Refusal::NoSuchTxn)), // All ends, and the transaction with it.
+            _ => ended(end),
+        };
+        let waker = self.end(txn, number, end);
+        waker.into_iter().for_each(wake);
     }
 
     fn of(&self, txn: Txn) -> MutexGuard<'_, Wait> {
         let wait = self.0[txn.slot()].lock();
         wait.unwrap_or_else(PoisonError::into_inner) // No holder of it panics.
+    }
+}
+
+/// Asks a table for this.
+pub(super) fn ask(
+    table: &Shared,
+    txn: Txn,
+    sought: Sought<'_>,
+    until: Until<'_>,
+    word: usize,
+) -> Reply {
+    match sought {
+        Sought::Node(node, mode) => bs_table_ask(table, txn, node, mode, until, word),
+        Sought::Path(node, mode) => bs_table_ask_path(table, txn, node, mode, until, word),
+        Sought::Left(node, mode) => bs_table_ask_await(table, txn, node, mode, until, word),
+        Sought::Row(row, keys, mode) | Sought::RowPath(row, keys, mode) => {
+            let (Row { file, number }, start) = (row, numbers(keys));
+            let ask = match sought {
+                Sought::RowPath(..) => bs_table_ask_row_path,
+                _ => bs_table_ask_row,
+            };
+            // SAFETY: the count is the list's own.
+            unsafe {
+                ask(
+                    table,
+                    txn,
+                    file,
+                    number,
+                    start,
+                    keys.len(),
+                    mode,
+                    until,
+                    word,
+                )
+            }
+        }
     }
 }
 
@@ -290,6 +322,16 @@ pub(super) fn wake(waker: Waker) {
     }
 }
 
+/// As this is dropped, the panic of a waker continues.
+pub(crate) struct Resumes;
+
+impl Drop for Resumes {
+    #[inline]
+    fn drop(&mut self) {
+        resume_panic();
+    }
+}
+
 /// The callback of all tables: stores how a wait or a begin ended, and wakes the task after that.
 ///
 /// # Safety
@@ -302,14 +344,7 @@ unsafe extern "C" fn on_end(context: *const c_void, txn: Txn, end: Reply, word: 
     }
     // SAFETY: the table has not ended.
     let waits = unsafe { &*context.cast::<Waits>() };
-    let end = match end.status {
-        NO_MANAGER => Err(Stop::Refused(Refusal::NoSuchTxn)), // The table ends, and the transaction with it.
-        _ => ended(&end),
-    };
-    let waker = waits.end(txn, word, end);
-    if let Some(waker) = waker {
-        wake(waker);
-    }
+    waits.ends(txn, word, &end);
 }
 
 #[cfg(test)]

@@ -5,7 +5,7 @@
 //! Any thread may make any call with a table, so these take it by `&`. A [`Table`] is freed when its owner drops it, and
 //! no thread is in a call then, because each call borrows it.
 
-use super::awaited::{self, Sought, Waits};
+use super::awaited::{self, Resumes, Sought, Waits};
 use super::begun::{Asked, Begin};
 use super::running::{Listener, Telling};
 use super::{assert_fits, nodes, numbers, Notice, Notices, Options, Pinned, Place, Reply};
@@ -320,20 +320,26 @@ pub(crate) fn now() -> Time {
     bs_after(0)
 }
 
-/// A table for the time of a call with it.
-pub(crate) struct Calling<'t>(&'t Shared);
+/// A table or a group for the time of a call with it, after which the panic of a waker continues.
+pub(crate) struct Calling<'t, T = Shared> {
+    with: &'t T,
+    _resumes: Resumes,
+}
 
-impl Deref for Calling<'_> {
-    type Target = Shared;
-
-    fn deref(&self) -> &Shared {
-        self.0
+impl<'t, T> Calling<'t, T> {
+    pub(super) fn new(with: &'t T) -> Calling<'t, T> {
+        Calling {
+            with,
+            _resumes: Resumes,
+        }
     }
 }
 
-impl Drop for Calling<'_> {
-    fn drop(&mut self) {
-        awaited::resume_panic();
+impl<T> Deref for Calling<'_, T> {
+    type Target = T;
+
+    fn deref(&self) -> &T {
+        self.with
     }
 }
 
@@ -381,7 +387,8 @@ impl Table {
         until: Until<'_>,
         waker: &Waker,
     ) -> (Poll<Ended>, usize) {
-        self.waits().ask(self.shared(), txn, sought, until, waker)
+        let ask = |word| awaited::ask(self.shared(), txn, sought, until, word);
+        self.waits().ask(txn, waker, ask)
     }
 
     /// How the wait of an ask ended; if it has not, it wakes this waker from now on.
@@ -419,7 +426,7 @@ impl Table {
 
     /// For one call.
     pub(crate) fn call(&self) -> Calling<'_> {
-        Calling(self.shared())
+        Calling::new(self.shared())
     }
 
     fn shared(&self) -> &Shared {

@@ -5,6 +5,7 @@ use crate::manager::Wait;
 use crate::mode::Mode;
 use crate::names::{Node, Row, Txn};
 use crate::session::{ended, Ended, Stop};
+use crate::sys::awaited::Resumes;
 pub(crate) use crate::sys::awaited::Sought;
 use crate::sys::shared::{self, Time, INSTANT};
 use crate::sys::DONE;
@@ -43,27 +44,43 @@ impl<'k> Sought<'k> {
     }
 }
 
+/// Who asks for locks: a transaction of a table or of a group.
+pub(crate) trait Asks: Unpin {
+    /// What it asks for.
+    type Sought<'k>: Copy + Unpin;
+
+    /// Makes an ask whose end wakes this waker if it waits; answers its number too. It is a call of its caller.
+    fn ask(
+        &mut self,
+        sought: Self::Sought<'_>,
+        until: Option<Instant>,
+        waker: &Waker,
+    ) -> (Poll<Ended>, usize);
+
+    /// How the wait of an ask ended; if it has not, it wakes this waker from now on.
+    fn poll(&mut self, number: usize, waker: &Waker) -> Poll<Ended>;
+
+    /// The same of an ask whose time is over: cancels its wait.
+    fn time_out(&mut self, number: usize, waker: &Waker) -> Poll<Ended>;
+
+    /// Cancels the wait of an ask, whose end no task awaits.
+    fn forget(&mut self, number: usize);
+}
+
 /// A lock that a task polls. If the future is dropped before its end, the wait is cancelled; what was granted by then
 /// stays.
-pub(crate) struct Locking<'a> {
-    table: &'a Table,
-    txn: Txn,
-    sought: Sought<'a>,
+pub(crate) struct Locking<'a, A: Asks> {
+    asks: A,
+    sought: A::Sought<'a>,
     until: Option<Instant>,
     /// The number of its ask, while that waits.
     wait: Option<usize>,
 }
 
-impl<'a> Locking<'a> {
-    pub(crate) fn new(
-        table: &'a Table,
-        txn: Txn,
-        sought: Sought<'a>,
-        until: Option<Instant>,
-    ) -> Locking<'a> {
+impl<'a, A: Asks> Locking<'a, A> {
+    pub(crate) fn new(asks: A, sought: A::Sought<'a>, until: Option<Instant>) -> Locking<'a, A> {
         Locking {
-            table,
-            txn,
+            asks,
             sought,
             until,
             wait: None,
@@ -72,27 +89,22 @@ impl<'a> Locking<'a> {
 
     /// Makes the ask, whose end wakes this waker if it waits.
     fn ask(&mut self, waker: &Waker) -> Poll<Ended> {
-        let _calling = self.table.call(); // So the panic of a waker finds the wait noted.
-        let until = self.table.time(self.until);
-        let shared = &self.table.shared;
-        let (polled, number) = shared.ask(self.txn, self.sought, until.as_ref(), waker);
+        let _resumes = Resumes; // So the panic of a waker finds the wait noted.
+        let (polled, number) = self.asks.ask(self.sought, self.until, waker);
         self.wait = Some(number);
         polled
     }
 
     /// After a poll that found it waiting: cancels the wait if its time is over.
-    fn time_out(&self, number: usize, waker: &Waker) -> Poll<Ended> {
+    fn time_out(&mut self, number: usize, waker: &Waker) -> Poll<Ended> {
         if self.until.is_none_or(|until| until > Instant::now()) {
             return Poll::Pending;
         }
-        if self.table.shared.cancels(self.txn, number) {
-            return Poll::Ready(Err(Stop::TimedOut));
-        }
-        self.table.shared.poll(self.txn, number, waker) // It has ended, and that is told now.
+        self.asks.time_out(number, waker)
     }
 }
 
-impl Future for Locking<'_> {
+impl<A: Asks> Future for Locking<'_, A> {
     type Output = Ended;
 
     #[inline]
@@ -101,7 +113,7 @@ impl Future for Locking<'_> {
         let waker = context.waker();
         let mut polled = match own.wait {
             None => own.ask(waker),
-            Some(number) => own.table.shared.poll(own.txn, number, waker),
+            Some(number) => own.asks.poll(number, waker),
         };
         if let (Poll::Pending, Some(number)) = (polled, own.wait) {
             polled = own.time_out(number, waker);
@@ -113,11 +125,47 @@ impl Future for Locking<'_> {
     }
 }
 
-impl Drop for Locking<'_> {
+impl<A: Asks> Drop for Locking<'_, A> {
     fn drop(&mut self) {
         if let Some(number) = self.wait {
-            self.table.shared.cancels(self.txn, number);
+            self.asks.forget(number);
         }
+    }
+}
+
+/// A transaction of a table that asks.
+pub(crate) struct Asker<'t> {
+    pub(crate) table: &'t Table,
+    pub(crate) txn: Txn,
+}
+
+impl Asks for Asker<'_> {
+    type Sought<'k> = Sought<'k>;
+
+    fn ask(
+        &mut self,
+        sought: Sought<'_>,
+        until: Option<Instant>,
+        waker: &Waker,
+    ) -> (Poll<Ended>, usize) {
+        let until = self.table.time(until);
+        let shared = &self.table.shared;
+        shared.ask(self.txn, sought, until.as_ref(), waker)
+    }
+
+    fn poll(&mut self, number: usize, waker: &Waker) -> Poll<Ended> {
+        self.table.shared.poll(self.txn, number, waker)
+    }
+
+    fn time_out(&mut self, number: usize, waker: &Waker) -> Poll<Ended> {
+        if self.table.shared.cancels(self.txn, number) {
+            return Poll::Ready(Err(Stop::TimedOut));
+        }
+        self.poll(number, waker) // It has ended, and that is told now.
+    }
+
+    fn forget(&mut self, number: usize) {
+        self.table.shared.cancels(self.txn, number);
     }
 }
 
