@@ -3,141 +3,18 @@
 
 #![cfg(target_pointer_width = "64")]
 
+mod world;
+
 use burlapslate::{
-    Counters, Detect, Doing, Escalated, Group, GroupMark, GroupSession, Keep, Kind, Mode, Node,
-    Options, Refusal, Row, RowLocked, Stop, Table, Tried, Txn, MOST_PARTS, SLOTS,
+    Counters, Detect, Escalated, Group, GroupMark, GroupSession, Keep, Kind, Mode, Node, Options,
+    Refusal, Row, RowLocked, Stop, Table, Tried, MOST_PARTS, SLOTS,
 };
-use std::future::Future;
 use std::panic::{catch_unwind, AssertUnwindSafe, RefUnwindSafe, UnwindSafe};
-use std::pin::pin;
 use std::sync::atomic::{AtomicI64, AtomicUsize, Ordering};
-use std::sync::{Arc, Mutex};
-use std::task::{Context, Wake, Waker};
+use std::sync::Arc;
 use std::thread;
 use std::time::{Duration, Instant};
-
-const PARTS: usize = 3;
-
-/// The names of a node and of a transaction that no group of these stories has, by those of a larger one.
-fn foreign() -> (Node, Node) {
-    let larger = Group::new(PARTS + 1).unwrap();
-    let nodes = [(); 9].map(|()| larger.add_inner(&[]).unwrap());
-    let beyond = larger.add_file_in(PARTS + 1, &nodes[..1]).unwrap();
-    (nodes[8], beyond)
-}
-
-/// A database of two areas. Each part has a file and a file of rows under the first area, each with an index of two
-/// intervals, parted at 100, and two records of the file.
-struct World {
-    group: Group,
-    base: Node,
-    area: Node,
-    files: [Node; PARTS],
-    indexes: [Node; PARTS],
-    records: [[Node; 2]; PARTS],
-    row_files: [Node; PARTS],
-    row_indexes: [Node; PARTS],
-}
-
-impl World {
-    fn new() -> World {
-        World::with(SLOTS)
-    }
-
-    fn with(slots: usize) -> World {
-        let options = Options::new(Detect::AtBlock).transactions(slots);
-        let group = Group::with_options(options, PARTS).unwrap();
-        let base = group.add_inner(&[]).unwrap();
-        let area = group.add_inner(&[base]).unwrap();
-        let parts: [usize; PARTS] = std::array::from_fn(|place| place + 1);
-        let files = parts.map(|part| group.add_file_in(part, &[area]).unwrap());
-        let row_files = parts.map(|part| group.add_row_file_in(part, &[area]).unwrap());
-        let index = |file| group.add_index(&[area], file, &[100]).unwrap();
-        let (indexes, row_indexes) = (files.map(index), row_files.map(index));
-        let mut session = group.begin().unwrap();
-        let records = files.map(|file| [50, 200].map(|key| inserted(&mut session, file, key)));
-        session.commit().unwrap();
-        World {
-            group,
-            base,
-            area,
-            files,
-            indexes,
-            records,
-            row_files,
-            row_indexes,
-        }
-    }
-
-    fn begin(&self) -> GroupSession<'_> {
-        self.group.begin().unwrap()
-    }
-
-    fn row(&self, part: usize) -> Row {
-        Row {
-            file: self.row_files[part - 1],
-            number: 7,
-        }
-    }
-
-    /// An interval of an index, by its place.
-    fn interval(&self, part: usize, index: Node, place: usize) -> Node {
-        let group = &self.group;
-        let name = group.name_in(index, part).unwrap();
-        let asked = group.with_table(part, |m| m.interval(name, place).unwrap());
-        group.name_of(asked.unwrap(), part).unwrap()
-    }
-
-    /// The node of a part's row.
-    fn row_node(&self, part: usize) -> Node {
-        let (group, Row { file, number }) = (&self.group, self.row(part));
-        let file = group.name_in(file, part).unwrap();
-        let asked = group.with_table(part, |m| m.row_node(Row { file, number }));
-        group.name_of(asked.unwrap().unwrap(), part).unwrap()
-    }
-
-    /// Sleeps until a transaction waits in this table.
-    fn await_wait(&self, table: usize, txn: Txn) {
-        while !self.waits(table, txn) {
-            thread::sleep(Duration::from_micros(50));
-        }
-    }
-
-    fn waits(&self, table: usize, txn: Txn) -> bool {
-        let asked = self.group.with_table(table, |m| {
-            let mut rows = m.transactions().filter(|row| row.txn.slot() == txn.slot());
-            rows.any(|row| matches!(row.doing, Doing::Waiting(_)))
-        });
-        asked.unwrap()
-    }
-
-    /// How many transactions live in a table.
-    fn living(&self, table: usize) -> usize {
-        let asked = self.group.with_table(table, |m| m.transactions().count());
-        asked.unwrap()
-    }
-}
-
-impl Drop for World {
-    /// Nobody has left anything in any table.
-    fn drop(&mut self) {
-        if !thread::panicking() {
-            assert!((0..=PARTS).all(|table| self.living(table) == 0));
-        }
-    }
-}
-
-fn inserted(session: &mut GroupSession<'_>, file: Node, key: u64) -> Node {
-    made(session.insert(file, &[key]))
-}
-
-/// The node that a call has made.
-fn made(tried: Result<Tried<Node>, Refusal>) -> Node {
-    match tried.unwrap() {
-        Tried::Locked(node) => node,
-        Tried::WouldBlock(node) => panic!("{node} would block"),
-    }
-}
+use world::{foreign, inserted, made, World, PARTS};
 
 /// What may go to another thread, and what several may have.
 #[test]
@@ -1298,59 +1175,6 @@ fn a_group_is_dropped_by_who_holds_a_table() {
         Group::new(1).unwrap(),
     );
     table.with(|_| drop(group));
-}
-
-/// Does something once, when its task is woken.
-struct Does(Mutex<Option<Box<dyn FnOnce() + Send>>>);
-
-impl Wake for Does {
-    fn wake(self: Arc<Does>) {
-        let act = self.0.lock().unwrap().take();
-        act.expect("a task is woken once")();
-    }
-}
-
-/// Has a waker of a table do this.
-fn in_a_waker(act: impl FnOnce() + Send + 'static) {
-    let table = Table::new(Detect::AtBlock, 2).unwrap();
-    let db = table.add_inner(&[]).unwrap();
-    let (mut holder, mut waiter) = (table.begin().unwrap(), table.begin().unwrap());
-    holder.lock(db, Mode::X).unwrap();
-    let waker = Waker::from(Arc::new(Does(Mutex::new(Some(Box::new(act))))));
-    let mut lock = pin!(waiter.lock_async(db, Mode::S));
-    let mut context = Context::from_waker(&waker);
-    assert!(lock.as_mut().poll(&mut context).is_pending());
-    holder.commit().unwrap();
-    assert!(lock.as_mut().poll(&mut context).is_ready());
-}
-
-#[test]
-fn a_waker_calls_no_group() {
-    let group = Arc::new(Group::new(1).unwrap());
-    let base = group.add_inner(&[]).unwrap();
-    let mut session = group.begin_shared().unwrap();
-    let (own, back) = (Arc::clone(&group), Arc::new(Mutex::new(None)));
-    let given = Arc::clone(&back);
-    in_a_waker(move || {
-        let refused = Err(Stop::Refused(Refusal::InUse));
-        assert_eq!(session.lock_path(base, Mode::S), refused);
-        let tried = session.try_lock_path(base, Mode::S, Keep::Way);
-        assert_eq!(tried, Err(Refusal::InUse));
-        assert_eq!(session.held(base), Err(Refusal::InUse));
-        assert_eq!(own.begin_shared().err(), Some(Refusal::InUse));
-        assert_eq!(own.with_table(0, |_| ()), Err(Refusal::InUse));
-        assert_eq!(own.name_in(base, 0), Err(Refusal::InUse));
-        *given.lock().unwrap() = Some(session); // A drop would panic.
-    });
-    let session = back.lock().unwrap().take().unwrap();
-    session.commit().unwrap();
-    let begun = group.begin_shared().unwrap();
-    let drops = || in_a_waker(move || drop(begun));
-    let died = catch_unwind(AssertUnwindSafe(drops)).unwrap_err();
-    let said = died.downcast_ref::<&str>().unwrap();
-    assert_eq!(*said, "a session was dropped while its thread held a table");
-    let last = Arc::new(Group::new(1).unwrap());
-    in_a_waker(move || drop(last)); // Another thread ends it.
 }
 
 /// A waiter for a record that is deleted is told so, and a path follows one that moves.

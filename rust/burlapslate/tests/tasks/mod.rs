@@ -14,16 +14,21 @@ use std::time::Duration;
 /// A test that awaits something for so long has lost a wake-up.
 pub const PATIENCE: Duration = Duration::from_secs(20);
 
-/// A waker that counts, and calls the table: so the latch is free when it is woken and when it is dropped.
+/// A waker that counts, and calls the table or the group: so the latches are free when it is woken and when it is dropped.
 pub struct Bell {
-    table: Arc<Table>,
+    calls: Box<dyn Fn() + Send + Sync>,
     rung: AtomicUsize,
 }
 
 impl Bell {
     pub fn new(table: &Arc<Table>) -> (Arc<Bell>, Waker) {
+        let table = Arc::clone(table);
+        Bell::that(move || table.with(|_| ()))
+    }
+
+    pub fn that(calls: impl Fn() + Send + Sync + 'static) -> (Arc<Bell>, Waker) {
         let bell = Arc::new(Bell {
-            table: Arc::clone(table),
+            calls: Box::new(calls),
             rung: AtomicUsize::new(0),
         });
         (Arc::clone(&bell), Waker::from(bell))
@@ -36,14 +41,14 @@ impl Bell {
 
 impl Wake for Bell {
     fn wake(self: Arc<Bell>) {
-        self.table.with(|_| ());
+        (self.calls)();
         self.rung.fetch_add(1, Ordering::SeqCst);
     }
 }
 
 impl Drop for Bell {
     fn drop(&mut self) {
-        self.table.with(|_| ());
+        (self.calls)();
     }
 }
 
