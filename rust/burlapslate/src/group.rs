@@ -10,6 +10,7 @@ use crate::session::{deadline, ended, Handle, Keep, RowLocked, Stop, Tried};
 use crate::sys::group::{self, Savepoint, Transaction};
 use crate::sys::shared::Time;
 use crate::table::node_of;
+use crate::watching::Watching;
 use crate::MOST_PARTS;
 use std::fmt;
 use std::sync::Arc;
@@ -60,7 +61,8 @@ use std::time::{Duration, Instant};
 ///
 /// A deadlock within one table is ended as it arises. A deadlock over several tables is detected by a thread that sleeps:
 /// it looks after 2 ms, and then after twice as long each time, up to 256 ms. The victim of the latter is the youngest
-/// member.
+/// member. If no thread may be asleep, as in a program of tasks, [`expire`](Group::expire) ends it, or a thread that
+/// watches ([`watch_over`](Group::watch_over)).
 ///
 /// # Names
 ///
@@ -70,9 +72,10 @@ use std::time::{Duration, Instant};
 ///
 /// # Refusals
 ///
-/// Each call of a group, and of its sessions, is refused with [`InUse`](Refusal::InUse) in a waker and while the thread
-/// holds a table, of this group or any other. [`name_in`](Group::name_in) and [`name_of`](Group::name_of) may be called
-/// for the table that the thread holds.
+/// Each call of a group, and of its sessions, is refused with [`InUse`](Refusal::InUse) while the thread holds a table, of
+/// this group or any other. [`name_in`](Group::name_in) and [`name_of`](Group::name_of) may be called for the table that
+/// the thread holds. A call that may sleep, as for a lock or a slot, is refused with [`InUse`](Refusal::InUse) in a waker
+/// too, whether it had to sleep or not; a waker may make all others.
 ///
 /// Two tables share no node but the inner ones. So a node of another part than the call's is refused with
 /// [`NoSuchNode`](Refusal::NoSuchNode), and an inner node in place of a file, an index, an interval or a record with
@@ -84,6 +87,7 @@ pub struct Group {
     group: group::Group,
     parts: u32,
     clock: Clock,
+    watching: Watching,
 }
 
 /// Groups and their graph.
@@ -108,6 +112,7 @@ impl Group {
             group: group::Group::new(&options, parts)?,
             parts,
             clock: Clock::new(),
+            watching: Watching::new(),
         })
     }
 
@@ -220,11 +225,45 @@ impl Group {
 /// Transactions.
 impl Group {
     /// A new transaction, for this thread. It costs no latch. A slot takes 64 ages at a time, so a later transaction of
-    /// another slot may have a smaller age, and counts as the older one.
+    /// another slot may have a smaller age, and counts as the older one. While threads sleep for a slot
+    /// ([`begin_in_turn`](Group::begin_in_turn)) no slot is free.
     ///
     /// Refused with [`TooManyTxns`](Refusal::TooManyTxns).
     pub fn begin(&self) -> Result<GroupSession<'_>, Refusal> {
         self.begin_again(u64::MAX)
+    }
+
+    /// As [`begin`](Group::begin), but if all slots are taken the thread sleeps until it has one. Threads that sleep for a
+    /// slot are served in the order of their arrival.
+    ///
+    /// A thread that sleeps for a slot has no transaction there, so it is on no cycle of waits. If it has another session
+    /// open it may wait for itself, and no detection finds that.
+    ///
+    /// Refused with [`InUse`](Refusal::InUse) also in a waker, and with [`NoMemory`](Refusal::NoMemory) if it has to
+    /// sleep; never with [`TooManyTxns`](Refusal::TooManyTxns).
+    ///
+    /// ```
+    /// use burlapslate::{Detect, Group, Mode, Options, Stop};
+    /// use std::thread;
+    ///
+    /// // Two slots, for eight threads.
+    /// let group = Group::with_options(Options::new(Detect::AtBlock).transactions(2), 4)?;
+    /// let db = group.add_inner(&[])?;
+    /// let file = group.add_file(&[db])?;
+    /// thread::scope(|scope| {
+    ///     for _ in 0..8 {
+    ///         scope.spawn(|| {
+    ///             let mut session = group.begin_in_turn()?;
+    ///             session.lock_path(file, Mode::X)?;
+    ///             session.commit()?;
+    ///             Ok::<(), Stop>(())
+    ///         });
+    ///     }
+    /// });
+    /// # Ok::<(), Stop>(())
+    /// ```
+    pub fn begin_in_turn(&self) -> Result<GroupSession<'_>, Refusal> {
+        self.begin_again_in_turn(u64::MAX)
     }
 
     /// As [`begin`](Group::begin), for work that an earlier transaction began, as [`Manager::begin_again`]: in a
@@ -245,6 +284,28 @@ impl Group {
     /// ```
     pub fn begin_again(&self, since: u64) -> Result<GroupSession<'_>, Refusal> {
         GroupSession::begin(Handle::Lent(self), since)
+    }
+
+    /// As [`begin_in_turn`](Group::begin_in_turn), for work that an earlier transaction began. It gives no earlier place
+    /// among the threads that sleep.
+    pub fn begin_again_in_turn(&self, since: u64) -> Result<GroupSession<'_>, Refusal> {
+        GroupSession::begin_in_turn(Handle::Lent(self), since)
+    }
+
+    /// As [`begin_in_turn`](Group::begin_in_turn), but the thread sleeps no longer than this time, and the answer is then
+    /// [`Stop::TimedOut`]. If a slot was freed for it by then, the transaction has begun.
+    ///
+    /// ```
+    /// # use burlapslate::{Detect, Group, Options, Stop};
+    /// # use std::time::Duration;
+    /// let group = Group::with_options(Options::new(Detect::AtBlock).transactions(1), 2)?;
+    /// let only = group.begin()?;
+    /// let second = group.begin_timeout(Duration::from_millis(1));
+    /// assert_eq!(second.map(drop), Err(Stop::TimedOut));
+    /// # Ok::<(), burlapslate::Refusal>(())
+    /// ```
+    pub fn begin_timeout(&self, time: Duration) -> Result<GroupSession<'_>, Stop> {
+        GroupSession::begin_timeout(Handle::Lent(self), time)
     }
 
     /// From now on a commit keeps in each part the first locks there that are intentions, at most so many, for the next
@@ -306,12 +367,44 @@ impl Group {
         self.begin_shared_again(u64::MAX)
     }
 
+    /// As [`begin_in_turn`](Group::begin_in_turn), for a session that is one of the group's owners.
+    pub fn begin_shared_in_turn(self: &Arc<Group>) -> Result<GroupSession<'static>, Refusal> {
+        self.begin_shared_again_in_turn(u64::MAX)
+    }
+
     /// As [`begin_again`](Group::begin_again), for a session that is one of the group's owners.
     pub fn begin_shared_again(
         self: &Arc<Group>,
         since: u64,
     ) -> Result<GroupSession<'static>, Refusal> {
         GroupSession::begin(Handle::Shared(Arc::clone(self)), since)
+    }
+
+    /// As [`begin_again_in_turn`](Group::begin_again_in_turn), for a session that is one of the group's owners.
+    pub fn begin_shared_again_in_turn(
+        self: &Arc<Group>,
+        since: u64,
+    ) -> Result<GroupSession<'static>, Refusal> {
+        GroupSession::begin_in_turn(Handle::Shared(Arc::clone(self)), since)
+    }
+
+    /// As [`begin_timeout`](Group::begin_timeout), for a session that is one of the group's owners.
+    pub fn begin_shared_timeout(
+        self: &Arc<Group>,
+        time: Duration,
+    ) -> Result<GroupSession<'static>, Stop> {
+        GroupSession::begin_timeout(Handle::Shared(Arc::clone(self)), time)
+    }
+
+    /// Cancels the wait of a transaction, from any thread. The thread or task that waits is woken and answered
+    /// [`Stop::Cancelled`]. A path ends at the lock for which it waits; the locks acquired before that stay. Costs the
+    /// latch of each table up to that where the transaction waits.
+    ///
+    /// Refused with [`NoSuchTxn`](Refusal::NoSuchTxn), and with [`NotWaiting`](Refusal::NotWaiting) if the transaction
+    /// waits in no table. A thread that sleeps for a path may be between two tables, and is not found then; a task is. If
+    /// the lock of a task is granted at that moment, its answer may be the grant.
+    pub fn cancel(&self, txn: Txn) -> Result<(), Refusal> {
+        done(self.group.cancel(txn))
     }
 }
 
@@ -322,8 +415,8 @@ impl Group {
     /// transactions, which have the slot of the group's, but another age. What a commit has kept
     /// ([`keep`](Group::keep)) is a transaction there.
     ///
-    /// Refused with [`BadNumber`](Refusal::BadNumber) if there is no such table, and with [`InUse`](Refusal::InUse) in a
-    /// waker and if the thread holds a table already, as within the closure.
+    /// Refused with [`BadNumber`](Refusal::BadNumber) if there is no such table, and with [`InUse`](Refusal::InUse) if the
+    /// thread holds a table already, as within the closure.
     ///
     /// ```
     /// # use burlapslate::{Group, Mode, Stop};
@@ -464,10 +557,12 @@ impl fmt::Debug for GroupMark {
     }
 }
 
-/// A transaction of a [`Group`], which one thread drives. A lock call sleeps until the lock is granted. A session that is
-/// dropped without a commit is aborted, so that its locks never outlive it: undo what it wrote first. Within a closure of
-/// [`Group::with_table`] or [`Table::with`](crate::Table::with), and in a waker, it cannot be aborted: a drop panics there.
-/// It borrows its group, or is one of its owners ([`Group::begin_shared`]).
+/// A transaction of a [`Group`], which one thread drives. A lock call sleeps until the lock is granted, or a task awaits it
+/// ([`lock_path_async`](GroupSession::lock_path_async)). A session that is dropped without a commit is aborted, so that its
+/// locks never outlive it: undo what it wrote first. Within a closure of [`Group::with_table`] or
+/// [`Table::with`](crate::Table::with) it cannot be aborted: a drop panics there. If it is dropped in a waker after a future
+/// of it, whose end is told after the waker, it is aborted then. It borrows its group, or is one of its owners
+/// ([`Group::begin_shared`]).
 ///
 /// ```
 /// use burlapslate::{Group, Mode};
@@ -521,25 +616,70 @@ impl fmt::Debug for GroupMark {
 pub struct GroupSession<'g> {
     transaction: Transaction<'g>,
     has_ended: bool,
+    /// The deadline of each of its waits.
+    deadline: Option<Instant>,
 }
 
 impl<'g> GroupSession<'g> {
     fn begin(group: Handle<'g, Group>, since: u64) -> Result<GroupSession<'g>, Refusal> {
-        Ok(GroupSession {
-            transaction: Transaction::begin(group, since)?,
-            has_ended: false,
-        })
+        let begun = Transaction::begin(group, since).map(GroupSession::of);
+        begun.map_err(|reply| Refusal::of(&reply))
     }
 
-    /// The name of its transaction in the group: its slot, and its age for [`Group::begin_again`].
+    fn begin_in_turn(group: Handle<'g, Group>, since: u64) -> Result<GroupSession<'g>, Refusal> {
+        let begun = Transaction::begin_in_turn(group, since, None).map(GroupSession::of);
+        begun.map_err(|reply| Refusal::of(&reply))
+    }
+
+    fn begin_timeout(group: Handle<'g, Group>, time: Duration) -> Result<GroupSession<'g>, Stop> {
+        let until = group.time(deadline(time));
+        let begun = Transaction::begin_in_turn(group, u64::MAX, until).map(GroupSession::of);
+        begun.map_err(|reply| Stop::of(&reply))
+    }
+
+    fn of(transaction: Transaction<'g>) -> GroupSession<'g> {
+        GroupSession {
+            transaction,
+            has_ended: false,
+            deadline: None,
+        }
+    }
+
+    /// The name of its transaction in the group: its slot, and its age for [`Group::begin_again`]. By it other threads may
+    /// cancel a wait ([`Group::cancel`]).
     pub fn txn(&self) -> Txn {
         self.transaction.name()
     }
 
+    /// Commits its transaction, and begins the next one in its slot, as [`Group::begin_again`]: no thread that sleeps for a
+    /// slot comes between. The new transaction holds nothing but what was kept for it ([`Group::keep`]). A deadline stays.
+    ///
+    /// Refused as [`commit`](GroupSession::commit); but then the session stays.
+    ///
+    /// ```
+    /// # use burlapslate::{Group, Mode, Stop};
+    /// # let group = Group::new(2)?;
+    /// # let db = group.add_inner(&[])?;
+    /// # let file = group.add_file(&[db])?;
+    /// let mut session = group.begin()?;
+    /// session.lock_path(file, Mode::X)?;
+    /// let before = session.txn();
+    /// session.renew(u64::MAX)?;
+    /// assert_ne!(session.txn(), before);
+    /// assert_eq!(session.held(file), Ok(Mode::NL));
+    /// # Ok::<(), Stop>(())
+    /// ```
+    pub fn renew(&mut self, since: u64) -> Result<(), Refusal> {
+        done(self.transaction.renew(since))?;
+        match self.deadline {
+            Some(_) => self.set_deadline(self.deadline),
+            None => Ok(()),
+        }
+    }
+
     /// Locks a node with what must be held above it, as [`Session::lock_path`](crate::Session::lock_path), and answers
     /// the mode that is held then. If an inner node above a file or its nodes is locked in more than an intention, or
-    /// somebody waits for that, the call may sleep in the main table first. The answer is never [`Stop::Moved`] or
-    /// [`Stop::Cancelled`].
+    /// somebody waits for that, the call may sleep in the main table first. The answer is never [`Stop::Moved`].
     ///
     /// More than an intention on an inner node is the mode that the main table grants: what the transaction holds there
     /// alone, it keeps until it ends. [`held`](GroupSession::held) says what it holds in all tables.
@@ -907,9 +1047,9 @@ impl<'g> GroupSession<'g> {
 
     /// Commits in each of its tables, one after the other, and wakes the waiters that are granted by it. What it has
     /// released in one table others can have before it ends in the next. If the commit is refused, because the
-    /// transaction was condemned, the session is aborted.
+    /// transaction was condemned, or waits by a future that was leaked, the session is aborted.
     ///
-    /// Refused with [`TxnCondemned`](Refusal::TxnCondemned).
+    /// Refused with [`TxnCondemned`](Refusal::TxnCondemned), [`TxnWaiting`](Refusal::TxnWaiting).
     pub fn commit(mut self) -> Result<(), Refusal> {
         let end = done(self.transaction.commit());
         self.has_ended = end.is_ok();
@@ -922,14 +1062,17 @@ impl<'g> GroupSession<'g> {
 
 impl Drop for GroupSession<'_> {
     fn drop(&mut self) {
-        if !self.has_ended {
-            let end = done(self.transaction.abort());
-            let is_lost = end == Err(Refusal::InUse) && !thread::panicking();
-            assert!(
-                !is_lost,
-                "a session was dropped while its thread held a table"
-            );
+        if self.has_ended {
+            return;
         }
+        let end = done(self.transaction.abort());
+        if thread::panicking() {
+            return;
+        }
+        assert!(
+            end != Err(Refusal::InUse),
+            "a session was dropped while its thread held a table"
+        );
     }
 }
 
@@ -939,3 +1082,5 @@ impl fmt::Debug for GroupSession<'_> {
         f.debug_tuple("GroupSession").field(&name).finish()
     }
 }
+
+mod asks;

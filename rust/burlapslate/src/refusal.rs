@@ -67,9 +67,10 @@ pub enum Refusal {
     NotRows,
     /// There are [`MOST_WATCHERS`](crate::MOST_WATCHERS) watchers already.
     TooManyWatchers,
-    /// A call that could sleep, or any of a [`Group`](crate::Group), in a waker or while the thread holds a table
-    /// ([`Table::with`](crate::Table::with), [`Group::with_table`](crate::Group::with_table)); or any call of the table
-    /// that the thread holds; or the part of [`Manager::next_copy`](crate::Manager::next_copy) is the manager itself.
+    /// A call that could sleep, in a waker or while the thread holds a table ([`Table::with`](crate::Table::with),
+    /// [`Group::with_table`](crate::Group::with_table)); or any call of the table that the thread holds, or of a
+    /// [`Group`](crate::Group) while it holds any table; or the part of
+    /// [`Manager::next_copy`](crate::Manager::next_copy) is the manager itself.
     InUse,
     /// More than 8 parents, or a manager for none or more than [`SLOTS`](crate::SLOTS) transactions, or a number of a
     /// part or a table that a [`Group`](crate::Group) does not have or cannot be made with. It is answered before all

@@ -16,6 +16,8 @@ use crate::board::Slots;
 use crate::listing::Counters;
 use crate::names::{Node, Row, Txn};
 use crate::{FITS, SLOTS};
+#[cfg(target_pointer_width = "64")]
+use std::alloc::alloc;
 use std::alloc::{alloc_zeroed, Layout};
 use std::cell::UnsafeCell;
 use std::ffi::c_void;
@@ -303,6 +305,21 @@ unsafe fn zeroed<T>() -> Option<Box<T>> {
     }
     // SAFETY: a box of the type has this layout and this allocator, and these bytes are a value.
     Some(unsafe { Box::from_raw(memory.cast()) })
+}
+
+/// A box of this value; `None` if memory is refused.
+#[cfg(target_pointer_width = "64")] // Only groups need it.
+fn boxed<T>(value: T) -> Option<Box<T>> {
+    const { assert!(size_of::<T>() > 0) };
+    // SAFETY: the layout is that of the type, which is not empty.
+    let memory: *mut T = unsafe { alloc(Layout::new::<T>()) }.cast();
+    if memory.is_null() {
+        return None;
+    }
+    // SAFETY: the memory is for a value of the type, and nobody else uses it.
+    unsafe { memory.write(value) };
+    // SAFETY: a box of the type has this layout and this allocator.
+    Some(unsafe { Box::from_raw(memory) })
 }
 
 // SAFETY: these are the calls of the header, and their types have the layout of its types. Those

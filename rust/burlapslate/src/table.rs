@@ -15,6 +15,8 @@ use std::fmt;
 use std::sync::Arc;
 use std::time::{Duration, Instant};
 
+#[cfg(target_pointer_width = "64")]
+pub(crate) use asks::Asks;
 pub(crate) use asks::{Asker, Locking, Sought};
 use begins::Beginning;
 pub use running::{Awaited, AwaitedNode, Blocker, Histogram, LongWait, Told, WaitEnd, Waits};

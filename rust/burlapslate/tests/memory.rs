@@ -21,11 +21,12 @@ use std::ffi::c_void;
 use std::fmt::Debug;
 use std::future::Future;
 use std::mem::forget;
+use std::pin::pin;
 use std::ptr::null_mut;
 use std::task::{Context, Poll};
 use std::thread;
 use std::time::{Duration, Instant};
-use tasks::{quiet, PATIENCE};
+use tasks::{poll, quiet, PATIENCE};
 
 /// Which allocations of a thread are refused.
 #[derive(Clone, Copy, PartialEq, Debug)]
@@ -636,20 +637,23 @@ fn all_memory_of_a_group_comes_back() {
     }
 }
 
+/// Makes a call again as long as it is refused for want of memory, each time with more.
+#[cfg(target_pointer_width = "64")]
+fn again<T, E: PartialEq + Debug>(refused: E, mut call: impl FnMut() -> Result<T, E>) -> T {
+    for n in 1.. {
+        match refusing(Refused::From(n), &mut call).0 {
+            Ok(made) => return made,
+            Err(refusal) => assert_eq!(refusal, refused),
+        }
+    }
+    unreachable!()
+}
+
 /// What makes or acquires something can be called again after it was refused memory; what ends or releases something
 /// takes none.
 #[cfg(target_pointer_width = "64")]
 #[test]
 fn ends_in_a_group_take_none() {
-    fn again<T, E: PartialEq + Debug>(refused: E, mut call: impl FnMut() -> Result<T, E>) -> T {
-        for n in 1.. {
-            match refusing(Refused::From(n), &mut call).0 {
-                Ok(made) => return made,
-                Err(refusal) => assert_eq!(refusal, refused),
-            }
-        }
-        unreachable!()
-    }
     let (none, no_lock) = (Refusal::NoMemory, Stop::Refused(Refusal::NoMemory));
     let group = Group::new(2).unwrap();
     let db = again(none, || group.add_inner(&[]));
@@ -690,4 +694,36 @@ fn ends_in_a_group_take_none() {
     let known = again(none, || group.adopt(file, &[1]));
     assert_eq!(without_memory(|| group.forget(known)), Ok(()));
     assert_eq!(without_memory(|| group.begin().map(drop)), Ok(()));
+}
+
+/// A task asks a group again after it was refused memory; to drop its future, and to set a deadline and to renew a
+/// transaction, takes none.
+#[cfg(target_pointer_width = "64")]
+#[test]
+fn tasks_of_a_group_take_none_but_to_ask() {
+    let no_lock = Stop::Refused(Refusal::NoMemory);
+    let group = Group::new(2).unwrap();
+    let db = group.add_inner(&[]).unwrap();
+    let file = group.add_row_file_in(1, &[db]).unwrap();
+    let index = group.add_index(&[db], file, &[100]).unwrap();
+    let row = Row { file, number: 7 };
+    let waker = quiet();
+    for strong in [index, db] {
+        let (mut holder, mut session) = (group.begin().unwrap(), group.begin().unwrap());
+        holder.lock_path(strong, Mode::S).unwrap();
+        again(no_lock, || {
+            let mut lock = pin!(session.lock_row_path_async(row, &[50], Mode::X));
+            match poll(&mut lock, &waker) {
+                Poll::Ready(end) => end.map(|_| unreachable!("it waits")),
+                Poll::Pending => Ok(()),
+            }
+        });
+        let set = without_memory(|| session.set_deadline(Some(Instant::now())));
+        assert_eq!(set, Ok(()));
+        let renewed = without_memory(|| session.renew(u64::MAX));
+        assert_eq!(renewed, Ok(()));
+        assert_eq!(without_memory(|| group.expire()), None);
+        assert_eq!(without_memory(|| holder.commit()), Ok(()));
+        assert_eq!(without_memory(|| session.commit()), Ok(()));
+    }
 }

@@ -15,7 +15,7 @@ use crate::SLOTS;
 use std::any::Any;
 use std::cell::Cell;
 use std::ffi::c_void;
-use std::mem::swap;
+use std::mem::{replace, swap};
 use std::panic::{catch_unwind, resume_unwind, AssertUnwindSafe};
 use std::sync::atomic::{AtomicBool, Ordering};
 use std::sync::{Mutex, MutexGuard, PoisonError};
@@ -92,6 +92,8 @@ struct Wait {
 enum State {
     /// Its end is not told yet.
     Waits,
+    /// The same, and nobody has its transaction any more: that ends too, as the end is told.
+    Left,
     /// It ended so.
     Ended(Ended),
 }
@@ -189,7 +191,7 @@ impl Waits {
         }
         match wait.state {
             State::Ended(end) => Poll::Ready(end),
-            State::Waits => {
+            State::Waits | State::Left => {
                 swap(&mut wait.waker, &mut waker);
                 Poll::Pending
             }
@@ -203,30 +205,51 @@ impl Waits {
             return false;
         }
         let waker = wait.waker.take();
-        let waits = matches!(wait.state, State::Waits);
+        let waits = !matches!(wait.state, State::Ended(_));
         drop(wait);
         drop(waker); // Without the lock, since that may call the table.
         waits
     }
 
-    /// The wait of this number has ended so: answers which waker to wake.
-    fn end(&self, txn: Txn, number: usize, end: Ended) -> Option<Waker> {
-        let mut wait = self.of(txn);
-        if wait.number != number {
-            return None;
-        }
-        wait.state = State::Ended(end);
-        wait.waker.take()
+    /// Whether the end of the wait of this number is not told yet.
+    #[cfg_attr(not(target_pointer_width = "64"), allow(dead_code))] // Only groups need this and the next.
+    pub(super) fn is_untold(&self, txn: Txn, number: usize) -> bool {
+        let wait = self.of(txn);
+        wait.number == number && !matches!(wait.state, State::Ended(_))
     }
 
-    /// Of a callback: the wait of this number has ended so. Stores that, and wakes the task after it.
-    pub(super) fn ends(&self, txn: Txn, number: usize, end: &Reply) {
+    /// Nobody has the transaction of the wait of this number any more: who tells the end of the wait ends that too. False
+    /// if the end was told.
+    #[cfg_attr(not(target_pointer_width = "64"), allow(dead_code))]
+    pub(super) fn leave(&self, txn: Txn, number: usize) -> bool {
+        let mut wait = self.of(txn);
+        let waits = wait.number == number && matches!(wait.state, State::Waits);
+        if waits {
+            wait.state = State::Left;
+        }
+        waits
+    }
+
+    /// The wait of this number has ended so: answers which waker to wake, and whether its transaction was left.
+    fn end(&self, txn: Txn, number: usize, end: Ended) -> (Option<Waker>, bool) {
+        let mut wait = self.of(txn);
+        if wait.number != number {
+            return (None, false);
+        }
+        let before = replace(&mut wait.state, State::Ended(end));
+        (wait.waker.take(), matches!(before, State::Left))
+    }
+
+    /// Of a callback: the wait of this number has ended so. Stores that, and wakes the task after it; whether its
+    /// transaction was left.
+    pub(super) fn ends(&self, txn: Txn, number: usize, end: &Reply) -> bool {
         let end = match end.status {
             NO_MANAGER => Err(Stop::Refused(Refusal::NoSuchTxn)), // All ends, and the transaction with it.
             _ => ended(end),
         };
-        let waker = self.end(txn, number, end);
+        let (waker, is_left) = self.end(txn, number, end);
         waker.into_iter().for_each(wake);
+        is_left
     }
 
     fn of(&self, txn: Txn) -> MutexGuard<'_, Wait> {

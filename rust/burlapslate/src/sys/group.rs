@@ -1,11 +1,13 @@
 //! The calls with a group of tables, as `include/burlapslate_group.h` declares them.
 //!
 //! Any thread may make any call with a group, so these take it by `&`. Those of one transaction come from one thread at
-//! a time: a [`Transaction`] makes them, which is no copy of another and is not `Sync`. A group is freed when its owner
-//! drops it, and no thread is in a call then, because each call borrows it.
+//! a time: a [`Transaction`] makes them, which is no copy of another and is not `Sync`. While it waits by an ask, which
+//! may be leaked, the library refuses them before it uses anything of the transaction. A group is freed when its owner
+//! drops it, and no thread is in a call then, because each call borrows it. The asks are in [`asks`].
 
-use super::shared::{Time, Until};
-use super::{assert_fits, nodes, numbers, Options, Pinned, Place, Reply, IN_USE};
+use super::awaited::{self, Resumes};
+use super::shared::{Calling, Time, Until};
+use super::{assert_fits, nodes, numbers, Options, Pinned, Place, Reply, DONE, IN_USE};
 use crate::group::Group as Owner;
 use crate::listing::Counters;
 use crate::manager::Manager;
@@ -68,8 +70,12 @@ unsafe extern "C" {
 
     safe fn bs_group_keep(group: &Shared, most: u32) -> Reply;
     safe fn bs_group_begin_again(group: &Shared, since: u64) -> Reply;
+    safe fn bs_group_begin_again_in_turn(group: &Shared, since: u64, until: Until<'_>) -> Reply;
+    fn bs_group_deadline(group: &Shared, txn: Txn, until: Until<'_>) -> Reply;
     fn bs_group_commit(group: &Shared, txn: Txn) -> Reply;
     fn bs_group_abort(group: &Shared, txn: Txn) -> Reply;
+    fn bs_group_renew(group: &Shared, txn: Txn, since: u64) -> Reply;
+    safe fn bs_group_cancel(group: &Shared, txn: Txn) -> Reply;
     fn bs_group_lock_path(
         group: &Shared,
         txn: Txn,
@@ -146,6 +152,9 @@ unsafe extern "C" {
     fn bs_group_merge(group: &Shared, txn: Txn, interval: Node) -> Reply;
     fn bs_group_held(group: &Shared, txn: Txn, node: Node) -> Reply;
 
+    safe fn bs_group_expire(group: &Shared, next: &mut Time) -> Reply;
+    safe fn bs_group_watch_thread(group: &Shared, pace: u64) -> Reply;
+
     safe fn bs_group_file_of_row(group: &Shared, file: Node, number: u64) -> Reply;
     safe fn bs_group_counters(group: &Shared, counts: &mut Counters) -> Reply;
     safe fn bs_group_hold(group: &Shared, table: u32) -> Option<NonNull<Place>>;
@@ -157,6 +166,7 @@ unsafe extern "C" {
 /// A group, which ends with this.
 pub(crate) struct Group {
     at: NonNull<Shared>,
+    ends: NonNull<Ends>,
 }
 
 // SAFETY: any thread may make any call with a group, and any thread may end it.
@@ -170,14 +180,20 @@ impl UnwindSafe for Group {}
 impl RefUnwindSafe for Group {}
 
 impl Group {
-    /// Makes a group with so many parts.
+    /// Makes a group with so many parts, whose asks have their ends told.
     pub(crate) fn new(options: &Options, parts: u32) -> Result<Group, Refusal> {
         assert_fits();
+        let mut ends = Ends::new().ok_or(Refusal::NoMemory)?;
         let mut at = null_mut();
         // SAFETY: the size is that of the options.
         accepted(unsafe { bs_call_group_make(&mut at, options, size_of::<Options>(), parts) })?;
         let at = NonNull::new(at).expect("a group that was made");
-        Ok(Group { at })
+        ends.are_of(at);
+        let ends = NonNull::from(Box::leak(ends));
+        let group = Group { at, ends };
+        // SAFETY: the ends are freed after the group has ended.
+        accepted(unsafe { asks::has_ends_told(group.shared(), ends) })?;
+        Ok(group)
     }
 
     fn shared(&self) -> &Shared {
@@ -185,61 +201,86 @@ impl Group {
         unsafe { self.at.as_ref() }
     }
 
+    /// For one call.
+    fn call(&self) -> Calling<'_, Shared> {
+        Calling::new(self.shared())
+    }
+
     pub(crate) fn add_inner(&self, parents: &[Node]) -> Reply {
         // SAFETY: the count is the list's own.
-        unsafe { bs_group_add_inner(self.shared(), nodes(parents), parents.len()) }
+        unsafe { bs_group_add_inner(&self.call(), nodes(parents), parents.len()) }
     }
 
     /// Makes a file in this part; with 0, in each part by turns.
     pub(crate) fn add_file(&self, part: u32, parents: &[Node]) -> Reply {
         // SAFETY: the count is the list's own.
-        unsafe { bs_group_add_file(self.shared(), part, nodes(parents), parents.len()) }
+        unsafe { bs_group_add_file(&self.call(), part, nodes(parents), parents.len()) }
     }
 
     pub(crate) fn add_row_file(&self, part: u32, parents: &[Node]) -> Reply {
         // SAFETY: the count is the list's own.
-        unsafe { bs_group_add_row_file(self.shared(), part, nodes(parents), parents.len()) }
+        unsafe { bs_group_add_row_file(&self.call(), part, nodes(parents), parents.len()) }
     }
 
     pub(crate) fn add_spread_file(&self, parents: &[Node]) -> Reply {
         // SAFETY: the count is the list's own.
-        unsafe { bs_group_add_spread_file(self.shared(), nodes(parents), parents.len()) }
+        unsafe { bs_group_add_spread_file(&self.call(), nodes(parents), parents.len()) }
     }
 
     pub(crate) fn add_index(&self, parents: &[Node], file: Node, bounds: &[u64]) -> Reply {
-        let (group, above, count) = (self.shared(), nodes(parents), parents.len());
+        let (group, above, count) = (&self.call(), nodes(parents), parents.len());
         // SAFETY: the counts are the lists' own.
         unsafe { bs_group_add_index(group, above, count, file, numbers(bounds), bounds.len()) }
     }
 
     pub(crate) fn adopt(&self, file: Node, keys: &[u64]) -> Reply {
         // SAFETY: the count is the list's own.
-        unsafe { bs_group_adopt(self.shared(), file, numbers(keys), keys.len()) }
+        unsafe { bs_group_adopt(&self.call(), file, numbers(keys), keys.len()) }
     }
 
     pub(crate) fn forget(&self, record: Node) -> Reply {
-        bs_group_forget(self.shared(), record)
+        bs_group_forget(&self.call(), record)
     }
 
     pub(crate) fn keep(&self, most: u32) -> Reply {
-        bs_group_keep(self.shared(), most)
+        bs_group_keep(&self.call(), most)
+    }
+
+    /// Cancels the wait of a transaction, which may be any thread's.
+    pub(crate) fn cancel(&self, txn: Txn) -> Reply {
+        bs_group_cancel(&self.call(), txn)
+    }
+
+    /// Cancels the waits of asks whose time is over; the next of these times is written.
+    pub(crate) fn expire(&self, next: &mut Time) -> Reply {
+        bs_group_expire(&self.call(), next)
+    }
+
+    /// Starts a thread that looks for deadlocks.
+    pub(crate) fn watch_thread(&self, pace: u64) -> Reply {
+        bs_group_watch_thread(&self.call(), pace)
+    }
+
+    /// Whether this thread may make calls of the group: one that names no transaction is refused if it may not.
+    pub(crate) fn may_call(&self) -> bool {
+        self.cancel(Txn::NONE).status != IN_USE
     }
 
     pub(crate) fn file_of_row(&self, row: Row) -> Reply {
-        bs_group_file_of_row(self.shared(), row.file, row.number)
+        bs_group_file_of_row(&self.call(), row.file, row.number)
     }
 
     pub(crate) fn counters(&self) -> Result<Counters, Refusal> {
         let mut counters = Counters::default();
-        accepted(bs_group_counters(self.shared(), &mut counters)).map(|_| counters)
+        accepted(bs_group_counters(&self.call(), &mut counters)).map(|_| counters)
     }
 
     pub(crate) fn name_in(&self, node: Node, table: u32) -> Reply {
-        bs_group_name_in(self.shared(), node, table)
+        bs_group_name_in(&self.call(), node, table)
     }
 
     pub(crate) fn name_of(&self, node: Node, table: u32) -> Reply {
-        bs_group_name_of(self.shared(), node, table)
+        bs_group_name_of(&self.call(), node, table)
     }
 
     /// Asks the manager of a table, with its latch held for so long, also if that panics. `None` if this thread may not
@@ -262,11 +303,14 @@ impl Drop for Group {
         if bs_group_end(self.shared()).status != IN_USE {
             // SAFETY: the group was ended, and no thread is in a call with it: each borrows its owner.
             unsafe { bs_group_free(&mut at) };
-            return;
+            // SAFETY: they are of `new`, which leaked the box, and nobody tells an end any more.
+            drop(unsafe { Box::from_raw(self.ends.as_ptr()) });
+            return awaited::resume_panic();
         }
-        let group = ManuallyDrop::new(Group { at: self.at });
-        let ends = move || drop(ManuallyDrop::into_inner(group));
-        let _ = thread::Builder::new().spawn(ends);
+        let Group { at, ends } = *self;
+        let group = ManuallyDrop::new(Group { at, ends });
+        let ends_it = move || drop(ManuallyDrop::into_inner(group));
+        let _ = thread::Builder::new().spawn(ends_it);
     }
 }
 
@@ -286,6 +330,8 @@ impl Drop for Held<'_> {
 pub(crate) struct Transaction<'g> {
     owner: Handle<'g, Owner>,
     name: Txn,
+    /// The number of its last ask; 0 before the first.
+    asked: usize,
     /// It is not `Sync`.
     _of_one_thread: PhantomData<Cell<()>>,
 }
@@ -294,12 +340,32 @@ pub(crate) struct Transaction<'g> {
 impl RefUnwindSafe for Transaction<'_> {}
 
 impl<'g> Transaction<'g> {
-    /// Begins one, for work that has been tried since an earlier begin.
-    pub(crate) fn begin(owner: Handle<'g, Owner>, since: u64) -> Result<Transaction<'g>, Refusal> {
-        let begun = accepted(bs_group_begin_again(owner.shared().shared(), since))?;
+    /// Begins one, for work that has been tried since an earlier begin; or answers why it has not begun.
+    pub(crate) fn begin(owner: Handle<'g, Owner>, since: u64) -> Result<Transaction<'g>, Reply> {
+        let begun = bs_group_begin_again(&owner.shared().call(), since);
+        Transaction::begun(owner, begun)
+    }
+
+    /// The same, but it sleeps until a slot is free.
+    pub(crate) fn begin_in_turn(
+        owner: Handle<'g, Owner>,
+        since: u64,
+        until: Option<Time>,
+    ) -> Result<Transaction<'g>, Reply> {
+        let group = owner.shared();
+        let begun = bs_group_begin_again_in_turn(&group.call(), since, until.as_ref());
+        Transaction::begun(owner, begun)
+    }
+
+    /// The transaction that a begin answered so.
+    fn begun(owner: Handle<'g, Owner>, begun: Reply) -> Result<Transaction<'g>, Reply> {
+        if begun.status != DONE {
+            return Err(begun);
+        }
         Ok(Transaction {
             owner,
             name: begun.txn,
+            asked: 0,
             _of_one_thread: PhantomData,
         })
     }
@@ -316,19 +382,37 @@ impl<'g> Transaction<'g> {
         self.owner.shared().shared()
     }
 
-    pub(crate) fn commit(&mut self) -> Reply {
-        // SAFETY: no other thread is in a call of this transaction.
-        unsafe { bs_group_commit(self.shared(), self.name) }
+    /// For one call.
+    fn call(&self) -> Calling<'_, Shared> {
+        self.owner.shared().call()
     }
 
-    pub(crate) fn abort(&mut self) -> Reply {
+    /// Sets the time at which each of its waits ends.
+    pub(crate) fn set_deadline(&mut self, until: Option<Time>) -> Reply {
         // SAFETY: no other thread is in a call of this transaction.
-        unsafe { bs_group_abort(self.shared(), self.name) }
+        unsafe { bs_group_deadline(&self.call(), self.name, until.as_ref()) }
+    }
+
+    pub(crate) fn commit(&mut self) -> Reply {
+        // SAFETY: no other thread is in a call of this transaction.
+        unsafe { bs_group_commit(&self.call(), self.name) }
+    }
+
+    /// Commits it, and is the next transaction of its slot then.
+    pub(crate) fn renew(&mut self, since: u64) -> Reply {
+        let _resumes = Resumes; // So the panic of a waker finds the new name noted.
+        let (group, txn) = (self.shared(), self.name);
+        // SAFETY: no other thread is in a call of this transaction.
+        let reply = unsafe { bs_group_renew(group, txn, since) };
+        if reply.status == DONE {
+            self.name = reply.txn;
+        }
+        reply
     }
 
     pub(crate) fn lock_path(&mut self, node: Node, mode: u32, until: Option<Time>) -> Reply {
         // SAFETY: no other thread is in a call of this transaction.
-        unsafe { bs_group_lock_path(self.shared(), self.name, node, mode, until.as_ref()) }
+        unsafe { bs_group_lock_path(&self.call(), self.name, node, mode, until.as_ref()) }
     }
 
     pub(crate) fn lock_row_path(
@@ -338,7 +422,7 @@ impl<'g> Transaction<'g> {
         mode: u32,
         until: Option<Time>,
     ) -> Reply {
-        let (group, txn, Row { file, number }) = (self.shared(), self.name, row);
+        let (group, txn, Row { file, number }) = (&self.call(), self.name, row);
         let (start, count, until) = (numbers(keys), keys.len(), until.as_ref());
         // SAFETY: no other thread is in a call of this transaction, and the count is the list's own.
         unsafe { bs_group_lock_row_path(group, txn, file, number, start, count, mode, until) }
@@ -346,11 +430,11 @@ impl<'g> Transaction<'g> {
 
     pub(crate) fn try_path(&mut self, node: Node, mode: u32, keep: u32) -> Reply {
         // SAFETY: no other thread is in a call of this transaction.
-        unsafe { bs_group_try_path(self.shared(), self.name, node, mode, keep) }
+        unsafe { bs_group_try_path(&self.call(), self.name, node, mode, keep) }
     }
 
     pub(crate) fn try_row_path(&mut self, row: Row, keys: &[u64], mode: u32, keep: u32) -> Reply {
-        let (group, txn, Row { file, number }) = (self.shared(), self.name, row);
+        let (group, txn, Row { file, number }) = (&self.call(), self.name, row);
         let (start, count) = (numbers(keys), keys.len());
         // SAFETY: no other thread is in a call of this transaction, and the count is the list's own.
         unsafe { bs_group_try_row_path(group, txn, file, number, start, count, mode, keep) }
@@ -358,17 +442,17 @@ impl<'g> Transaction<'g> {
 
     pub(crate) fn unlock(&mut self, node: Node) -> Reply {
         // SAFETY: no other thread is in a call of this transaction.
-        unsafe { bs_group_unlock(self.shared(), self.name, node) }
+        unsafe { bs_group_unlock(&self.call(), self.name, node) }
     }
 
     pub(crate) fn unlock_row(&mut self, row: Row) -> Reply {
         // SAFETY: no other thread is in a call of this transaction.
-        unsafe { bs_group_unlock_row(self.shared(), self.name, row.file, row.number) }
+        unsafe { bs_group_unlock_row(&self.call(), self.name, row.file, row.number) }
     }
 
     pub(crate) fn escalate(&mut self, node: Node) -> Reply {
         // SAFETY: no other thread is in a call of this transaction.
-        unsafe { bs_group_escalate(self.shared(), self.name, node) }
+        unsafe { bs_group_escalate(&self.call(), self.name, node) }
     }
 
     pub(crate) fn mark(&self) -> Result<Savepoint, Refusal> {
@@ -376,53 +460,53 @@ impl<'g> Transaction<'g> {
             at: [0; MOST_PARTS + 1],
         };
         // SAFETY: no other thread is in a call of this transaction.
-        let reply = unsafe { bs_group_mark(self.shared(), self.name, &mut savepoint) };
+        let reply = unsafe { bs_group_mark(&self.call(), self.name, &mut savepoint) };
         accepted(reply).map(|_| savepoint)
     }
 
     pub(crate) fn release_since(&mut self, savepoint: &Savepoint) -> Reply {
         // SAFETY: no other thread is in a call of this transaction.
-        unsafe { bs_group_release_since(self.shared(), self.name, savepoint) }
+        unsafe { bs_group_release_since(&self.call(), self.name, savepoint) }
     }
 
     pub(crate) fn insert(&mut self, file: Node, keys: &[u64]) -> Reply {
         // SAFETY: no other thread is in a call of this transaction, and the count is the list's own.
-        unsafe { bs_group_insert(self.shared(), self.name, file, numbers(keys), keys.len()) }
+        unsafe { bs_group_insert(&self.call(), self.name, file, numbers(keys), keys.len()) }
     }
 
     pub(crate) fn delete(&mut self, record: Node) -> Reply {
         // SAFETY: no other thread is in a call of this transaction.
-        unsafe { bs_group_delete(self.shared(), self.name, record) }
+        unsafe { bs_group_delete(&self.call(), self.name, record) }
     }
 
     pub(crate) fn rekey(&mut self, record: Node, index: Node, key: u64) -> Reply {
         // SAFETY: no other thread is in a call of this transaction.
-        unsafe { bs_group_rekey(self.shared(), self.name, record, index, key) }
+        unsafe { bs_group_rekey(&self.call(), self.name, record, index, key) }
     }
 
     pub(crate) fn rekey_row(&mut self, row: Row, index: Node, key: u64) -> Reply {
-        let (group, txn, Row { file, number }) = (self.shared(), self.name, row);
+        let (group, txn, Row { file, number }) = (&self.call(), self.name, row);
         // SAFETY: no other thread is in a call of this transaction.
         unsafe { bs_group_rekey_row(group, txn, file, number, index, key) }
     }
 
     pub(crate) fn drop_node(&mut self, node: Node) -> Reply {
         // SAFETY: no other thread is in a call of this transaction.
-        unsafe { bs_group_drop(self.shared(), self.name, node) }
+        unsafe { bs_group_drop(&self.call(), self.name, node) }
     }
 
     pub(crate) fn split(&mut self, interval: Node, at: u64) -> Reply {
         // SAFETY: no other thread is in a call of this transaction.
-        unsafe { bs_group_split(self.shared(), self.name, interval, at) }
+        unsafe { bs_group_split(&self.call(), self.name, interval, at) }
     }
 
     pub(crate) fn merge(&mut self, interval: Node) -> Reply {
         // SAFETY: no other thread is in a call of this transaction.
-        unsafe { bs_group_merge(self.shared(), self.name, interval) }
+        unsafe { bs_group_merge(&self.call(), self.name, interval) }
     }
 
     pub(crate) fn index_by(&mut self, parents: &[Node], file: Node, bounds: &[u64]) -> Reply {
-        let (group, txn) = (self.shared(), self.name);
+        let (group, txn) = (&self.call(), self.name);
         let (above, count, start) = (nodes(parents), parents.len(), numbers(bounds));
         // SAFETY: no other thread is in a call of this transaction, and the counts are the lists' own.
         unsafe { bs_group_index_by(group, txn, above, count, file, start, bounds.len()) }
@@ -441,7 +525,7 @@ impl<'g> Transaction<'g> {
         // SAFETY: no other thread is in a call of this transaction, and the counts are the lists' own.
         unsafe {
             bs_group_index_records(
-                self.shared(),
+                &self.call(),
                 self.name,
                 nodes(parents),
                 parents.len(),
@@ -457,9 +541,14 @@ impl<'g> Transaction<'g> {
 
     pub(crate) fn held(&self, node: Node) -> Reply {
         // SAFETY: no other thread is in a call of this transaction.
-        unsafe { bs_group_held(self.shared(), self.name, node) }
+        unsafe { bs_group_held(&self.call(), self.name, node) }
     }
 }
+
+mod asks;
+
+use asks::Ends;
+pub(crate) use asks::Sought;
 
 /// The layouts of the header's types, by a C compiler for machines of 64 bits.
 #[cfg(test)]
