@@ -53,10 +53,10 @@ pub(crate) struct Rest<'l, 'a> {
 #[derive(Clone, Copy)]
 enum Left {
     Nothing,
-    /// A wait. The grant of the node that the command requests is its answer, and of any other node a step to it.
+    /// A wait, by a command that requests this node, if it is not of a row.
     Wait {
         wait: Wait,
-        is_answer: bool,
+        requested: Option<Node>,
     },
     /// A row with other keys, by this answer.
     Row(Done),
@@ -168,10 +168,7 @@ impl Answers {
         let halt = Halt::of(reply, requested);
         let before = replace(&mut self.left, Left::Nothing);
         self.left = match halt {
-            Halt::Waiting(wait) => Left::Wait {
-                wait,
-                is_answer: requested == Some(wait.node),
-            },
+            Halt::Waiting(wait) => Left::Wait { wait, requested },
             Halt::OtherKeys(mode) => {
                 Left::Row(Done::RowLocked(RowLocked::OtherKeys(mode), reply.node))
             }
@@ -195,18 +192,29 @@ impl Answers {
         }
     }
 
-    /// That wait was awaited, and was answered so. If the call was refused, the wait continues.
+    /// That wait was awaited, and was answered so. If the call was refused, the wait continues. The grant of the node that
+    /// the command requests is its answer, and of any other node a step to it.
     pub(crate) fn has_awaited(&mut self, end: Result<Mode, Stop>) -> Result<(), Stop> {
         if matches!(end, Err(Stop::Refused(_))) {
             return end.map(drop);
         }
+        self.has_ended(end, false)
+    }
+
+    /// In a group the wait goes on to the end of its request, which was this. A command of a row asks for that again, which
+    /// is granted at once.
+    #[cfg_attr(not(target_pointer_width = "64"), allow(dead_code))]
+    pub(crate) fn has_come_to(&mut self, end: Result<Mode, Stop>) -> Result<(), Stop> {
+        self.has_ended(end, true)
+    }
+
+    fn has_ended(&mut self, end: Result<Mode, Stop>, goes_on: bool) -> Result<(), Stop> {
         let left = replace(&mut self.left, Left::Nothing);
         let mode = end?;
-        if let Left::Wait {
-            is_answer: true, ..
-        } = left
-        {
-            self.done.push(Done::Locked(mode));
+        if let Left::Wait { wait, requested } = left {
+            if requested.is_some_and(|node| goes_on || node == wait.node) {
+                self.done.push(Done::Locked(mode));
+            }
         }
         Ok(())
     }

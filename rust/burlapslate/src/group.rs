@@ -560,9 +560,9 @@ impl fmt::Debug for GroupMark {
 /// A transaction of a [`Group`], which one thread drives. A lock call sleeps until the lock is granted, or a task awaits it
 /// ([`lock_path_async`](GroupSession::lock_path_async)). A session that is dropped without a commit is aborted, so that its
 /// locks never outlive it: undo what it wrote first. Within a closure of [`Group::with_table`] or
-/// [`Table::with`](crate::Table::with) it cannot be aborted: a drop panics there. If it is dropped in a waker after a future
-/// of it, whose end is told after the waker, it is aborted then. It borrows its group, or is one of its owners
-/// ([`Group::begin_shared`]).
+/// [`Table::with`](crate::Table::with) it cannot be aborted: a drop panics there; so it does in a waker while a lock waits
+/// that a list has left ([`run`](GroupSession::run)). If it is dropped in a waker after a future of it, whose end is told
+/// after the waker, it is aborted then. It borrows its group, or is one of its owners ([`Group::begin_shared`]).
 ///
 /// ```
 /// use burlapslate::{Group, Mode};
@@ -1073,6 +1073,10 @@ impl Drop for GroupSession<'_> {
             end != Err(Refusal::InUse),
             "a session was dropped while its thread held a table"
         );
+        assert!(
+            end != Err(Refusal::TxnWaiting),
+            "a session whose list waited was dropped in a waker"
+        );
     }
 }
 
@@ -1084,3 +1088,4 @@ impl fmt::Debug for GroupSession<'_> {
 }
 
 mod asks;
+mod lists;

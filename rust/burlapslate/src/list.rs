@@ -48,8 +48,9 @@ impl From<Row> for NamedRow {
     }
 }
 
-/// A command of a list ([`Session::run`](crate::Session::run)). Each is as the call of its name, and has what that call
-/// takes, in its order; but a lock does not sleep.
+/// A command of a list ([`Session::run`](crate::Session::run); [`GroupSession::run`](crate::GroupSession::run) says what
+/// differs in a group). Each is as the call of its name, and has what that call takes, in its order; but a lock does not
+/// sleep.
 ///
 /// ```
 /// # use burlapslate::{Answers, Detect, Do, Mode, Named, Table, SLOTS};

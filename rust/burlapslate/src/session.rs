@@ -251,6 +251,26 @@ pub struct Taken {
     pub locked: RowLocked,
 }
 
+/// Makes tries of a transaction by this call, which answers the place of the first that is not passed over.
+pub(crate) fn try_first(
+    txn: Txn,
+    tries: &[Try<'_>],
+    call: impl FnOnce(&mut [Command<'_>]) -> usize,
+) -> Result<Option<Taken>, Refusal> {
+    let mut list = Vec::new();
+    let room = list.try_reserve_exact(tries.len());
+    room.map_err(|_refused| Refusal::NoMemory)?;
+    list.extend(tries.iter().map(|each| each.command(txn)));
+    let place = call(&mut list);
+    let Some(Command { reply, .. }) = list.get(place) else {
+        return Ok(None);
+    };
+    match RowLocked::of(reply) {
+        Some(locked) => Ok(Some(Taken { place, locked })),
+        None => Err(Refusal::of(reply)),
+    }
+}
+
 /// A transaction of a [`Table`], which one thread drives. A lock call sleeps until the lock is granted.
 /// A session that is dropped without a commit is aborted, so that its locks never outlive it: undo what
 /// it wrote first. Within the closure of [`Table::with`] it cannot be aborted: a drop panics there. It borrows
@@ -802,18 +822,8 @@ impl<'t> Session<'t> {
     /// # Ok::<(), burlapslate::Refusal>(())
     /// ```
     pub fn try_first(&mut self, tries: &[Try<'_>]) -> Result<Option<Taken>, Refusal> {
-        let mut list = Vec::new();
-        let room = list.try_reserve_exact(tries.len());
-        room.map_err(|_refused| Refusal::NoMemory)?;
-        list.extend(tries.iter().map(|each| each.command(self.txn)));
-        let place = commands::try_first(&self.call(), &mut list);
-        let Some(Command { reply, .. }) = list.get(place) else {
-            return Ok(None);
-        };
-        match RowLocked::of(reply) {
-            Some(locked) => Ok(Some(Taken { place, locked })),
-            None => Err(Refusal::of(reply)),
-        }
+        let call = |list: &mut [Command<'_>]| commands::try_first(&self.call(), list);
+        try_first(self.txn, tries, call)
     }
 
     /// As [`Manager::unlock_row`](crate::Manager::unlock_row).

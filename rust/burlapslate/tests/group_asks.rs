@@ -8,7 +8,8 @@ mod tasks;
 mod world;
 
 use burlapslate::{
-    Detect, Group, GroupSession, Keep, Mode, Node, Refusal, Row, RowLocked, Stop, Table, Tried, Txn,
+    Answers, Detect, Do, Group, GroupSession, Keep, Mode, Node, Refusal, Row, RowLocked, Stop,
+    Table, Tried, Txn,
 };
 use std::future::Future;
 use std::panic::{catch_unwind, AssertUnwindSafe};
@@ -615,6 +616,11 @@ fn calls_the_group(group: &Arc<Group>, mut session: GroupSession<'static>, w: &N
     assert_eq!(group.begin_in_turn().err(), Some(Refusal::InUse));
     let begun = group.begin_shared_timeout(Duration::ZERO);
     assert_eq!(begun.map(drop), Err(Stop::Refused(Refusal::InUse)));
+    let list = [Do::LockPath(w.record.into(), Mode::S)];
+    let mut answers = Answers::new();
+    assert_eq!(s.run(&list, &mut answers), Err(Refusal::InUse.into()));
+    let ran = s.run_to_end(&list, &mut answers);
+    assert_eq!(ran, Err(Refusal::InUse.into()));
 
     let tried = s.try_lock_path(w.record, Mode::X, Keep::Nothing);
     assert_eq!(tried, Ok(Tried::Locked(Mode::X)));

@@ -3,7 +3,8 @@
 //! Any thread may make any call with a group, so these take it by `&`. Those of one transaction come from one thread at
 //! a time: a [`Transaction`] makes them, which is no copy of another and is not `Sync`. While it waits by an ask, which
 //! may be leaked, the library refuses them before it uses anything of the transaction. A group is freed when its owner
-//! drops it, and no thread is in a call then, because each call borrows it. The asks are in [`asks`].
+//! drops it, and no thread is in a call then, because each call borrows it. The asks are in [`asks`], and the lists in
+//! [`lists`].
 
 use super::awaited::{self, Resumes};
 use super::shared::{Calling, Time, Until};
@@ -546,6 +547,7 @@ impl<'g> Transaction<'g> {
 }
 
 mod asks;
+mod lists;
 
 use asks::Ends;
 pub(crate) use asks::Sought;

@@ -42,7 +42,7 @@ unsafe extern "C" {
         until: Until<'_>,
         word: usize,
     ) -> Reply;
-    fn bs_group_await(group: &Shared, txn: Txn, until: Until<'_>) -> Reply;
+    pub(super) fn bs_group_await(group: &Shared, txn: Txn, until: Until<'_>) -> Reply;
 }
 
 /// The context of a group's callback. It stays where it is.
@@ -181,7 +181,7 @@ impl Transaction<'_> {
     }
 
     /// Whether this thread may sleep in a call: one that names no transaction is refused if it may not.
-    fn may_sleep(&self) -> bool {
+    pub(crate) fn may_sleep(&self) -> bool {
         // SAFETY: it is a call of no transaction.
         unsafe { bs_group_await(self.shared(), Txn::NONE, None) }.status != IN_USE
     }
