@@ -5,8 +5,8 @@
 mod world;
 
 use burlapslate::{
-    Answers, Detect, Do, Done, Group, GroupSession, Halt, Keep, Mode, Named, NamedRow, Node,
-    Refusal, Row, RowLocked, Stop, Table, Taken, Try,
+    Answers, Do, Done, Group, GroupSession, Halt, Keep, Mode, Named, NamedRow, Node, Refusal, Row,
+    RowLocked, Stop, Taken, Try,
 };
 use std::future::Future;
 use std::panic::{catch_unwind, AssertUnwindSafe};
@@ -73,16 +73,9 @@ fn lists_are_made_in_order() {
 fn wrong_lists_stop() {
     let w = World::new();
     let mut session = w.begin();
-    let mark = {
-        let table = Table::new(Detect::AtBlock, 1).unwrap();
-        let other = table.begin().unwrap();
-        other.mark().unwrap()
-    };
     let under = [w.base.into()];
     let file = w.files[0].into();
     for (wrong, refusal) in [
-        (Do::Mark, Refusal::BadNumber),
-        (Do::ReleaseSince(mark), Refusal::BadNumber),
         (Do::MoveNode(file, &under), Refusal::BadNumber),
         (Do::Unlock(w.base.into()), Refusal::BadParents),
         (Do::Lock(Named::Made(7), Mode::S), Refusal::NoSuchNode),
@@ -110,6 +103,25 @@ fn wrong_lists_stop() {
         assert_eq!(session.try_first(&tries), Err(Refusal::InUse));
     });
     assert_eq!(asked, Ok(()));
+    session.commit().unwrap();
+}
+
+/// A list rolls back to a savepoint in all parts.
+#[test]
+fn lists_have_savepoints() {
+    let w = World::new();
+    let mut session = w.begin();
+    let mut answers = Answers::new();
+    let [first, second] = [w.files[0], w.files[1]];
+    let list = [Do::LockPath(first.into(), Mode::X), Do::Mark];
+    assert_eq!(session.run(&list, &mut answers), Ok(()));
+    let Done::Marked(mark) = answers[1] else {
+        unreachable!()
+    };
+    let list = [Do::LockPath(second.into(), Mode::X), Do::ReleaseSince(mark)];
+    assert_eq!(session.run(&list, &mut answers), Ok(()));
+    assert_eq!(session.held(first), Ok(Mode::X));
+    assert_eq!(session.held(second), Ok(Mode::NL));
     session.commit().unwrap();
 }
 

@@ -657,7 +657,7 @@ mod layouts {
 
     #[test]
     fn options_and_times() {
-        assert_eq!(size_of::<Options>(), 20);
+        assert_eq!(size_of::<Options>(), 24);
         assert_eq!(size_of::<Time>(), 16);
         assert_eq!(offset_of!(Time, nanoseconds), 8);
         assert_eq!(size_of::<Option<&Time>>(), 8);
