@@ -37,6 +37,7 @@ static enum action what_to_do(bs_status status) {
     case BS_CYCLE: case BS_NULL_POINTER: case BS_NO_MANAGER: case BS_BAD_NUMBER: case BS_IN_USE: return MEND;
     case BS_NO_WATCHER: case BS_ROWS_BY_NUMBER: case BS_NOT_ROWS: return MEND;
     case BS_OTHER_SLOTS: case BS_OTHER_VERSION: return MEND;
+    case BS_IN_PARTS: return MEND; /* A table of one part has the call. */
     case BS_TOO_LATE: case BS_NO_TRACE: return MEND; /* A trace begins before the first transaction. */
     case BS_NAME_TAKEN: case BS_BAD_LINE: return MEND; /* Not answered to C. */
   }

@@ -78,7 +78,7 @@ static bool serve(struct client *client, bs_reply reply) {
 }
 
 static void open_table(void) {
-  bs_options options = { BS_AT_BLOCK, BS_YOUNGEST, SLOTS, 0, 0 };
+  bs_options options = { BS_AT_BLOCK, BS_YOUNGEST, SLOTS, 0, 0, 1 };
   bs_node db, file;
   bs_txn t;
   DONE(bs_table_make(&table, &options));
