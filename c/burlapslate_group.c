@@ -121,9 +121,10 @@ typedef struct group_kept {
 /* Why a transaction may request nothing: it fell, to end a deadlock; it waits by an ask or a list. */
 enum group_bars { GROUP_FALLEN = 1, GROUP_WAITS = 2 };
 
-/* A transaction, by slot. Its thread alone uses it, and as long as it waits by an ask, the thread that ends that wait. Others read `since` and `target` with the latch of a part where it
- * holds something or sleeps: its thread wrote them before it acquired that latch, or with it. A look also reads the
- * `since` of a slot for which something rests, which no cycle has. */
+/* A transaction, by slot. Its thread alone uses it, and as long as it waits by an ask, the thread that ends that wait.
+ * Others read `since` and `target` with the latch of a part where it holds something or sleeps: its thread wrote them
+ * before it acquired that latch, or with it. A look also reads the `since` of a slot for which something rests, which no
+ * cycle has. */
 typedef struct group_slot {
   bool is_taken;               /* atomic */
   bool is_in_main, is_spread;  /* atomic: it has joined the main table; it has joined two tables */
@@ -151,7 +152,7 @@ typedef struct group_ask {
   group_slot *own;
   const group_table *at;  /* the table in which it waits */
   group_inner *inner;     /* not null: it is in progress there, as a request for more than an intention */
-  uint64_t cancelled;     /* atomic: the age of the transaction whose ask was cancelled */
+  uint64_t cancelled;     /* atomic: the age of the transaction whose ask is to end as cancelled before it waits again */
   void *word;
   uint64_t age;           /* of its transaction */
   struct timespec until;
@@ -1085,8 +1086,9 @@ static bs_status group_copy_own(bs_table_group *group, group_slot *own, bs_txn m
 
 /* Before an ask in a table, whose latch is held: notes where it waits, and answers whether it was cancelled. */
 static bool group_is_cancelled(const group_table *t, group_ask *ask) {
+  uint64_t age = ask->own->age;
   ask->at = t;
-  return __atomic_load_n(&ask->cancelled, __ATOMIC_RELAXED) == ask->own->age;
+  return __atomic_compare_exchange_n(&ask->cancelled, &age, 0, false, __ATOMIC_RELAXED, __ATOMIC_RELAXED);
 }
 
 /* Asks for a node of a table. */
@@ -1470,11 +1472,30 @@ bs_reply bs_group_renew(bs_table_group *group, bs_txn txn, uint64_t since) {
   return group_only(status);
 }
 
-/* Cancels the wait of a transaction. An ask that waits in no table at this moment goes on from one to another. */
+static inline bool group_asks(const group_slot *own) {
+  return (__atomic_load_n(&own->barred, __ATOMIC_ACQUIRE) & GROUP_WAITS) != 0;
+}
+
+/* Has the ask of a transaction of this age end before it waits again. The later transactions of a slot have the greater
+ * ages: so a cancel that comes late takes no later one's place. */
+static void group_cancel_ask(group_ask *ask, uint64_t age) {
+  uint64_t *at = &ask->cancelled, was = __atomic_load_n(at, __ATOMIC_RELAXED);
+  while (was < age && !__atomic_compare_exchange_n(at, &was, age, false, __ATOMIC_RELAXED, __ATOMIC_RELAXED)) continue;
+}
+
+/* Whether the ask of a transaction, which was found in no table, ends by its cancel: it was between two tables. Else the
+ * cancel is taken back. */
+static bool group_ends_by_cancel(group_slot *own, uint64_t age) {
+  uint64_t was = age;
+  if (__atomic_load_n(&own->ask->cancelled, __ATOMIC_RELAXED) != age || group_asks(own)) return true;
+  return !__atomic_compare_exchange_n(&own->ask->cancelled, &was, 0, false, __ATOMIC_RELAXED, __ATOMIC_RELAXED);
+}
+
+/* Cancels the wait of a transaction. */
 static bs_status group_cancel_wait(bs_table_group *group, group_slot *own, uint64_t age) {
-  bool asks = (__atomic_load_n(&own->barred, __ATOMIC_ACQUIRE) & GROUP_WAITS) != 0;
+  bool asks = group_asks(own);
   uint32_t number;
-  if (asks) __atomic_store_n(&own->ask->cancelled, age, __ATOMIC_RELAXED);
+  if (asks) group_cancel_ask(own->ask, age);
   for (number = 0; number <= group->parts; number++) {
     const group_table *t = &group->tables[number];
     bool found;
@@ -1484,8 +1505,7 @@ static bs_status group_cancel_wait(bs_table_group *group, group_slot *own, uint6
     bs_inside_release(t->table);
     if (found) return BS_DONE;
   }
-  asks = asks && (__atomic_load_n(&own->barred, __ATOMIC_ACQUIRE) & GROUP_WAITS) != 0;
-  return asks ? BS_DONE : BS_NOT_WAITING;
+  return asks && group_ends_by_cancel(own, age) ? BS_DONE : BS_NOT_WAITING;
 }
 
 bs_reply bs_group_cancel(bs_table_group *group, bs_txn txn) {
@@ -1500,7 +1520,7 @@ bs_reply bs_group_cancel(bs_table_group *group, bs_txn txn) {
  * callback it may be this thread. */
 static GROUP_APART bs_status group_end_wait(bs_table_group *group, group_slot *own) {
   bs_status status = group_cancel_wait(group, own, own->age);
-  while ((__atomic_load_n(&own->barred, __ATOMIC_ACQUIRE) & GROUP_WAITS) != 0) {
+  while (group_asks(own)) {
     if (!bs_call_may_sleep()) return BS_TXN_WAITING;
     sched_yield();
   }
@@ -2560,9 +2580,9 @@ size_t bs_group_try_first(bs_table_group *group, bs_command *commands, size_t co
   return place;
 }
 
-/* The time that is so many nanoseconds from now. */
+/* The time that is so many nanoseconds from now, or the last one that there is. */
 static struct timespec group_ahead(uint64_t nanoseconds) {
-  uint64_t time = bs_call_now() + nanoseconds;
+  uint64_t now = bs_call_now(), time = nanoseconds < INT64_MAX - now ? now + nanoseconds : INT64_MAX;
   struct timespec until;
   until.tv_sec = (time_t)(time / 1000000000u);
   until.tv_nsec = (long)(time % 1000000000u);
@@ -2611,14 +2631,14 @@ static bs_reply group_await_end(group_ask *ask, const struct timespec *until) {
 bs_reply bs_group_await(bs_table_group *group, bs_txn txn, const struct timespec *until) {
   bs_status status = group != NULL && !bs_inside_is_time(until) ? BS_BAD_NUMBER : group_shut_to_sleep(group);
   group_slot *own;
+  bool is_limited;
   if (status != BS_DONE) return group_only(status);
   own = group_named(group, txn);
   if (own == NULL) return group_only(BS_NO_SUCH_TXN);
   if (own->ask == NULL || !own->ask->is_list || own->ask->age != txn.age) return group_only(BS_NOT_WAITING);
-  if ((__atomic_load_n(&own->barred, __ATOMIC_ACQUIRE) & GROUP_WAITS) == 0 && !own->ask->has_ended) {
-    return group_only(BS_NOT_WAITING);
-  }
-  return group_await_end(own->ask, until);
+  if (!group_asks(own) && !own->ask->has_ended) return group_only(BS_NOT_WAITING);
+  is_limited = own->has_deadline && (until == NULL || group_is_before(&own->deadline, until));
+  return group_await_end(own->ask, is_limited ? &own->deadline : until);
 }
 
 bs_reply bs_inside_lives(bs_table_group *group, bs_txn txn) {

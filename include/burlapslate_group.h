@@ -172,7 +172,8 @@ bs_reply bs_group_renew(bs_table_group *group, bs_txn txn, uint64_t since);
 
 /* Cancels the wait of a transaction, of any thread: its call or ask ends with BS_NOT_WAITING. The answer is
  * BS_NOT_WAITING if it waits in no table. A thread that sleeps for a path may be between two tables, and is not found
- * then; an ask is. Costs the latch of each table up to that where it waits. */
+ * then; an ask is. An ask whose end is told at this moment may be answered BS_DONE. Costs the latch of each table up to
+ * that where it waits. */
 bs_reply bs_group_cancel(bs_table_group *group, bs_txn txn);
 
 /* From now on a commit keeps, in each part that its transaction has joined, the first locks there that are intentions
@@ -281,7 +282,7 @@ size_t bs_group_run(bs_table_group *group, bs_command *commands, size_t count);
 
 /* Sleeps until the end of the lock that a list of the transaction has left waiting, and answers it; after that it answers
  * the same up to the transaction's next list or ask. After BS_DONE run the list again from the next command on.
- * BS_TIMED_OUT: the time came first, and the wait was cancelled. BS_NOT_WAITING: no list has left it waiting. */
+ * BS_TIMED_OUT: the time or the transaction's deadline came first, and the wait was cancelled. BS_NOT_WAITING: no list has left it waiting. */
 bs_reply bs_group_await(bs_table_group *group, bs_txn txn, const struct timespec *until);
 
 /* As bs_table_try_first, with each try a critical section of its own. */

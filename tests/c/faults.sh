@@ -425,7 +425,9 @@ group-asks-forget-who-fell	/ group_ask_ended(/,/^}/s/^  if (end.status == BS_VIC
 group-asks-tell-names-of-parts	/ group_ask_goes_on(/,/^}/s/return group_ended_at(ask->at, end)/return end/
 group-asks-have-names-of-parts	/ group_ask_ended(/,/^}/s/^  txn.age = ask->age;//
 group-asks-forget-keys	/ group_copy_keys(/,/^}/s/^  if (count > 0) memcpy.*//
-group-cancels-miss-who-goes-on	/ group_cancel_wait(/,/^}/s/^  if (asks) __atomic_store_n(.*//
+group-cancels-miss-who-goes-on	/ group_cancel_wait(/,/^}/s/^  if (asks) group_cancel_ask(.*//
+group-cancels-take-a-later-one-s-place	/ group_cancel_ask(/,/^}/s/was < age/was != age/
+group-awaits-past-a-deadline	/^bs_reply bs_group_await(/,/^}/s/^  is_limited = .*/  is_limited = false;/
 group-cancels-forever	/ group_write_ask(/,/^}/s/^  __atomic_store_n(&ask->cancelled, 0, .*//
 group-cancels-others	/ group_cancel_wait(/,/^}/s/__atomic_load_n(&own->age, __ATOMIC_RELAXED) == age \&\&/number != 1 \&\&/
 group-aborts-spin-in-a-callback	/ group_end_wait(/,/^}/s/^    if (!bs_call_may_sleep()) .*//

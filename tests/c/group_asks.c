@@ -369,6 +369,7 @@ static void a_thread_watches(void) {
   bs_txn one = begun(), other = DONE(bs_group_begin_again(group, one.age + 1)).txn;
   ANSWERS(BS_NULL_POINTER, bs_group_watch_thread(NULL, 1));
   listen();
+  WANT(group_ahead(UINT64_MAX).tv_sec == INT64_MAX / 1000000000);
   DONE(bs_group_watch_thread(group, 1000000));
   ANSWERS(BS_IN_USE, bs_group_watch_thread(group, 1000000));
   DONE(lock_path(one, records[1][0], BS_X));
@@ -407,6 +408,10 @@ static void sleepers_end_cycles_of_asks(void) {
   commit(last);
 }
 
+static bs_reply index_records(bs_txn txn, bs_node area, const uint64_t *keys) {
+  return bs_group_index_records(group, txn, &area, 1, files[1], NULL, 0, records[1], keys, RECORDS);
+}
+
 static void new_indexes_end_asks(void) {
   const uint64_t keys[RECORDS] = { 1, 2, 3, 4 };
   bs_txn schema = begun(), row = begun(), record = begun(), strong = begun();
@@ -423,8 +428,8 @@ static void new_indexes_end_asks(void) {
   waits_for(ask(record, records[1][0], BS_X), record, files[1]);
   DONE(lock_path(strong, areas[2], BS_S));
   /* The transaction of the schema needs an intention on the area, which another reads: so it makes the index elsewhere. */
-  ANSWERS(BS_WOULD_BLOCK, bs_group_index_records(group, schema, &areas[2], 1, files[1], NULL, 0, records[1], keys, RECORDS));
-  DONE(bs_group_index_records(group, schema, &areas[0], 1, files[1], NULL, 0, records[1], keys, RECORDS));
+  ANSWERS(BS_WOULD_BLOCK, index_records(schema, areas[2], keys));
+  DONE(index_records(schema, areas[0], keys));
   tells_nobody();
   commit(schema);
   tells(record, BS_DONE);
@@ -515,10 +520,28 @@ static void asks_are_cancelled_between_tables(void) {
   commit(strong);
   WANT(heard() == 2 && told[0].end.status == BS_DONE && told[1].end.status == BS_NOT_WAITING);
   WANT(told[1].txn.slot == callback_other.slot && held_in(group, 2, callback_other, records[2][0]) == BS_NL);
+  WANT(group_slot_at(group, callback_other.slot)->ask->cancelled == 0);
   told_does = NULL;
   DONE(ask(callback_other, records[2][0], BS_S));
   commit(one);
   commit(callback_other);
+}
+
+/* A cancel of a transaction that has ended takes no later one's place. */
+static void late_cancels_change_nothing(void) {
+  bs_txn holder = begun(), txn = begun();
+  group_ask *asked;
+  listen();
+  DONE(lock_path(holder, records[1][0], BS_X));
+  waits_for(ask(txn, records[1][0], BS_S), txn, records[1][0]);
+  asked = group_slot_at(group, txn.slot)->ask;
+  group_cancel_ask(asked, txn.age);
+  group_cancel_ask(asked, txn.age - 1);
+  WANT(asked->cancelled == txn.age);
+  commit(holder);
+  tells(txn, BS_DONE);
+  ANSWERS(BS_NOT_WAITING, bs_group_cancel(group, txn));
+  commit(txn);
 }
 
 static void refused_memory_asks_for_nothing(void) {
@@ -591,6 +614,10 @@ static void lists_wait(void) {
   reply.status = bs_group_run(group, list + 1, 2) == 0 ? list[1].reply.status : BS_DONE;
   ANSWERS(BS_TXN_WAITING, reply);
   ANSWERS(BS_TIMED_OUT, bs_group_await(group, txn, &at_once));
+  DONE(bs_group_deadline(group, txn, &at_once));
+  WANT(bs_group_run(group, list + 1, 2) == 0);
+  ANSWERS(BS_TIMED_OUT, bs_group_await(group, txn, NULL));
+  DONE(bs_group_deadline(group, txn, NULL));
   WANT(bs_group_run(group, list + 1, 2) == 0);
   waits_for(list[1].reply, txn, records[1][0]);
   commit(holder);
@@ -822,12 +849,13 @@ static const struct {
 } stories[] = {
   STORY(wrong_asks_are_refused), STORY(what_can_be_had_is_answered), STORY(ends_are_told),
   STORY(asks_go_on_from_table_to_table), STORY(asks_find_the_part_of_a_row), STORY(asks_are_visited),
-  STORY(strong_asks_stay_in_progress), STORY(times_are_noticed), STORY(the_earliest_time_is_next), STORY(deadlines_hold_in_each_table),
-  STORY(sleepers_are_cancelled), STORY(cycles_of_asks_end), STORY(a_thread_watches),
-  STORY(sleepers_end_cycles_of_asks), STORY(new_indexes_end_asks), STORY(callbacks_call),
+  STORY(strong_asks_stay_in_progress), STORY(times_are_noticed), STORY(the_earliest_time_is_next),
+  STORY(deadlines_hold_in_each_table), STORY(sleepers_are_cancelled), STORY(cycles_of_asks_end),
+  STORY(a_thread_watches), STORY(sleepers_end_cycles_of_asks), STORY(new_indexes_end_asks), STORY(callbacks_call),
   STORY(victims_are_told_before_a_part_is_entered), STORY(asks_are_cancelled_between_tables),
-  STORY(refused_memory_asks_for_nothing), STORY(lists_are_made_in_order), STORY(lists_wait), STORY(awaits_are_woken),
-  STORY(cycles_of_lists_end), STORY(the_first_is_acquired), STORY(transactions_are_renewed),
+  STORY(late_cancels_change_nothing), STORY(refused_memory_asks_for_nothing), STORY(lists_are_made_in_order),
+  STORY(lists_wait), STORY(awaits_are_woken), STORY(cycles_of_lists_end), STORY(the_first_is_acquired),
+  STORY(transactions_are_renewed),
   { "begins_are_served_in_order", begins_are_served_in_order, 2 }, { "no_turn_is_lost", no_turn_is_lost, 2 },
 };
 
