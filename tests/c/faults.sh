@@ -242,8 +242,8 @@ trace-writes-long-lines	s/line->head.is_too_long || trace->length - start > TRAC
 trace-keeps-its-memory	/^static void trace_free(/,/^}/s/^  free(trace->ring);//
 instant-stays-held-at-once	s/  if (is_instant \&\& reply.status == BS_DONE) table_give_back_at_once(.*//
 wait-is-not-registered	/ table_register(bs_table/,/^}/s/^  table_enlist(table, request, wait, waiter);//
-lock-wakes-before-it-registers	/ table_lock_by(/,/^}/{/^    table_register(/d;s/^  table_wake(table, .*/&\n  if (reply.status == BS_WAITING) { table_request request = table_request_of(TABLE_NODE, txn, node, mode, is_instant); table_wait wait = { node, mode }; table_register(table, \&request, wait, waiter); }/}
-path-wakes-before-it-registers	/ table_path_by(/,/^}/{/^    table_register(/d;s/^  table_wake(table, .*/&\n  if (reply.status == BS_WAITING) { table_request request = table_request_of(TABLE_PATH, txn, node, mode, is_instant); table_wait wait = { reply.node, reply.mode }; table_register(table, \&request, wait, waiter); }/}
+lock-wakes-before-it-registers	/ table_lock_by(/,/^}/{/^    table_register(/d;s/^  table_wake(table, .*/&\n  if (reply.status == BS_WAITING) { table_request request = table_request_of(TABLE_NODE, txn, node, mode, is_instant); table_wait wait = { node, mode }; table_register(table, \&request, wait, waiter, told); }/}
+path-wakes-before-it-registers	/ table_path_by(/,/^}/{/^    table_register(/d;s/^  table_wake(table, .*/&\n  if (reply.status == BS_WAITING) { table_request request = table_request_of(TABLE_PATH, txn, node, mode, is_instant); table_wait wait = { reply.node, reply.mode }; table_register(table, \&request, wait, waiter, told); }/}
 path-asks-for-its-mode-too-late	/ table_path_by(/,/^}/s/wait.mode = bs_call_doing(&table->manager, txn).mode;/wait.mode = BS_IS;/
 wait-that-begins-is-not-noted	/^static void table_note_wait(/,/^}/s/^  bs_call_wait_began(.*//
 instant-that-came-is-the-next-wait	/^static void table_note_wait(/,/^}/s/^  table->instants.*//
@@ -293,7 +293,7 @@ end-forgets-the-second-word	/^static void table_end_waits(/,/^}/s/slot < BS_SLOT
 an-ask-is-answered-waiting	s/  if (waits \&\& own->waiter.has_ended) reply = own->waiter.end;/  if (false) return reply;/
 asked-path-answers-where-it-was	s/^  else if (waits \&\& reply.node.birth != 0) .*//
 ask-tells-after-it-has-left	s/^  if (waits \&\& !own->waiter.has_ended \&\& table->is_due) table_ask_and_tell(table);//
-ask-stays-in-its-call	/^static bs_reply table_leave_asked(/,/^}/s/^  own->is_inside = false;//
+ask-stays-in-its-call	/^static bs_reply table_asked_now(/,/^}/s/^  own->is_inside = false;//
 list-does-not-settle	/ table_made_waiting(/,/^}/s/^  if (own->has_ended) return/  if (false) return/
 list-s-wait-keeps-its-waiter	/ table_leave_waiting(/,/^}/s/^    bs_call_withdraw_waiter(.*//
 row-path-does-not-climb	s/  if (reply.status != BS_NEED_PARENTS || request->kind != TABLE_ROW_PATH) return reply;/  return reply;/
@@ -323,7 +323,7 @@ second-thread-watches	s/^  if (table->is_watched) return table_leave(table, bs_c
 traced-row-path-gets-no-node	/ trace_say_row_next(/,/^}/s/  bs_reply before = .*/  bs_reply before = bs_call_only(BS_DONE);/
 traced-row-path-is-unsaid	s/^    trace_say_row_next(trace, next, reply, told);//
 list-path-stops-on-the-way	/ table_path_made(/,/^}/s/  reply = table_path_through(/  reply = table_path_now(/
-list-path-says-not-how-it-waits	/ table_made_waiting(/,/^}/s/ : wait.mode;/ : BS_NL;/
+list-path-says-not-how-it-waits	/ table_made_waiting(/,/^}/s/^  reply.mode = wait.mode;//
 trace-goes-on-unsaid	/^bs_reply bs_traced_call_go_on(/,/^}/s/^    trace_say_steps(.*//
 trace-goes-on-by-one-lock	/^bs_reply bs_traced_call_go_on(/,/^}/s/next.txn, (size_t)made, /next.txn, 1, /
 trace-gives-back-unsaid	/^bs_reply bs_traced_call_go_on(/,/^}/s/^    trace_say(trace, &line, done, told);//
