@@ -418,7 +418,7 @@ fn a_row_is_waited_for() {
     assert_eq!(bell.rung(), 2);
 }
 
-/// Dropped while it waits, it waits no more, and who stood behind it is granted.
+/// A future that is dropped while it waits cancels the wait, and the waiter after it is granted.
 #[test]
 fn a_future_is_dropped_while_it_waits() {
     let store = Store::new(Detect::AtBlock);

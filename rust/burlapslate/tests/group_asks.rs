@@ -325,7 +325,7 @@ fn is_usable(w: &World, mut session: GroupSession<'_>, record: Node, held: Mode)
     session.commit().unwrap();
 }
 
-/// Dropped while it waits, it waits no more, and who stood behind it is granted.
+/// A future that is dropped while it waits cancels the wait, and the waiter after it is granted.
 #[test]
 fn a_future_is_dropped_while_it_waits() {
     let w = World::new();
@@ -907,7 +907,7 @@ fn deadlines_hold_in_each_table() {
     session.commit().unwrap();
 }
 
-/// Who has a clock ends the waits of tasks whose time is over, and learns the next time.
+/// A thread that has a clock ends the waits of tasks whose time is over, and is answered the next time.
 #[test]
 fn times_are_noticed() {
     let w = World::new();
@@ -1050,7 +1050,7 @@ fn a_deadlock_of_tasks_is_ended_by_an_expiry() {
     });
 }
 
-/// Whoever watches waits until the end of the watch; the group has one thread for that.
+/// The thread that watches returns at the end of the watch; a group has one such thread.
 #[test]
 fn a_deadlock_of_tasks_is_ended_by_a_watch() {
     cross(|w, bell| {

@@ -637,7 +637,7 @@ fn all_memory_of_a_group_comes_back() {
     }
 }
 
-/// Makes a call again as long as it is refused for want of memory, each time with more.
+/// Repeats a call with one allocation more each time, as long as it is refused because there is no memory.
 #[cfg(target_pointer_width = "64")]
 fn again<T, E: PartialEq + Debug>(refused: E, mut call: impl FnMut() -> Result<T, E>) -> T {
     for n in 1.. {

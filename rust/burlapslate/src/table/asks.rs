@@ -44,7 +44,7 @@ impl<'k> Sought<'k> {
     }
 }
 
-/// Who asks for locks: a transaction of a table or of a group.
+/// A transaction of a table or of a group, which asks for locks.
 pub(crate) trait Asks: Unpin {
     /// What it asks for.
     type Sought<'k>: Copy + Unpin;
