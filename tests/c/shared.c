@@ -3492,6 +3492,33 @@ static void a_thread_watches_and_rests(void) {
   a_thread_watches(1000000);
 }
 
+/* A path that goes on to another wait closes a cycle by that, long after the last lock was left waiting: the thread that
+ * watches is told of it. */
+static void a_wait_that_goes_on_is_watched(void) {
+  struct requester one, other;
+  bs_node beside;
+  bs_txn a, b, holder;
+  int i;
+  set_up(BS_BY_WATCHER);
+  DONE(bs_table_watch_thread(table, 0));
+  beside = DONE(bs_table_add_file(table, &root, 1)).node;
+  a = begin();
+  b = begin();
+  holder = begin();
+  DONE(bs_table_lock_path(table, a, beside, BS_X, NULL));
+  DONE(bs_table_lock_path(table, b, low, BS_S, NULL));
+  DONE(bs_table_lock_path(table, holder, file, BS_S, NULL));
+  send_by_path(&other, b, beside, BS_S);
+  send_by_path(&one, a, low, BS_X);
+  for (i = 0; i < 400; i++) nap();
+  DONE(bs_table_commit(table, holder, NULL));
+  back(&other, BS_VICTIM);
+  DONE(bs_table_abort(table, b, NULL));
+  back(&one, BS_DONE);
+  DONE(bs_table_commit(table, a, NULL));
+  close_table();
+}
+
 /* It does not delay the end of the table, however long it rests. */
 static void a_thread_rests_long(void) {
   struct requester one;
@@ -4256,6 +4283,7 @@ int main(int count, char **words) {
   TELL(a_thread_rests_long);
   TELL(a_thread_watches_without_signals);
   TELL(a_thread_watches_without_memory);
+  TELL(a_wait_that_goes_on_is_watched);
   TELL(a_thread_ends_all_it_sees);
   TELL(listings);
   TELL(a_dump);
