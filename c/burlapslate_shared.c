@@ -139,7 +139,8 @@ struct bs_table {
                                    * thread watched then: the first board of one that starts later has all waits */
   bs_slots to_wake;               /* the slots whose sleepers must be woken after this hold */
   bs_table *held_before;          /* if bs_table_hold holds this one: what its holder held before */
-  uint32_t looks;                 /* how often a thread that finds the latch held retries before it sleeps */
+  uint32_t looks, pauses;         /* how often a thread that finds the latch held retries before it sleeps, and how often
+                                   * it pauses before each retry */
   pthread_cond_t ended[BS_SLOTS]; /* by slot: a wait is over */
   table_waiter *waiters[BS_SLOTS]; /* by slot: who awaits its end */
   table_deadline deadlines[BS_SLOTS]; /* by slot: of the transaction of this age, and of no later one */
@@ -236,8 +237,9 @@ static inline bs_reply table_make_begin(bs_table *table) {
 /* A thread that finds the latch held retries so often before it sleeps, and pauses so many times before each retry. A
  * hold is mostly over by the first retry, and to sleep and be woken takes longer than all. With more retries each would
  * get the latch sooner, but all together would do less: between two retries a thread makes several calls, and what they
- * write stays in its own cache. With one processor no thread releases the latch meanwhile, and none retries. */
-enum { TABLE_LOOKS = 10, TABLE_PAUSES = 400 };
+ * write stays in its own cache. With one processor no thread releases the latch meanwhile, and none retries. A thread of a
+ * group uses several parts, and so finds them in other caches in any case: there it pauses for a shorter time. */
+enum { TABLE_LOOKS = 10, TABLE_PAUSES = 400, TABLE_PAUSES_IN_GROUP = 20 };
 
 static inline void table_pause(void) {
 #if defined(__x86_64__)
@@ -248,7 +250,7 @@ static inline void table_pause(void) {
 static TABLE_APART void table_take_held(bs_table *table) {
   uint32_t look, pause;
   for (look = 0; look < table->looks; look++) {
-    for (pause = 0; pause < TABLE_PAUSES; pause++) table_pause();
+    for (pause = 0; pause < table->pauses; pause++) table_pause();
     if (pthread_mutex_trylock(&table->latch) == 0) return;
   }
   pthread_mutex_lock(&table->latch);
@@ -887,6 +889,7 @@ static bs_table *table_new_table(void) {
   memset(table, 0, sizeof *table);
   pthread_mutex_init(&table->latch, NULL);
   table->looks = sysconf(_SC_NPROCESSORS_ONLN) > 1 ? TABLE_LOOKS : 0;
+  table->pauses = TABLE_PAUSES;
   for (slot = 0; slot < BS_SLOTS; slot++) bs_call_make_steady(&table->ended[slot]);
   bs_call_make_steady(&table->left);
   bs_call_make_steady(&table->began);
@@ -2606,6 +2609,8 @@ bs_manager *bs_inside_manager(bs_table *table) {
 void bs_inside_look_by(bs_table *table, bs_inside_look *look, void *context) {
   table->look = look;
   table->look_context = context;
+  table->looks *= TABLE_PAUSES / TABLE_PAUSES_IN_GROUP;
+  table->pauses = TABLE_PAUSES_IN_GROUP;
 }
 
 bool bs_inside_sleeps(const bs_table *table, uint32_t slot) {
