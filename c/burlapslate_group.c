@@ -1121,6 +1121,11 @@ static bs_status group_way_by_main(group_way *way) {
   return status;
 }
 
+/* Whether the transaction of a request that has joined the main table has not ended: a callback may have ended it. */
+static bool group_still_lives(const group_way *way) {
+  return bs_living(way->group->tables[0].manager, way->own->number).txn.age == way->main_txn.age;
+}
+
 /* Acquires all that a request lacks in the main table. If that is done, the part's latch is held, and it lacks nothing;
  * else no latch is. The part may get marks while the main table's latch is free. What the main table has to tell is told
  * before the part's latch is acquired, since callbacks may acquire any latch. */
@@ -1143,6 +1148,7 @@ static GROUP_APART bs_reply group_reach_by_main(group_way *way) {
     bs_inside_release(way->part->table);
     reply = lacks.status == BS_DONE ? group_acquire(way, lacks) : lacks;
     bs_inside_tell(main->table);
+    if (reply.status == BS_DONE && !group_still_lives(way)) reply.status = BS_NO_SUCH_TXN;
   }
   if (reply.status == BS_VICTIM) group_falls(way->own);
   return group_leave(main, reply);

@@ -441,6 +441,7 @@ group-expires-without-a-look	/^bs_reply bs_group_expire(/,/^}/s/^  if (all.statu
 group-expires-to-the-last-time	/^bs_reply bs_group_expire(/,/^}/s/(all.count == 0 || group_is_before(&time, &earliest))/true/
 group-tells-with-latches	/ group_settle_all(/,/^}/s/^  bs_inside_keep_ends(&ends);/  ends.first = NULL;/
 group-tells-with-the-latch-of-a-part	/ group_reach_by_main(/,/^}/s/^    bs_inside_tell(main->table);//
+group-goes-on-for-who-has-ended	/ group_still_lives(/,/^}/s/^  return .*/  return way != NULL;/
 group-sees-no-asks	/^bool bs_inside_any_waits(/,/^}/s/return any != 0;/return any != 0 \&\& table->sleepers > 0;/
 group-lists-bar-their-transaction	/ group_end_list(/,/^}/s/^  __atomic_fetch_and(.*//
 group-awaits-without-a-look	/ group_doze(/,/^}/s/^    group_look_again(.*//

@@ -504,6 +504,35 @@ static void victims_are_told_before_a_part_is_entered(void) {
   commit(callback_other);
 }
 
+/* The callback ends the transaction whose call tells it, and the marks for which that looks: the call is answered so, and
+ * acquires nothing for a slot that is free. */
+static bs_txn callback_caller, callback_holder;
+
+static void end_caller_in_callback(bs_txn txn) {
+  if (txn.slot == callback_holder.slot) {
+    DONE(bs_group_commit(group, txn));
+    return;
+  }
+  DONE(bs_group_abort(group, txn));
+  DONE(bs_group_abort(group, callback_caller));
+}
+
+static void callers_are_ended_by_callbacks(void) {
+  bs_txn victim;
+  callback_caller = DONE(bs_group_begin_again(group, 0)).txn;
+  callback_holder = DONE(bs_group_begin_again(group, 1)).txn;
+  victim = begun();
+  listen();
+  DONE(lock_path(callback_holder, areas[1], BS_S));
+  DONE(lock_path(callback_caller, areas[2], BS_X));
+  waits_for(ask(victim, areas[1], BS_X), victim, areas[1]);
+  waits_for(ask(callback_holder, areas[2], BS_S), callback_holder, areas[2]);
+  told_does = end_caller_in_callback;
+  ANSWERS(BS_NO_SUCH_TXN, lock_path(callback_caller, records[2][0], BS_S));
+  WANT(heard() == 2);
+  want_rest(group);
+}
+
 /* The second waits in no table by then: it is on its way from the main table to its part. */
 static void cancel_in_callback(bs_txn txn) {
   if (txn.slot == callback_other.slot) return;
@@ -852,7 +881,8 @@ static const struct {
   STORY(strong_asks_stay_in_progress), STORY(times_are_noticed), STORY(the_earliest_time_is_next),
   STORY(deadlines_hold_in_each_table), STORY(sleepers_are_cancelled), STORY(cycles_of_asks_end),
   STORY(a_thread_watches), STORY(sleepers_end_cycles_of_asks), STORY(new_indexes_end_asks), STORY(callbacks_call),
-  STORY(victims_are_told_before_a_part_is_entered), STORY(asks_are_cancelled_between_tables),
+  STORY(victims_are_told_before_a_part_is_entered),
+  STORY(callers_are_ended_by_callbacks), STORY(asks_are_cancelled_between_tables),
   STORY(late_cancels_change_nothing), STORY(refused_memory_asks_for_nothing), STORY(lists_are_made_in_order),
   STORY(lists_wait), STORY(awaits_are_woken), STORY(cycles_of_lists_end), STORY(the_first_is_acquired),
   STORY(transactions_are_renewed),
