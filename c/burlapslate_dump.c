@@ -19,12 +19,18 @@ typedef struct dump_txn {
   uint64_t since;
 } dump_txn;
 
-/* What a dump has copied, a part at a time: from a manager that its caller holds, or from that of a table, whose latch
- * is held for each part. */
-typedef struct dump_copy {
+/* What is dumped: a manager that the caller holds, or that of a table. */
+typedef struct dump_source {
   const bs_manager *manager; /* null if it is a table's */
   bs_table *table;
   bs_call_namer namer;       /* the engine's own names of nodes */
+  bs_table_group *group;     /* null, or the table is that of a group by this number, and the names are of its nodes */
+  uint32_t number;
+} dump_source;
+
+/* What a dump has copied, a part at a time; the latch of a table is held for each part. */
+typedef struct dump_copy {
+  dump_source of;
   bs_counts counts; /* these are of one moment, with the last deadlock */
   uint64_t nodes, most;
   size_t txn_count;
@@ -45,11 +51,11 @@ typedef struct dump_copy {
 
 /* The manager, for a part; null if the table was ended. */
 static const bs_manager *dump_hold(dump_copy *copy) {
-  return copy->manager != NULL ? copy->manager : bs_table_hold(copy->table);
+  return copy->of.manager != NULL ? copy->of.manager : bs_table_hold(copy->of.table);
 }
 
 static void dump_let_go(dump_copy *copy) {
-  if (copy->manager == NULL) bs_table_let_go(copy->table);
+  if (copy->of.manager == NULL) bs_table_let_go(copy->of.table);
 }
 
 /* What a node is; 0: it is gone. */
@@ -130,11 +136,12 @@ static void dump_copy_queue(const bs_manager *m, dump_txn *of, dump_copy *copy) 
 }
 
 /* The engine's own name of a node, after a blank. */
-static void dump_put_name(const dump_copy *copy, bs_node node, FILE *out) {
+static void dump_put_name(const dump_source *of, bs_node node, FILE *out) {
   char text[DUMP_NAME];
   size_t i;
+  if (of->group != NULL) node = bs_group_name_of(of->group, node, of->number).node;
   text[0] = 0;
-  copy->namer.function(copy->namer.context, node, text, sizeof text);
+  of->namer.function(of->namer.context, node, text, sizeof text);
   text[sizeof text - 1] = 0;
   if (text[0] != 0) fputc(' ', out);
   for (i = 0; text[i] != 0; i++) fputc((unsigned char)text[i] < ' ' ? '?' : text[i], out);
@@ -144,7 +151,7 @@ static void dump_put_name(const dump_copy *copy, bs_node node, FILE *out) {
 static void dump_put_node(const dump_copy *copy, bs_node node, uint64_t kind, FILE *out) {
   fprintf(out, "%s %llu/%llu", kind == 0 ? "gone" : bs_kind_text(kind), (unsigned long long)node.key,
           (unsigned long long)node.birth);
-  if (copy->namer.function != NULL) dump_put_name(copy, node, out);
+  if (copy->of.namer.function != NULL) dump_put_name(&copy->of, node, out);
 }
 
 static void dump_put_slots(bs_slots slots, FILE *out) {
@@ -318,14 +325,12 @@ static bool dump_parts(dump_copy *copy, FILE *out) {
 }
 
 /* Holds off the thread's cancellation: to write may be a point of it, which would keep the copy and a lent latch. */
-static bs_reply dump_of(const bs_manager *held, bs_table *table, FILE *out) {
+static bs_reply dump_of(const dump_source *of, FILE *out) {
   dump_copy *copy = (dump_copy *)malloc(sizeof *copy);
   bool is_whole;
   int state;
   if (copy == NULL) return bs_call_only(BS_NO_MEMORY);
-  copy->manager = held;
-  copy->table = table;
-  copy->namer = bs_call_table_namer(table, held);
+  copy->of = *of;
   pthread_setcancelstate(PTHREAD_CANCEL_DISABLE, &state);
   is_whole = dump_parts(copy, out);
   pthread_setcancelstate(state, &state);
@@ -333,15 +338,23 @@ static bs_reply dump_of(const bs_manager *held, bs_table *table, FILE *out) {
   return bs_call_only(is_whole ? BS_DONE : BS_NO_MANAGER);
 }
 
-/* Dumps each table of one with parts, up to the first that refuses it. */
+/* Dumps a table or a manager that is not of a group. */
+static bs_reply dump_alone(const bs_manager *held, bs_table *table, FILE *out) {
+  dump_source of = { held, table, bs_call_table_namer(table, held), NULL, 0 };
+  return dump_of(&of, out);
+}
+
+/* Dumps each table of one with parts, up to the first that refuses it. The main table keeps the engine's names. */
 static bs_reply dump_of_group(bs_table_group *group, FILE *out) {
-  bs_table *table = bs_inside_table_of(group, 0);
+  bs_table *main = bs_inside_table_of(group, 0);
+  dump_source of = { NULL, main, bs_call_table_namer(main, NULL), group, 0 };
   bs_reply reply = bs_call_only(BS_DONE);
-  uint32_t number;
-  for (number = 0; table != NULL && reply.status == BS_DONE; table = bs_inside_table_of(group, ++number)) {
-    if (number == 0) fprintf(out, "Main table:\n");
-    else fprintf(out, "\nPart %u:\n", number);
-    reply = bs_table_dump(table, out);
+  while (of.table != NULL && reply.status == BS_DONE) {
+    if (of.number == 0) fprintf(out, "Main table:\n");
+    else fprintf(out, "\nPart %u:\n", of.number);
+    reply = bs_call_only(bs_call_table_shut(of.table));
+    if (reply.status == BS_DONE) reply = dump_of(&of, out);
+    of.table = bs_inside_table_of(group, ++of.number);
   }
   return reply;
 }
@@ -351,11 +364,11 @@ bs_reply bs_table_dump(bs_table *table, FILE *file) {
   bs_status shut = bs_call_table_shut(table);
   if (file == NULL) return bs_call_null();
   if (group != NULL) return dump_of_group(group, file);
-  return shut == BS_DONE ? dump_of(NULL, table, file) : bs_call_only(shut);
+  return shut == BS_DONE ? dump_alone(NULL, table, file) : bs_call_only(shut);
 }
 
 bs_reply bs_dump(const bs_manager *manager, FILE *file) {
   bs_reply asked = bs_len(manager);
   if (file == NULL) return bs_call_null();
-  return asked.status == BS_DONE ? dump_of(manager, NULL, file) : asked;
+  return asked.status == BS_DONE ? dump_alone(manager, NULL, file) : asked;
 }

@@ -138,7 +138,7 @@ typedef struct group_slot {
   bool has_deadline;           /* with the main table's latch, as the next: its waits end at a time */
   struct timespec deadline;    /* that time */
   group_kept *kept;            /* by part: what rests there */
-  struct group_ask *ask;       /* null before the slot's first ask */
+  struct group_ask *ask;       /* atomic; null before the slot's first ask */
   uint64_t *savepoints;        /* by rising numbers of locks, each with its numbers in all tables */
   uint32_t savepoint_count, savepoint_room;
   bs_target target;            /* what it requests in a part, by the part's names */
@@ -146,7 +146,7 @@ typedef struct group_slot {
 } group_slot;
 
 /* What a transaction has asked for, or a list has requested for it. It is used as the slot is, except that the end of
- * what a list requested is read and written with `latch`. */
+ * what a list requested, and who awaits that, are read and written with `latch`, as is `word`. */
 typedef struct group_ask {
   bs_table_group *group;
   group_slot *own;
@@ -165,17 +165,36 @@ typedef struct group_ask {
   size_t count, room;
   bool has_ended;         /* it is a list's, and came to this end */
   bs_reply end;
+  bool is_told;           /* it is a list's, whose end the callback is told, since it was asked for */
+  bool is_limited;        /* and whose wait ends at a time, if bs_group_expire is called then */
+  struct timespec limit;
   pthread_mutex_t latch;
   pthread_cond_t ended;
 } group_ask;
 
-/* The queue of begins that sleep for a slot: each locks `node` of a table in X, and who has the lock is the next. All but
- * the latch and the table's pointer are used with the latch, until the table is made. */
+/* A begin that was asked for, until it ends. What is written after it is in the list is used with the list's latch. */
+typedef struct group_asked_begin {
+  struct group_asked_begin *next, *before;
+  bs_table_group *group;
+  void *word;
+  uint64_t since;
+  struct timespec until;
+  bool has_time;
+  bool is_cancelled;
+  bs_txn turn;           /* its transaction in the table of turns; all zero before it has one */
+} group_asked_begin;
+
+/* The queue of begins that wait for a slot: each locks `node` of a table in X, and who has the lock is the next. If that
+ * was asked for, it waits for `gate`, which another transaction has, and a slot that is freed ends that wait. The table's
+ * pointer and the nodes are used with the latch until the table is made, and all else of it with the latch. */
 typedef struct group_turns {
   pthread_mutex_t latch;
-  pthread_cond_t freed;  /* a slot is free, or the group ends; or the last sleeper has left one that ends */
-  bs_table *table;       /* null before the first that sleeps */
-  bs_node node;
+  pthread_cond_t freed;  /* a slot is free, or the group ends; or the last that waits has left one that ends */
+  bs_table *table;       /* null before the first that waits */
+  bs_node node, gate;
+  bs_txn at_gate;        /* the transaction that waits there or is about to; all zero if there is none */
+  group_asked_begin *first, *last; /* the begins that were asked for */
+  uint64_t cancelled;    /* how many of these are cancelled */
 } group_turns;
 
 /* The thread that watches. All is used with the latch. */
@@ -194,7 +213,7 @@ struct bs_table_group {
   uint32_t parts, most;     /* how many parts there are, and slots */
   uint32_t stage;           /* atomic, of enum group_stage */
   uint32_t most_kept;       /* atomic: how many intentions a commit keeps at most */
-  uint64_t queued;          /* atomic: how many begins sleep for a slot */
+  uint64_t queued;          /* atomic: how many begins wait for a slot */
   size_t stride;            /* from a slot to the next */
   unsigned char *slots;
   group_roll *roll;         /* atomic; null if there is no spread file. It is changed with all latches */
@@ -209,8 +228,7 @@ struct bs_table_group {
   group_watch watch;
   uint64_t ages __attribute__((aligned(GROUP_LINE)));   /* atomic: the next ages for a slot */
   uint64_t next_part;                                   /* atomic: for the next file by turns */
-  uint64_t spread __attribute__((aligned(GROUP_LINE))); /* atomic: how many transactions are in several tables */
-  uint64_t looked;                                      /* atomic: the time of the last look */
+  uint64_t looked __attribute__((aligned(GROUP_LINE))); /* atomic: the time of the last look */
   group_table tables[];
 };
 
@@ -514,7 +532,7 @@ static void group_end_tables(bs_table_group *group) {
   for (number = 0; number <= group->parts; number++) bs_table_end(group->tables[number].table);
 }
 
-/* Ends all begins that sleep for a slot of a group that ends. */
+/* Ends all begins that wait for a slot of a group that ends. */
 static void group_end_turns(bs_table_group *group) {
   group_turns *turns = &group->turns;
   pthread_mutex_lock(&turns->latch);
@@ -542,8 +560,9 @@ bs_reply bs_call_group_make(bs_table_group **group, const bs_options *options, s
   bs_table_group *made;
   bs_reply reply;
   if (*group != NULL) return group_only(BS_IN_USE);
-  if (parts == 0 || parts > BS_MOST_PARTS || chosen.detect != BS_AT_BLOCK) return group_only(BS_BAD_NUMBER);
+  if (parts == 0 || parts > BS_MOST_PARTS || chosen.detect > BS_BY_WATCHER) return group_only(BS_BAD_NUMBER);
   chosen.parts = 1;
+  chosen.detect = BS_AT_BLOCK;
   if (chosen.transactions > BS_SLOTS) return group_only(BS_BAD_NUMBER);
   made = group_new(parts, chosen.transactions);
   if (made == NULL) return group_only(BS_NO_MEMORY);
@@ -985,10 +1004,13 @@ static GROUP_APART void group_falls(group_slot *own) {
   __atomic_fetch_or(&own->barred, GROUP_FALLEN, __ATOMIC_RELAXED);
 }
 
-/* A transaction is in two tables. */
-static GROUP_APART void group_note_spread(bs_table_group *group, group_slot *own) {
-  if (__atomic_exchange_n(&own->is_spread, true, __ATOMIC_RELAXED)) return;
-  __atomic_fetch_add(&group->spread, 1, __ATOMIC_RELAXED);
+/* How many transactions are in two tables or more. Each slot says it of its own: a count would be written by all. */
+static uint32_t group_count_spread(const bs_table_group *group) {
+  uint32_t slot, count = 0;
+  for (slot = 0; slot < group->most; slot++) {
+    count += __atomic_load_n(&group_slot_at(group, slot)->is_spread, __ATOMIC_RELAXED);
+  }
+  return count;
 }
 
 /* Sets in a table, whose latch is held, when the waits of a transaction end. */
@@ -1015,7 +1037,7 @@ static bs_reply group_take_up(group_slot *own, group_table *t) {
 }
 
 /* Joins a part, whose latch is held, if the transaction has not done so, or takes up what rests for it there. */
-static inline bs_status group_join(bs_table_group *group, group_slot *own, group_table *t) {
+static inline bs_status group_join(group_slot *own, group_table *t) {
   bs_reply reply;
   if (own->in[t->number].age != 0) return BS_DONE;
   reply.status = BS_NO_PLACE;
@@ -1025,7 +1047,9 @@ static inline bs_status group_join(bs_table_group *group, group_slot *own, group
     if (reply.status != BS_DONE) return reply.status;
     own->kept[t->number].count = 0;
   }
-  if (own->used != 0 || __atomic_load_n(&own->is_in_main, __ATOMIC_RELAXED)) group_note_spread(group, own);
+  if (own->used != 0 || __atomic_load_n(&own->is_in_main, __ATOMIC_RELAXED)) {
+    __atomic_store_n(&own->is_spread, true, __ATOMIC_RELAXED);
+  }
   own->in[t->number] = reply.txn;
   own->used |= (uint64_t)1 << t->number;
   if (__builtin_expect(own->has_deadline, 0)) group_limit(own, t, reply.txn);
@@ -1041,7 +1065,7 @@ static bs_status group_join_main(bs_table_group *group, group_slot *own, bool is
     reply = bs_call_join(main->manager, own->number, own->since);
     if (reply.status != BS_DONE) return reply.status;
     __atomic_store_n(&own->is_in_main, true, __ATOMIC_RELAXED);
-    if (is_visitor || own->used != 0) group_note_spread(group, own);
+    if (is_visitor || own->used != 0) __atomic_store_n(&own->is_spread, true, __ATOMIC_RELAXED);
     if (own->has_deadline) group_limit(own, main, reply.txn);
   }
   *txn = reply.txn;
@@ -1169,7 +1193,7 @@ static inline bool group_reach(group_way *way, bs_reply *why) {
     if (why->status != BS_DONE) return false;
   }
   way->own->target = *way->target;
-  status = group_join(way->group, way->own, t);
+  status = group_join(way->own, t);
   if (status != BS_DONE) *why = group_leave(t, group_only(status));
   return status == BS_DONE;
 }
@@ -1430,10 +1454,7 @@ static bs_status group_end_in_all(bs_table_group *group, group_slot *own, bool c
     if (in_main != BS_DONE) status = in_main;
     __atomic_store_n(&own->is_in_main, false, __ATOMIC_RELAXED);
   }
-  if (__atomic_load_n(&own->is_spread, __ATOMIC_RELAXED)) {
-    __atomic_fetch_sub(&group->spread, 1, __ATOMIC_RELAXED);
-    __atomic_store_n(&own->is_spread, false, __ATOMIC_RELAXED);
-  }
+  __atomic_store_n(&own->is_spread, false, __ATOMIC_RELAXED);
   __atomic_store_n(&own->barred, 0, __ATOMIC_RELAXED);
   own->has_deadline = false;
   own->savepoint_count = 0;
@@ -1441,14 +1462,27 @@ static bs_status group_end_in_all(bs_table_group *group, group_slot *own, bool c
   return status;
 }
 
-/* A slot was freed: wakes the begin that is the next to have one. */
-static GROUP_APART void group_wake_turn(bs_table_group *group) {
-  pthread_mutex_lock(&group->turns.latch);
-  pthread_cond_broadcast(&group->turns.freed);
-  pthread_mutex_unlock(&group->turns.latch);
+/* Ends the wait at the gate of this transaction of the table of turns, if it waits there: it tries to begin again. */
+static void group_open_gate(const group_turns *turns, bs_txn at_gate) {
+  bs_inside_take(turns->table);
+  if (bs_living(bs_inside_manager(turns->table), at_gate.slot).txn.age == at_gate.age) {
+    bs_inside_end_sleep(turns->table, at_gate.slot, BS_MOVED);
+  }
+  bs_inside_release(turns->table);
 }
 
-/* Frees a slot. A begin that sleeps is counted before it looks for a free slot, and this looks for such a begin after it
+/* A slot was freed: wakes the begin that is the next to have one. */
+static GROUP_APART void group_wake_turn(bs_table_group *group) {
+  group_turns *turns = &group->turns;
+  bs_txn at_gate;
+  pthread_mutex_lock(&turns->latch);
+  at_gate = turns->at_gate;
+  pthread_cond_broadcast(&turns->freed);
+  pthread_mutex_unlock(&turns->latch);
+  if (at_gate.age != 0) group_open_gate(turns, at_gate);
+}
+
+/* Frees a slot. A begin that waits is counted before it looks for a free slot, and this looks for such a begin after it
  * has freed the slot: so one of them finds the other. */
 static inline void group_free_slot(bs_table_group *group, group_slot *own) {
   __atomic_store_n(&own->is_taken, false, __ATOMIC_SEQ_CST);
@@ -1777,7 +1811,7 @@ static bs_status group_enter(bs_table_group *group, bs_txn txn, bs_node node, bs
   if (status != BS_DONE) return status;
   call->table = call->at->table;
   if (!bs_inside_enter(call->table)) return BS_NO_MANAGER;
-  status = group_join(group, call->own, call->at);
+  status = group_join(call->own, call->at);
   if (status != BS_DONE) bs_inside_release(call->table);
   call->txn = call->own->in[call->at->number];
   return status;
@@ -2207,12 +2241,19 @@ static void group_settle_all(bs_table_group *group) {
   bs_inside_tell_ends(&ends);
 }
 
+bs_reply bs_group_settle(bs_table_group *group, bs_txn txn) {
+  bs_status status = group_shut(group);
+  if (status == BS_DONE && group_named(group, txn) == NULL) status = BS_NO_SUCH_TXN;
+  if (status == BS_DONE) group_settle_all(group);
+  return group_only(status);
+}
+
 /* A thread that sleeps in a table of the group looks for cycles over several tables: its own latch is held before and
  * after. If another has looked since it fell asleep, or since its own last look, that one has seen its wait. */
 static void group_look(void *context, bs_table *table, uint64_t since) {
   bs_table_group *group = (bs_table_group *)context;
-  if (__atomic_load_n(&group->spread, __ATOMIC_RELAXED) == 0) return;
   if (__atomic_load_n(&group->looked, __ATOMIC_RELAXED) > since) return;
+  if (group_count_spread(group) == 0) return;
   bs_inside_release(table);
   group_settle_all(group);
   bs_inside_take(table);
@@ -2246,7 +2287,7 @@ static group_ask *group_ask_of(bs_table_group *group, group_slot *own) {
   ask->own = own;
   pthread_mutex_init(&ask->latch, NULL);
   bs_call_make_steady(&ask->ended);
-  own->ask = ask;
+  __atomic_store_n(&own->ask, ask, __ATOMIC_RELEASE);
   return ask;
 }
 
@@ -2277,7 +2318,7 @@ static bs_status group_bad_ask(const bs_table_group *group, const bs_command *c,
 }
 
 /* Writes what a transaction asks for; false if memory is refused. */
-static bool group_write_ask(bs_table_group *group, group_slot *own, const bs_command *c, bool is_list) {
+static bool group_write_ask(bs_table_group *group, group_slot *own, const bs_command *c, void *word, bool is_list) {
   group_ask *ask = group_ask_of(group, own);
   if (ask == NULL || !group_copy_keys(ask, c->keys, group_is_of_row(c) ? c->key_count : 0)) return false;
   ask->age = own->age;
@@ -2289,8 +2330,10 @@ static bool group_write_ask(bs_table_group *group, group_slot *own, const bs_com
   ask->instant = c->mode & BS_INSTANT;
   ask->number = c->number;
   pthread_mutex_lock(&ask->latch);
+  ask->word = word;
   ask->is_list = is_list;
   ask->has_ended = false;
+  ask->is_told = false;
   pthread_mutex_unlock(&ask->latch);
   return true;
 }
@@ -2318,9 +2361,8 @@ static bs_reply group_ask_for(bs_table_group *group, bs_txn txn, const bs_comman
   group_slot *own;
   bs_reply reply;
   if (status == BS_DONE) status = group_finds(group, txn, &own);
-  if (status == BS_DONE && !group_write_ask(group, own, c, is_list)) status = BS_NO_MEMORY;
+  if (status == BS_DONE && !group_write_ask(group, own, c, word, is_list)) status = BS_NO_MEMORY;
   if (status != BS_DONE) return group_only(status);
-  own->ask->word = word;
   own->ask->has_time = until != NULL;
   if (until != NULL) own->ask->until = *until;
   __atomic_fetch_or(&own->barred, GROUP_WAITS, __ATOMIC_RELEASE);
@@ -2358,28 +2400,35 @@ static bs_reply group_ask_goes_on(group_ask *ask, bs_reply end) {
   return group_ended_at(ask->at, end);
 }
 
-/* Ends what a list left waiting: who awaits it is woken. */
+/* Ends what a list left waiting: who awaits it is woken. The latch is held. */
 static void group_end_list(group_ask *ask, bs_reply end) {
-  pthread_mutex_lock(&ask->latch);
   ask->end = end;
   ask->has_ended = true;
   __atomic_fetch_and(&ask->own->barred, ~(uint32_t)GROUP_WAITS, __ATOMIC_RELEASE);
   pthread_cond_broadcast(&ask->ended);
+}
+
+/* A wait has come to this end. Whether the callback is told it, with this word; else it is kept for who awaits it. */
+static bool group_is_told(group_ask *ask, bs_reply end, void **word) {
+  bool is_told;
+  pthread_mutex_lock(&ask->latch);
+  is_told = ask->is_told || !ask->is_list;
+  *word = ask->word;
+  if (!is_told) group_end_list(ask, end);
+  ask->is_told = false;
   pthread_mutex_unlock(&ask->latch);
+  return is_told;
 }
 
 /* The callback of each table: `word` is the ask. */
 static void group_ask_ended(void *context, bs_txn txn, bs_reply end, void *word) {
   bs_table_group *group = (bs_table_group *)context;
   group_ask *ask = (group_ask *)word;
-  void *own_word = ask->word;
+  void *own_word;
   end = group_ask_goes_on(ask, end);
   if (end.status == BS_WAITING) return;
   if (end.status == BS_VICTIM) group_falls(ask->own);
-  if (ask->is_list) {
-    group_end_list(ask, end);
-    return;
-  }
+  if (!group_is_told(ask, end, &own_word)) return;
   txn.age = ask->age;
   __atomic_fetch_and(&ask->own->barred, ~(uint32_t)GROUP_WAITS, __ATOMIC_RELEASE);
   __atomic_load_n(&group->on_end, __ATOMIC_ACQUIRE)(group->context, txn, end, own_word);
@@ -2408,9 +2457,46 @@ bs_reply bs_group_ask_row_path(bs_table_group *group, bs_txn txn, bs_node file, 
   return group_ask_and_tell(group, txn, &wanted, until, word);
 }
 
+/* Asks for the end of what a list left waiting, which has not ended. */
+static void group_ask_for_end(group_ask *ask, const struct timespec *until, void *word) {
+  ask->word = word;
+  ask->is_told = true;
+  ask->is_limited = until != NULL;
+  if (until != NULL) ask->limit = *until;
+}
+
+bs_reply bs_group_ask_await(bs_table_group *group, bs_txn txn, const struct timespec *until, void *word) {
+  bs_status status = group != NULL && !bs_inside_is_time(until) ? BS_BAD_NUMBER : group_shut(group);
+  bs_reply reply = group_only(status);
+  group_slot *own;
+  group_ask *ask;
+  if (status != BS_DONE) return reply;
+  if (__atomic_load_n(&group->on_end, __ATOMIC_ACQUIRE) == NULL) return bs_call_null();
+  own = group_named(group, txn);
+  if (own == NULL) return group_only(BS_NO_SUCH_TXN);
+  ask = own->ask;
+  if (ask == NULL || ask->age != txn.age) return group_only(BS_NOT_WAITING);
+  pthread_mutex_lock(&ask->latch);
+  if (ask->has_ended) reply = ask->end;
+  else if (!group_asks(own)) reply.status = BS_NOT_WAITING;
+  else reply.status = ask->is_list && !ask->is_told ? BS_WAITING : BS_IN_USE;
+  if (reply.status == BS_WAITING) group_ask_for_end(ask, until, word);
+  pthread_mutex_unlock(&ask->latch);
+  return reply;
+}
+
 /* Whether one time is before another. */
 static bool group_is_before(const struct timespec *one, const struct timespec *other) {
   return one->tv_sec < other->tv_sec || (one->tv_sec == other->tv_sec && one->tv_nsec < other->tv_nsec);
+}
+
+/* The time that is so many nanoseconds from now, or the last one that there is. */
+static struct timespec group_ahead(uint64_t nanoseconds) {
+  uint64_t now = bs_call_now(), time = nanoseconds < INT64_MAX - now ? now + nanoseconds : INT64_MAX;
+  struct timespec until;
+  until.tv_sec = (time_t)(time / 1000000000u);
+  until.tv_nsec = (long)(time % 1000000000u);
+  return until;
 }
 
 /* How long nobody need look again for cycles over several tables, in nanoseconds. */
@@ -2418,22 +2504,82 @@ enum { GROUP_REST = 2000000 };
 
 /* Looks for cycles over several tables, unless somebody did just now. No latch is held. */
 static void group_look_again(bs_table_group *group) {
-  if (__atomic_load_n(&group->spread, __ATOMIC_RELAXED) == 0) return;
   if (__atomic_load_n(&group->looked, __ATOMIC_RELAXED) + GROUP_REST > bs_call_now()) return;
+  if (group_count_spread(group) == 0) return;
   group_settle_all(group);
+}
+
+/* The table of turns; null if there is none yet. */
+static bs_table *group_turns_of(bs_table_group *group) {
+  bs_table *table;
+  pthread_mutex_lock(&group->turns.latch);
+  table = group->turns.table;
+  pthread_mutex_unlock(&group->turns.latch);
+  return table;
+}
+
+/* Ends the waits of a table whose time is over. How many wait to a time counts with that of other tables in `all`. */
+static bs_status group_expire_in(bs_table *table, bs_reply *all, struct timespec *earliest) {
+  struct timespec time;
+  bs_reply one = bs_table_expire(table, &time);
+  if (one.count != 0 && (all->count == 0 || group_is_before(&time, earliest))) *earliest = time;
+  all->count += one.count;
+  return one.status;
+}
+
+/* Whether the end of what a list left waiting was asked for up to a time, which is written into `limit`. */
+static bool group_is_limited(group_ask *ask, struct timespec *limit) {
+  bool is_limited;
+  pthread_mutex_lock(&ask->latch);
+  is_limited = ask->is_told && ask->is_limited;
+  if (is_limited) *limit = ask->limit;
+  pthread_mutex_unlock(&ask->latch);
+  return is_limited;
+}
+
+/* Ends such a wait, whose time is over by now; false if it is between two tables. With the latch of the table where it
+ * waits it is looked at again: another wait of the slot may have come in its place. */
+static bool group_end_late_list(bs_table_group *group, const group_slot *own, group_ask *ask, const struct timespec *now) {
+  uint32_t number;
+  for (number = 0; number <= group->parts; number++) {
+    const group_table *t = &group->tables[number];
+    struct timespec limit;
+    bool has_ended;
+    if (!bs_inside_enter(t->table)) return true;
+    has_ended = !group_is_limited(ask, &limit) || group_is_before(now, &limit) ||
+                bs_inside_end_sleep(t->table, own->number, BS_TIMED_OUT);
+    bs_inside_release(t->table);
+    if (has_ended) return true;
+  }
+  return false;
+}
+
+/* Ends all such waits whose time is over. How many others there are counts with those of tables in `all`. */
+static void group_end_late_lists(bs_table_group *group, bs_reply *all, struct timespec *earliest) {
+  struct timespec now = group_ahead(0), limit;
+  uint32_t slot;
+  for (slot = 0; slot < group->most; slot++) {
+    const group_slot *own = group_slot_at(group, slot);
+    group_ask *ask = __atomic_load_n(&own->ask, __ATOMIC_ACQUIRE);
+    if (ask == NULL || !group_is_limited(ask, &limit)) continue;
+    if (!group_is_before(&now, &limit) && group_end_late_list(group, own, ask, &now)) continue;
+    if (all->count == 0 || group_is_before(&limit, earliest)) *earliest = limit;
+    all->count++;
+  }
 }
 
 bs_reply bs_group_expire(bs_table_group *group, struct timespec *next) {
   bs_reply all = group_only(group_shut(group));
-  struct timespec earliest, time;
+  bs_table *turns = all.status == BS_DONE ? group_turns_of(group) : NULL;
+  struct timespec earliest;
   uint32_t number;
   for (number = 0; all.status == BS_DONE && number <= group->parts; number++) {
-    bs_reply one = bs_table_expire(group->tables[number].table, &time);
-    if (one.status != BS_DONE) return one;
-    if (one.count != 0 && (all.count == 0 || group_is_before(&time, &earliest))) earliest = time;
-    all.count += one.count;
+    all.status = group_expire_in(group->tables[number].table, &all, &earliest);
   }
-  if (all.status == BS_DONE) group_look_again(group);
+  if (all.status == BS_DONE && turns != NULL) all.status = group_expire_in(turns, &all, &earliest);
+  if (all.status != BS_DONE) return group_only(all.status);
+  group_end_late_lists(group, &all, &earliest);
+  group_look_again(group);
   if (all.count != 0 && next != NULL) *next = earliest;
   return all;
 }
@@ -2486,6 +2632,7 @@ static bs_reply group_lock_made(bs_table_group *group, const bs_command *c, bs_t
     case BS_DO_UNLOCK_ROW: return bs_group_unlock_row(group, txn, c->file, c->number);
     case BS_DO_ESCALATE: return bs_group_escalate(group, txn, c->node);
     case BS_DO_CANCEL: return bs_group_cancel(group, txn);
+    case BS_DO_SETTLE: return bs_group_settle(group, txn);
     case BS_DO_COMMIT: return bs_group_commit(group, txn);
     case BS_DO_ABORT: return bs_group_abort(group, txn);
     case BS_DO_RENEW: return bs_group_renew(group, txn, c->number);
@@ -2586,15 +2733,6 @@ size_t bs_group_try_first(bs_table_group *group, bs_command *commands, size_t co
   return place;
 }
 
-/* The time that is so many nanoseconds from now, or the last one that there is. */
-static struct timespec group_ahead(uint64_t nanoseconds) {
-  uint64_t now = bs_call_now(), time = nanoseconds < INT64_MAX - now ? now + nanoseconds : INT64_MAX;
-  struct timespec until;
-  until.tv_sec = (time_t)(time / 1000000000u);
-  until.tv_nsec = (long)(time % 1000000000u);
-  return until;
-}
-
 /* Sleeps until a list's request has ended, with the ask's latch held before and after, or until this time; looks for
  * cycles meanwhile. Whether it has ended. */
 static bool group_doze(group_ask *ask, const struct timespec *until) {
@@ -2643,6 +2781,7 @@ bs_reply bs_group_await(bs_table_group *group, bs_txn txn, const struct timespec
   if (own == NULL) return group_only(BS_NO_SUCH_TXN);
   if (own->ask == NULL || !own->ask->is_list || own->ask->age != txn.age) return group_only(BS_NOT_WAITING);
   if (!group_asks(own) && !own->ask->has_ended) return group_only(BS_NOT_WAITING);
+  if (!own->ask->has_ended && own->ask->is_told) return group_only(BS_IN_USE);
   is_limited = own->has_deadline && (until == NULL || group_is_before(&own->deadline, until));
   return group_await_end(own->ask, is_limited ? &own->deadline : until);
 }
@@ -2655,6 +2794,15 @@ bs_reply bs_inside_lives(bs_table_group *group, bs_txn txn) {
 
 bs_table *bs_inside_table_of(bs_table_group *group, uint32_t number) {
   return number <= group->parts ? group->tables[number].table : NULL;
+}
+
+void bs_inside_count_txns(const bs_table_group *group, uint64_t *living, uint64_t *queued) {
+  uint32_t slot;
+  *living = 0;
+  for (slot = 0; slot < group->most; slot++) {
+    *living += __atomic_load_n(&group_slot_at(group, slot)->age, __ATOMIC_RELAXED) != 0;
+  }
+  *queued = __atomic_load_n(&group->queued, __ATOMIC_RELAXED);
 }
 
 /* ------------------------------------------------------------------------------------------------
@@ -2780,15 +2928,28 @@ size_t bs_inside_session_run(bs_session *session, bs_command *commands, size_t c
  * Begins in turn.
  */
 
-/* A table with one node; null if memory is refused. */
-static bs_table *group_new_turns(bs_node *node) {
+static void group_turn_ended(void *context, bs_txn txn, bs_reply end, void *word);
+
+/* Makes the nodes of a table of turns, and has a transaction of its own lock the gate. */
+static bs_reply group_fill_turns(bs_table_group *group, bs_table *made) {
+  group_turns *turns = &group->turns;
+  bs_reply reply = bs_table_add_inner(made, NULL, 0);
+  turns->node = reply.node;
+  if (reply.status == BS_DONE) reply = bs_table_add_inner(made, NULL, 0);
+  turns->gate = reply.node;
+  if (reply.status == BS_DONE) reply = bs_table_begin(made);
+  if (reply.status == BS_DONE) reply = bs_table_try(made, reply.txn, turns->gate, BS_X);
+  if (reply.status == BS_DONE) reply = bs_table_on_end(made, group_turn_ended, group);
+  return reply;
+}
+
+/* A table of turns; null if memory is refused. */
+static bs_table *group_new_turns(bs_table_group *group) {
   bs_options options = bs_call_chosen(NULL, 0);
   bs_table *made = NULL;
   bs_reply reply = bs_table_make(&made, &options);
   if (reply.status != BS_DONE) return NULL;
-  reply = bs_table_add_inner(made, NULL, 0);
-  *node = reply.node;
-  if (reply.status == BS_DONE) return made;
+  if (group_fill_turns(group, made).status == BS_DONE) return made;
   bs_table_end(made);
   bs_table_free(&made);
   return NULL;
@@ -2801,7 +2962,7 @@ static bs_status group_make_turns(bs_table_group *group) {
   pthread_mutex_lock(&turns->latch);
   status = group_closed(group);
   if (status == BS_DONE && turns->table == NULL) {
-    turns->table = group_new_turns(&turns->node);
+    turns->table = group_new_turns(group);
     if (turns->table == NULL) status = BS_NO_MEMORY;
   }
   pthread_mutex_unlock(&turns->latch);
@@ -2842,6 +3003,12 @@ static bs_reply group_begin_by_turn(bs_table_group *group, uint64_t since, const
   return reply;
 }
 
+/* A begin has left the queue. */
+static void group_leave_queue(bs_table_group *group) {
+  __atomic_fetch_sub(&group->queued, 1, __ATOMIC_SEQ_CST);
+  if (group_closed(group) != BS_DONE) group_wake_turn(group);
+}
+
 bs_reply bs_group_begin_again_in_turn(bs_table_group *group, uint64_t since, const struct timespec *until) {
   bs_status status = group != NULL && !bs_inside_is_time(until) ? BS_BAD_NUMBER : group_shut_to_sleep(group);
   bs_reply reply = group_only(status);
@@ -2854,14 +3021,199 @@ bs_reply bs_group_begin_again_in_turn(bs_table_group *group, uint64_t since, con
   pthread_setcancelstate(PTHREAD_CANCEL_DISABLE, &state);
   __atomic_fetch_add(&group->queued, 1, __ATOMIC_SEQ_CST);
   reply = group_begin_by_turn(group, since, until);
-  __atomic_fetch_sub(&group->queued, 1, __ATOMIC_SEQ_CST);
-  if (group_closed(group) != BS_DONE) group_wake_turn(group);
+  group_leave_queue(group);
   pthread_setcancelstate(state, &state);
   return reply;
 }
 
 bs_reply bs_group_begin_in_turn(bs_table_group *group, const struct timespec *until) {
   return bs_group_begin_again_in_turn(group, UINT64_MAX, until);
+}
+
+/* Puts a begin that was asked for into the list, and takes it out. */
+static void group_enlist_begin(group_turns *turns, group_asked_begin *begin) {
+  pthread_mutex_lock(&turns->latch);
+  begin->before = turns->last;
+  if (turns->last == NULL) turns->first = begin;
+  else turns->last->next = begin;
+  turns->last = begin;
+  pthread_mutex_unlock(&turns->latch);
+}
+
+static void group_delist_begin(group_turns *turns, group_asked_begin *begin) {
+  if (begin->before == NULL) turns->first = begin->next;
+  else begin->before->next = begin->next;
+  if (begin->next == NULL) turns->last = begin->before;
+  else begin->next->before = begin->before;
+  turns->cancelled -= begin->is_cancelled;
+  if (turns->at_gate.age == begin->turn.age) turns->at_gate.age = 0;
+}
+
+/* Cancels the wait of a cancelled begin, wherever it waits; `begin` is its name alone. */
+static void group_cut_begin(const group_turns *turns, const void *begin, bs_txn turn) {
+  if (turn.age == 0) bs_table_cancel_begin(turns->table, begin);
+  else bs_table_cancel(turns->table, turn, NULL);
+}
+
+/* The begin of this name, if it is in the list and cancelled, with its transaction. */
+static bool group_finds_cancelled(group_turns *turns, const void *name, bs_txn *turn) {
+  const group_asked_begin *begin = NULL;
+  pthread_mutex_lock(&turns->latch);
+  if (turns->cancelled > 0) begin = turns->first;
+  while (begin != NULL && (begin != name || !begin->is_cancelled)) begin = begin->next;
+  if (begin != NULL) *turn = begin->turn;
+  pthread_mutex_unlock(&turns->latch);
+  return begin != NULL;
+}
+
+/* Whether a slot is free. */
+static bool group_any_is_free(const bs_table_group *group) {
+  uint32_t slot = 0;
+  while (slot < group->most && __atomic_load_n(&group_slot_at(group, slot)->is_taken, __ATOMIC_SEQ_CST)) slot++;
+  return slot < group->most;
+}
+
+/* After a begin, by this name, was left waiting: another thread may have ended it by now. What came between its last look
+ * and its wait is done: a cancel, or the end of a transaction that freed a slot. */
+static bs_reply group_begin_waits(bs_table_group *group, const void *name, bs_reply reply) {
+  bs_txn turn;
+  if (group_finds_cancelled(&group->turns, name, &turn)) group_cut_begin(&group->turns, name, turn);
+  if (group_any_is_free(group)) group_wake_turn(group);
+  return reply;
+}
+
+/* Tries to begin for the one that is the next, unless it is cancelled. */
+static bs_reply group_begin_at_gate(bs_table_group *group, const group_asked_begin *begin) {
+  group_turns *turns = &group->turns;
+  bool is_cancelled;
+  pthread_mutex_lock(&turns->latch);
+  turns->at_gate = begin->turn;
+  is_cancelled = begin->is_cancelled;
+  pthread_mutex_unlock(&turns->latch);
+  return is_cancelled ? group_only(BS_NOT_WAITING) : group_begin_now(group, begin->since);
+}
+
+static inline const struct timespec *group_time_of(const group_asked_begin *begin) {
+  return begin->has_time ? &begin->until : NULL;
+}
+
+/* Begins for the one that is the next, or has it wait at the gate. */
+static bs_reply group_begin_gated(bs_table_group *group, group_asked_begin *begin) {
+  group_turns *turns = &group->turns;
+  bs_reply reply;
+  do {
+    reply = group_begin_at_gate(group, begin);
+    if (reply.status != BS_TOO_MANY_TXNS) return reply;
+    reply = bs_table_ask(turns->table, begin->turn, turns->gate, BS_X, group_time_of(begin), begin);
+  } while (reply.status == BS_MOVED);
+  return reply.status == BS_WAITING ? group_begin_waits(group, begin, reply) : reply;
+}
+
+/* A begin has a transaction in the table of turns, and waits for its turn. */
+static bs_reply group_begin_has(bs_table_group *group, group_asked_begin *begin, bs_txn turn) {
+  group_turns *turns = &group->turns;
+  bs_reply reply;
+  pthread_mutex_lock(&turns->latch);
+  begin->turn = turn;
+  pthread_mutex_unlock(&turns->latch);
+  reply = bs_table_ask(turns->table, turn, turns->node, BS_X, group_time_of(begin), begin);
+  if (reply.status == BS_DONE) return group_begin_gated(group, begin);
+  return reply.status == BS_WAITING ? group_begin_waits(group, begin, reply) : reply;
+}
+
+/* Ends a begin that was asked for, and has come to this. If it was cancelled, it ends so. */
+static bs_reply group_end_begin(bs_table_group *group, group_asked_begin *begin, bs_reply end) {
+  group_turns *turns = &group->turns;
+  bs_txn turn = begin->turn;
+  bool is_cancelled;
+  pthread_mutex_lock(&turns->latch);
+  is_cancelled = begin->is_cancelled;
+  group_delist_begin(turns, begin);
+  pthread_mutex_unlock(&turns->latch);
+  free(begin);
+  if (is_cancelled && end.status == BS_DONE) bs_group_abort(group, end.txn);
+  if (is_cancelled) end = group_only(BS_NOT_WAITING);
+  if (turn.age != 0) bs_table_abort(turns->table, turn, NULL);
+  group_leave_queue(group);
+  return end;
+}
+
+/* The callback of the table of turns: `word` is the begin. */
+static void group_turn_ended(void *context, bs_txn txn, bs_reply end, void *word) {
+  bs_table_group *group = (bs_table_group *)context;
+  group_asked_begin *begin = (group_asked_begin *)word;
+  void *own_word = begin->word;
+  if (end.status == BS_DONE && begin->turn.age == 0) end = group_begin_has(group, begin, txn);
+  else if (end.status == BS_DONE || end.status == BS_MOVED) end = group_begin_gated(group, begin);
+  if (end.status == BS_WAITING) return;
+  end = group_end_begin(group, begin, end);
+  __atomic_load_n(&group->on_end, __ATOMIC_ACQUIRE)(group->context, end.txn, end, own_word);
+}
+
+/* A begin that is asked for; null if memory is refused. */
+static group_asked_begin *group_new_begin(bs_table_group *group, uint64_t since, const struct timespec *until, void *word) {
+  group_asked_begin *begin = (group_asked_begin *)group_zero(sizeof *begin);
+  if (begin == NULL) return NULL;
+  begin->group = group;
+  begin->word = word;
+  begin->since = since;
+  begin->has_time = until != NULL;
+  if (until != NULL) begin->until = *until;
+  return begin;
+}
+
+/* Asks for a begin in its turn. */
+static bs_reply group_ask_in_turn(bs_table_group *group, uint64_t since, const struct timespec *until, void *word) {
+  group_asked_begin *begin = group_new_begin(group, since, until, word);
+  bs_reply reply = group_only(begin == NULL ? BS_NO_MEMORY : group_make_turns(group));
+  if (reply.status != BS_DONE) {
+    free(begin);
+    group_leave_queue(group);
+    return reply;
+  }
+  group_enlist_begin(&group->turns, begin);
+  reply = bs_table_ask_begin(group->turns.table, until, begin);
+  if (reply.status == BS_DONE) reply = group_begin_has(group, begin, reply.txn);
+  else if (reply.status == BS_WAITING) return group_begin_waits(group, begin, reply);
+  return reply.status == BS_WAITING ? reply : group_end_begin(group, begin, reply);
+}
+
+bs_reply bs_group_ask_begin_again(bs_table_group *group, uint64_t since, const struct timespec *until, void *word) {
+  bs_status status = group != NULL && !bs_inside_is_time(until) ? BS_BAD_NUMBER : group_shut(group);
+  bs_reply reply = group_only(status);
+  if (status != BS_DONE) return reply;
+  if (__atomic_load_n(&group->on_end, __ATOMIC_ACQUIRE) == NULL) return bs_call_null();
+  if (__atomic_load_n(&group->queued, __ATOMIC_RELAXED) == 0) {
+    reply = group_begin_now(group, since);
+    if (reply.status != BS_TOO_MANY_TXNS) return reply;
+  }
+  __atomic_fetch_add(&group->queued, 1, __ATOMIC_SEQ_CST);
+  return group_ask_in_turn(group, since, until, word);
+}
+
+bs_reply bs_group_ask_begin(bs_table_group *group, const struct timespec *until, void *word) {
+  return bs_group_ask_begin_again(group, UINT64_MAX, until, word);
+}
+
+bs_reply bs_group_cancel_begin(bs_table_group *group, const void *word) {
+  bs_status shut = group_shut(group);
+  group_asked_begin *begin;
+  group_turns *turns;
+  bs_txn turn;
+  if (shut != BS_DONE) return group_only(shut);
+  turns = &group->turns;
+  pthread_mutex_lock(&turns->latch);
+  begin = turns->first;
+  while (begin != NULL && (begin->word != word || begin->is_cancelled)) begin = begin->next;
+  if (begin != NULL) {
+    begin->is_cancelled = true;
+    turns->cancelled++;
+    turn = begin->turn;
+  }
+  pthread_mutex_unlock(&turns->latch);
+  if (begin == NULL) return group_only(BS_NOT_WAITING);
+  group_cut_begin(turns, begin, turn);
+  return group_only(BS_DONE);
 }
 
 /* ------------------------------------------------------------------------------------------------
@@ -2876,7 +3228,7 @@ static void *group_watch_over(void *place) {
     struct timespec until = group_ahead(watch->pace);
     if (pthread_cond_timedwait(&watch->over, &watch->latch, &until) != ETIMEDOUT) continue;
     pthread_mutex_unlock(&watch->latch);
-    if (__atomic_load_n(&group->spread, __ATOMIC_RELAXED) != 0) group_settle_all(group);
+    if (group_count_spread(group) != 0) group_settle_all(group);
     pthread_mutex_lock(&watch->latch);
   }
   pthread_mutex_unlock(&watch->latch);

@@ -211,6 +211,9 @@ bs_table *bs_inside_table_of(bs_table_group *group, uint32_t number);
 /* Whether a transaction of the group has this name: BS_DONE, or why not. */
 bs_reply bs_inside_lives(bs_table_group *group, bs_txn txn);
 
+/* How many transactions of the group live, and how many begins wait for a slot. */
+void bs_inside_count_txns(const bs_table_group *group, uint64_t *living, uint64_t *queued);
+
 bs_reply bs_inside_mark(bs_table_group *group, bs_txn txn);
 bs_reply bs_inside_release_to(bs_table_group *group, bs_txn txn, uint64_t savepoint);
 bs_reply bs_inside_session_begin(bs_session *session, uint64_t since, const struct timespec *until);

@@ -397,11 +397,51 @@ static bs_awaited_node running_take_most(bs_sketch *sketch) {
   return taken;
 }
 
+/* Puts a node in its place among those of all parts. Of more than there is room for the last is left out. */
+static void running_put_awaited(bs_awaited *all, bs_awaited_node node) {
+  size_t place = all->count < BS_MOST_AWAITED ? all->count++ : BS_MOST_AWAITED;
+  for (; place > 0 && all->at[place - 1].nanoseconds < node.nanoseconds; place--) {
+    if (place < BS_MOST_AWAITED) all->at[place] = all->at[place - 1];
+  }
+  if (place < BS_MOST_AWAITED) all->at[place] = node;
+}
+
+/* Adds what was awaited in one part, by the names of the group. No node is awaited in two: an inner one in the main
+ * table alone. */
+static void running_add_awaited(bs_table_group *group, uint32_t number, bs_awaited *all, const bs_awaited *one) {
+  size_t place;
+  for (place = 0; place < one->count; place++) {
+    bs_awaited_node node = one->at[place];
+    node.node = bs_group_name_of(group, node.node, number).node;
+    running_put_awaited(all, node);
+  }
+  all->nanoseconds = running_sum(all->nanoseconds, one->nanoseconds);
+  all->since = running_later(all->since, one->since);
+}
+
+/* The nodes that were awaited longest in all parts, each of its own moment. */
+static bs_reply running_awaited_in_parts(bs_table_group *group, bs_awaited *awaited, bool reset) {
+  bs_table *part = bs_inside_table_of(group, 0);
+  bs_reply reply = bs_call_only(BS_DONE);
+  bs_awaited all, one;
+  uint32_t number = 0;
+  memset(&all, 0, sizeof all);
+  while (part != NULL && reply.status == BS_DONE) {
+    reply = bs_table_awaited(part, &one, reset);
+    if (reply.status == BS_DONE) running_add_awaited(group, number, &all, &one);
+    part = bs_inside_table_of(group, ++number);
+  }
+  if (reply.status == BS_DONE) *awaited = all;
+  return reply;
+}
+
 bs_reply bs_table_awaited(bs_table *table, bs_awaited *awaited, bool reset) {
+  bs_table_group *group = bs_table_group_of(table);
   const bs_manager *m = awaited == NULL ? NULL : bs_table_hold(table);
   bs_running *running;
   bs_sketch sketch;
   uint64_t now;
+  if (group != NULL && awaited != NULL) return running_awaited_in_parts(group, awaited, reset);
   if (m == NULL) return awaited == NULL ? bs_call_null() : running_refused(table);
   running = bs_call_running(m);
   now = bs_call_now();
@@ -807,17 +847,53 @@ static void metrics_copy_all(const bs_manager *m, metrics_copy *copy) {
   copy->lost_deadlocks = running->lost_deadlocks;
 }
 
+/* Adds what is counted of a part of its own: the nodes and the limits. The group has the rest. */
+static bs_reply metrics_add_part(bs_table *part, metrics_copy *copy) {
+  const bs_manager *m = bs_table_hold(part);
+  if (m == NULL) return running_refused(part);
+  copy->nodes += bs_call_len(m).count;
+  copy->most_nodes = running_sum(copy->most_nodes, bs_call_most_nodes(m).count);
+  copy->most = bs_call_most(m).count;
+  bs_table_let_go(part);
+  return bs_call_only(BS_DONE);
+}
+
+/* Copies all numbers of a table with parts. Each part counts the inner nodes. */
+static bs_reply metrics_copy_parts(bs_table_group *group, metrics_copy *copy) {
+  bs_table *part = bs_inside_table_of(group, 0);
+  bs_reply reply;
+  uint32_t number = 0;
+  memset(copy, 0, sizeof *copy);
+  reply = bs_group_counters(group, &copy->counts);
+  if (reply.status == BS_DONE) reply = running_waits_of_parts(group, &copy->waits);
+  while (part != NULL && reply.status == BS_DONE) {
+    reply = metrics_add_part(part, copy);
+    part = bs_inside_table_of(group, ++number);
+  }
+  bs_inside_count_txns(group, &copy->living, &copy->queued);
+  return reply;
+}
+
+/* Copies all numbers of a table. */
+static bs_reply metrics_copy_of(bs_table *table, metrics_copy *copy) {
+  bs_table_group *group = bs_table_group_of(table);
+  const bs_manager *m = bs_table_hold(table);
+  if (group != NULL) return metrics_copy_parts(group, copy);
+  if (m == NULL) return running_refused(table);
+  metrics_copy_all(m, copy);
+  bs_table_let_go(table);
+  return bs_call_only(BS_DONE);
+}
+
 /* Holds off the thread's cancellation: a call of the table is not ended half way. */
 bs_reply bs_table_metrics(bs_table *table, bool (*write)(void *context, const char *text, size_t length),
                           void *context) {
-  const bs_manager *m = write == NULL ? NULL : bs_table_hold(table);
   metrics_text to = { write, context, false, 0, { 0 } };
   metrics_copy copy;
+  bs_reply reply = write == NULL ? bs_call_null() : metrics_copy_of(table, &copy);
   size_t i;
   int state;
-  if (m == NULL) return write == NULL ? bs_call_null() : running_refused(table);
-  metrics_copy_all(m, &copy);
-  bs_table_let_go(table);
+  if (reply.status != BS_DONE) return reply;
   pthread_setcancelstate(PTHREAD_CANCEL_DISABLE, &state);
   for (i = 0; i < sizeof metrics_kinds / sizeof metrics_kinds[0]; i++) metrics_put_kind(&to, &copy, &metrics_kinds[i]);
   metrics_put_waits(&to, &copy.waits);

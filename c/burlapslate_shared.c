@@ -1315,6 +1315,7 @@ bs_reply bs_table_abort(bs_table *table, bs_txn txn, bs_notices *told) {
 }
 
 bs_reply bs_table_settle(bs_table *table, bs_txn txn, bs_notices *told) {
+  TABLE_TELL_BY_GROUP(table, told, bs_group_settle(table->group, txn));
   TABLE_TELL(table, told, false, table_make_settle(table, txn, list));
 }
 
@@ -1772,6 +1773,7 @@ bs_reply bs_table_ask(bs_table *table, bs_txn txn, bs_node node, bs_mode mode, c
 
 bs_reply bs_table_ask_await(bs_table *table, bs_txn txn, bs_node node, bs_mode mode, const struct timespec *until,
                             void *word) {
+  TABLE_BY_GROUP(table, bs_group_ask_await(table->group, txn, until, word));
   bs_reply reply;
   table_asked *own = table_enter_to_ask(table, txn, until, word, &reply);
   if (own == NULL) return reply;
@@ -1812,6 +1814,7 @@ bs_reply bs_table_ask_row_path(bs_table *table, bs_txn txn, bs_node file, uint64
 
 /* Makes the ask of a begin, which waits behind all that wait for a slot already. */
 bs_reply bs_table_ask_begin_again(bs_table *table, uint64_t since, const struct timespec *until, void *word) {
+  TABLE_BY_GROUP(table, bs_group_ask_begin_again(table->group, since, until, word));
   bs_reply reply;
   table_asked *own = table_enter_to_ask(table, bs_call_only(BS_DONE).txn, until, word, &reply);
   if (own == NULL) return reply;
@@ -1835,6 +1838,7 @@ static table_asked *table_asked_by(const bs_table *table, const void *word) {
 }
 
 bs_reply bs_table_cancel_begin(bs_table *table, const void *word) {
+  TABLE_BY_GROUP(table, bs_group_cancel_begin(table->group, word));
   table_asked *ask;
   if (!table_enter(table)) return table_no_table(table);
   ask = table_asked_by(table, word);
@@ -2363,6 +2367,7 @@ bs_reply bs_table_let_go(bs_table *table) {
 
 bs_reply bs_table_name_nodes(bs_table *table,
                              void (*function)(void *context, bs_node node, char *text, size_t room), void *context) {
+  TABLE_BY_GROUP(table, bs_table_name_nodes(bs_inside_table_of(table->group, 0), function, context));
   if (!table_enter(table)) return table_no_table(table);
   table->namer.function = function;
   table->namer.context = context;
@@ -2625,6 +2630,12 @@ bool bs_inside_any_waits(const bs_table *table) {
 }
 
 /* The wait is cancelled as one whose time is over, which wakes others in the same way. */
+/* How a wait counts that its group has ended with this status. */
+static enum bs_wait_ends table_counts_as(bs_status status) {
+  if (status == BS_VICTIM) return BS_END_VICTIM;
+  return status == BS_TIMED_OUT ? BS_END_TIMED_OUT : BS_END_CANCELLED;
+}
+
 bool bs_inside_end_sleep(bs_table *table, uint32_t slot, bs_status status) {
   table_waiter *waiter = table->waiters[slot];
   bs_reply end;
@@ -2632,7 +2643,7 @@ bool bs_inside_end_sleep(bs_table *table, uint32_t slot, bs_status status) {
   end = table_make_call_time_out(table, bs_call_living(&table->manager, slot).txn, &table->told);
   if (end.status != BS_TIMED_OUT) return false;
   end.status = status;
-  bs_call_wait_cut(&table->running, slot, status == BS_VICTIM ? BS_END_VICTIM : BS_END_CANCELLED);
+  bs_call_wait_cut(&table->running, slot, table_counts_as(status));
   table_end(table, waiter, slot, end);
   table_wake_told(table, &table->told);
   return true;

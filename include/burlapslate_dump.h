@@ -22,7 +22,7 @@ extern "C" {
  * if the table is ended meanwhile, and with BS_NO_MEMORY; ferror reports errors of the file. A pthread_cancel takes
  * effect after the call. Takes memory, some fifty kilobytes however much there is, with 1,024 slots half a megabyte. Of
  * a table with parts it writes each part, one after the other: nodes and transactions have the names that they have
- * there (bs_group_name_of). */
+ * there (bs_group_name_of), and after these the engine's. */
 bs_reply bs_table_dump(bs_table *table, FILE *file);
 
 /* The same for a manager that the caller holds, as of bs_table_hold, and so all of one moment. A manager that is no

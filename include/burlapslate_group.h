@@ -47,7 +47,8 @@
  * BS_NO_SUCH_NODE. A call that acquires something in the main table first can be refused after that, as for keys that
  * the file cannot have; what it acquired above the node stays.
  *
- * DEADLOCKS. A cycle of waits within one table is ended by that table, as it arises. A cycle over several tables is
+ * DEADLOCKS. A cycle of waits within one table is ended by that table, as it arises, whatever `detect` of the options is.
+ * A cycle over several tables is
  * ended by a thread that sleeps: it looks after 2 ms, and then after twice as long each time, up to 256 ms, if any
  * transaction is in two tables and no other thread has looked meanwhile. If no thread sleeps, it is ended by
  * bs_group_expire or by a thread that watches. To look costs the latches of all tables, and
@@ -99,8 +100,7 @@ bs_reply bs_call_group_make(bs_table_group **group, const bs_options *options, s
 
 /* Makes a group with so many parts, by options as bs_table_make takes them, and writes the pointer to it, which must be
  * null before. Each of its tables may have as many nodes as the options say, and the group as many transactions.
- * Refused as bs_table_make; with BS_BAD_NUMBER also if the parts are not 1 to BS_MOST_PARTS, or deadlocks are not
- * detected at block. Takes memory. */
+ * Refused as bs_table_make; with BS_BAD_NUMBER also if the parts are not 1 to BS_MOST_PARTS. Takes memory. */
 static inline bs_reply bs_group_make(bs_table_group **group, const bs_options *options, uint32_t parts) {
   bs_status misfit = bs_call_misfit();
   if (group == NULL) return bs_call_null();
@@ -153,9 +153,14 @@ bs_reply bs_group_begin(bs_table_group *group);
 bs_reply bs_group_begin_again(bs_table_group *group, uint64_t since);
 
 /* The same, but if all slots are taken they sleep until they have one, as bs_table_begin_in_turn does: in order of
- * arrival. While a begin sleeps for a slot, those above are refused with BS_TOO_MANY_TXNS. */
+ * arrival. While a begin waits for a slot, those above are refused with BS_TOO_MANY_TXNS. */
 bs_reply bs_group_begin_in_turn(bs_table_group *group, const struct timespec *until);
 bs_reply bs_group_begin_again_in_turn(bs_table_group *group, uint64_t since, const struct timespec *until);
+
+/* As bs_table_ask_begin, bs_table_ask_begin_again and bs_table_cancel_begin (burlapslate_session.h), in that queue. */
+bs_reply bs_group_ask_begin(bs_table_group *group, const struct timespec *until, void *word);
+bs_reply bs_group_ask_begin_again(bs_table_group *group, uint64_t since, const struct timespec *until, void *word);
+bs_reply bs_group_cancel_begin(bs_table_group *group, const void *word);
 
 /* As bs_table_deadline; refused with BS_TXN_WAITING also while the transaction waits by an ask or a list. Costs the
  * latches of the main table and of the transaction's parts, one after the other. */
@@ -250,7 +255,8 @@ bs_reply bs_group_forget(bs_table_group *group, bs_node record);
 
 /* ------------------------------------------------------------------------------------------------
  * Asks and lists: a transaction waits, and no thread sleeps for it. Until the end it may request nothing, and calls that
- * name it are refused with BS_TXN_WAITING, except bs_group_cancel, bs_group_abort and bs_group_await.
+ * name it are refused with BS_TXN_WAITING, except bs_group_cancel, bs_group_abort, bs_group_settle, bs_group_await and
+ * bs_group_ask_await.
  */
 
 /* As bs_table_on_end: gives the group its callback, which may make any call of a group that does not sleep. */
@@ -269,6 +275,10 @@ bs_reply bs_group_ask_row_path(bs_table_group *group, bs_txn txn, bs_node file, 
  * a program without a thread that sleeps or watches makes this call now and then. */
 bs_reply bs_group_expire(bs_table_group *group, struct timespec *next);
 
+/* Ends all deadlocks over several tables, that of this transaction among them. Those of one table have been ended as they
+ * arose. Costs the latches of all tables. Refused with BS_NO_SUCH_TXN. */
+bs_reply bs_group_settle(bs_table_group *group, bs_txn txn);
+
 /* Starts a thread that looks for deadlocks over several tables each `pace` nanoseconds, until the group ends. Refused with
  * BS_IN_USE if the group has one, and with BS_NO_MEMORY if it cannot be started. */
 bs_reply bs_group_watch_thread(bs_table_group *group, uint64_t pace);
@@ -276,14 +286,18 @@ bs_reply bs_group_watch_thread(bs_table_group *group, uint64_t pace);
 /* As bs_table_run, but each command is a critical section of its own, in the tables that it needs. BS_DO_LOCK and
  * BS_DO_LOCK_ROW also lock what must be held above, as BS_DO_TRY and BS_DO_TRY_ROW do: these keep nothing if they are
  * refused. So does BS_DO_INSERT_PATH, whatever its `keep` is. A new file is in each part by turns. `told` is emptied.
- * There is no BS_DO_MOVE and BS_DO_SETTLE: they are refused with BS_BAD_NUMBER. BS_DO_MARK and BS_DO_RELEASE_SINCE have a
- * number for a savepoint of all parts, as bs_table_mark of a table with parts. A lock that is left waiting goes on by itself. */
+ * There is no BS_DO_MOVE: it is refused with BS_BAD_NUMBER. BS_DO_MARK and BS_DO_RELEASE_SINCE have a number for a
+ * savepoint of all parts, as bs_table_mark of a table with parts. A lock that is left waiting goes on by itself. */
 size_t bs_group_run(bs_table_group *group, bs_command *commands, size_t count);
 
 /* Sleeps until the end of the lock that a list of the transaction has left waiting, and answers it; after that it answers
  * the same up to the transaction's next list or ask. After BS_DONE run the list again from the next command on.
  * BS_TIMED_OUT: the time or the transaction's deadline came first, and the wait was cancelled. BS_NOT_WAITING: no list has left it waiting. */
 bs_reply bs_group_await(bs_table_group *group, bs_txn txn, const struct timespec *until);
+
+/* The same without a sleep: if it still waits, the answer is BS_WAITING, and its end comes by a callback. BS_TIMED_OUT:
+ * bs_group_expire was called at `until` or later. Refused with BS_IN_USE if it is an ask or its end was asked for. */
+bs_reply bs_group_ask_await(bs_table_group *group, bs_txn txn, const struct timespec *until, void *word);
 
 /* As bs_table_try_first, with each try a critical section of its own. */
 size_t bs_group_try_first(bs_table_group *group, bs_command *commands, size_t count);

@@ -73,16 +73,16 @@
  *
  * PARTS. If `options.parts` is more than 1, a table has so many parts, with a latch each, and so serves many cores. Its
  * calls are those of the group of tables that bs_table_group_of names, and burlapslate_group.h has the rules: what is
- * locked where, what a call costs, and how deadlocks over parts are detected. It takes BS_AT_BLOCK alone, and
+ * locked where, what a call costs, and how deadlocks are detected, with each `detect` alike. And
  *   - bs_table_lock, bs_table_try, bs_table_ask, the like of rows, and bs_table_insert lock what must be held above too;
  *   - each command of a list is a critical section of its own, and what a list has left waiting goes on by itself:
- *     bs_table_await sleeps until its end, whatever node and mode it is given;
+ *     bs_table_await and bs_table_ask_await await its end, whatever node and mode they are given;
  *   - `told` is emptied;
  *   - a savepoint takes memory, and a rollback keeps what the transaction has in the main table;
  *   - a session keeps intentions as bs_group_keep does, at least as many as it says;
  *   - bs_table_hold lends nothing; bs_group_hold lends the manager of a part;
- *   - bs_table_move, bs_table_settle, bs_table_watch, bs_table_ask_await, asks of begins, bs_table_name_nodes,
- *     bs_table_awaited, bs_table_on_long_wait, bs_table_metrics and traces are refused with BS_IN_PARTS.
+ *   - what is told of all parts is of one moment in each part alone, and bs_table_metrics counts inner nodes in each;
+ *   - bs_table_move, bs_table_watch, bs_table_on_long_wait and traces are refused with BS_IN_PARTS.
  */
 #ifndef BURLAPSLATE_SHARED_H
 #define BURLAPSLATE_SHARED_H

@@ -437,8 +437,16 @@ group-limits-not-in-the-main-table	/ group_join_main(/,/^}/s/^    if (own->has_d
 group-limits-not-where-it-is	/^bs_reply bs_group_deadline(/,/^}/s/^    group_limit(own, t, .*//
 group-limits-not-where-it-is-in-main	/^bs_reply bs_group_deadline(/,/^}/s/^    group_limit(own, main, .*//
 group-limits-the-next	/ group_end_in_all(/,/^}/s/^  own->has_deadline = false;//
-group-expires-without-a-look	/^bs_reply bs_group_expire(/,/^}/s/^  if (all.status == BS_DONE) group_look_again(group);//
-group-expires-to-the-last-time	/^bs_reply bs_group_expire(/,/^}/s/(all.count == 0 || group_is_before(&time, &earliest))/true/
+group-expires-without-a-look	/^bs_reply bs_group_expire(/,/^}/s/^  group_look_again(group);//
+group-expires-to-the-last-time	/ group_expire_in(/,/^}/s/(all->count == 0 || group_is_before(&time, earliest))/true/
+group-expires-no-begin	/^bs_reply bs_group_expire(/,/^}/s/^  if (all.status == BS_DONE \&\& turns != NULL) .*//
+group-expires-no-list	/^bs_reply bs_group_expire(/,/^}/s/^  group_end_late_lists(.*//
+group-counts-no-list-with-a-time	/ group_end_late_lists(/,/^}/s/^    all->count++;//
+group-notes-no-second-table	/ group_join(/,/^}/s/is_spread, true/is_spread, false/
+group-settles-nothing	/^bs_reply bs_group_settle(/,/^}/s/^  if (status == BS_DONE) group_settle_all(group);//
+group-keeps-ends-that-were-asked-for	/^static bool group_is_told(/,/^}/s/ask->is_told || //
+group-asks-for-an-end-twice	/^bs_reply bs_group_ask_await(/,/^}/s/ \&\& !ask->is_told//
+group-awaits-what-is-told	/^bs_reply bs_group_await(/,/^}/s/^  if (!own->ask->has_ended .*//
 group-tells-with-latches	/ group_settle_all(/,/^}/s/^  bs_inside_keep_ends(&ends);/  ends.first = NULL;/
 group-tells-with-the-latch-of-a-part	/ group_reach_by_main(/,/^}/s/^    bs_inside_tell(main->table);//
 group-goes-on-for-who-has-ended	/ group_still_lives(/,/^}/s/^  return .*/  return way != NULL;/
@@ -453,10 +461,25 @@ group-tries-pass-a-refusal	/^size_t bs_group_try_first(/,/^}/s/status != BS_WOUL
 group-turns-are-in-no-order	/ group_begin_by_turn(/,/^}/s/bs_table_lock(turns->table, turn, turns->node, BS_X, until)/bs_table_lock(turns->table, turn, turns->node, BS_IS, until)/
 group-begins-pass-the-queue	/^bs_reply bs_group_begin_again(/,/^}/s/^  if (__builtin_expect(__atomic_load_n(&group->queued.*//
 group-frees-slots-for-nobody	/ group_free_slot(/,/^}/s/^  if (__builtin_expect(.*//
+group-gate-stays-shut	/ group_wake_turn(/,/^}/s/^  if (at_gate.age != 0) .*//
+group-cancels-no-begin	/^bs_reply bs_group_cancel_begin(/,/^}/s/^  group_cut_begin(.*//
+group-cancels-a-begin-twice	/^bs_reply bs_group_cancel_begin(/,/^}/s/ || begin->is_cancelled//
+group-cancels-no-begin-before-its-turn	/ group_cut_begin(/,/^}/s/^  if (turn.age == 0) .*/  if (turn.age == 0) return;/
+group-asked-begins-forget-since	/ \*group_new_begin(/,/^}/s/^  begin->since = since;/  begin->since = UINT64_MAX;/
+group-asked-begins-have-no-time	/ \*group_time_of(const/,/^}/s/^  return .*/  return begin == NULL ? \&begin->until : NULL;/
+group-asked-begins-tell-another-word	/ group_turn_ended(/,/^}/s/own_word = begin->word;/own_word = begin;/
+group-asked-begins-keep-their-turn	/ group_end_begin(/,/^}/s/^  if (turn.age != 0) .*//
+group-asked-begins-stay-in-the-queue	/ group_end_begin(/,/^}/s/^  group_leave_queue(group);//
 group-turns-are-kept	/ group_begin_by_turn(/,/^}/s/^  bs_table_abort(.*//
 group-renews-as-new	/^bs_reply bs_group_renew(/,/^}/s/group_begin_in(group, own, since)/group_begin_in(group, own, UINT64_MAX)/
 group-watches-never	/group_watch_over(void/,/^}/s/ group_settle_all(group);/ ;/
 group-leaves-who-sleeps-for-a-slot	/ group_end_turns(/,/^}/s/^  if (turns->table != NULL) bs_table_end(turns->table);//
+parts-dump-without-names	/^bs_reply bs_table_name_nodes(/,/^}/s/^  TABLE_BY_GROUP(.*/  TABLE_BY_GROUP(table, bs_call_only(BS_DONE));/
+parts-name-nodes-of-parts	/ dump_put_name(/,/^}/s/^  if (of->group != NULL) node = .*//
+parts-count-the-nodes-of-one	/ metrics_add_part(/,/^}/s/nodes += /nodes = /
+parts-know-waits-of-one	/ running_awaited_in_parts(/,/^}/s/part = bs_inside_table_of(group, ++number);/part = NULL;/
+parts-know-waits-in-no-order	/ running_put_awaited(/,/^}/s/nanoseconds < node.nanoseconds/nanoseconds > node.nanoseconds/
+parts-know-waits-by-names-of-parts	/ running_add_awaited(/,/^}/s/^    node.node = .*//
 parts-leave-told	/ table_told_nobody(/,/^}/s/^  if (told != NULL) told->count = 0;//
 parts-lend-a-manager	/^static inline bool table_enter(/,/^}/s/ || table->group != NULL//
 parts-refuse-as-ended	/^static bs_status table_shut(/,/^}/s/^  if (table->group != NULL) .*//

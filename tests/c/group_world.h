@@ -118,7 +118,7 @@ static inline void want_rest(bs_table_group *group) {
     bs_inside_release(t->table);
   }
   for (slot = 0; slot < group->most; slot++) WANT(!group_slot_at(group, slot)->is_taken);
-  WANT(group->spread == 0);
+  WANT(group_count_spread(group) == 0);
   DONE(bs_group_keep(group, world_keeps));
 }
 

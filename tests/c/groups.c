@@ -37,7 +37,7 @@ static void groups_are_made_and_ended(void) {
   options.transactions = BS_SLOTS + 1;
   ANSWERS(BS_BAD_NUMBER, bs_group_make(&other, &options, 1));
   options.transactions = 0;
-  options.detect = BS_BY_WATCHER;
+  options.detect = BS_BY_WATCHER + 1;
   ANSWERS(BS_BAD_NUMBER, bs_group_make(&other, &options, 1));
   options.detect = 0;
   options.victims = 7;
@@ -297,7 +297,7 @@ static void one_part_needs_no_other(void) {
   WANT(DONE(bs_group_held(group, txn, records[3][0])).mode == BS_NL);
   WANT(DONE(bs_group_held(group, txn, base)).mode == BS_IX);
   for (table = 0; table <= PARTS; table++) WANT(held_in(group, table, txn, base) == (table == 2 ? BS_IX : BS_NL));
-  WANT(!group_slot_at(group, txn.slot)->is_in_main && group->spread == 0);
+  WANT(!group_slot_at(group, txn.slot)->is_in_main && group_count_spread(group) == 0);
   commit(txn);
   want_rest(group);
 }
@@ -1442,11 +1442,11 @@ static void what_rests_is_taken_up(void) {
   WANT(rest_in(1, slot) == 0 && DONE(bs_group_held(group, txn, files[1])).mode == BS_IX);
   WANT(held_in(group, 1, txn, base) == BS_IX && DONE(bs_group_held(group, txn, records[1][0])).mode == BS_NL);
   want_rules(group);
-  WANT(group->spread == 0);
+  WANT(group_count_spread(group) == 0);
   DONE(lock_path(txn, records[2][0], BS_S));
-  WANT(group->spread == 1);
+  WANT(group_count_spread(group) == 1);
   commit(txn);
-  WANT(rest_in(1, slot) == 3 && rest_in(2, slot) == 3 && group->spread == 0);
+  WANT(rest_in(1, slot) == 3 && rest_in(2, slot) == 3 && group_count_spread(group) == 0);
   want_rest(group);
 }
 
@@ -1500,7 +1500,7 @@ static void each_part_has_what_rests(void) {
   txn = begun();
   DONE(bs_group_insert(group, txn, files[1], NULL, 0));
   DONE(lock_path(txn, records[2][1], BS_X));
-  WANT(group->spread == 1);
+  WANT(group_count_spread(group) == 1);
   commit(txn);
   keep(2);
   txn = begun();
@@ -1726,7 +1726,7 @@ static void ends_come_between_looks(void) {
     bool is_last = i >= SLEEPERS - 2;
     sleep_in(&own[i], is_last ? 0 : 1 + i % PARTS, txns[i], is_last ? base : records[1 + i % PARTS][0], BS_S);
   }
-  WANT(__atomic_load_n(&group->spread, __ATOMIC_RELAXED) > SLEEPERS / 2);
+  WANT(group_count_spread(group) > SLEEPERS / 2);
   nanosleep(&some, NULL);
   DONE(bs_group_end(group));
   for (i = 0; i < SLEEPERS; i++) {
@@ -1827,7 +1827,7 @@ static void rows_need_one_part(void) {
     WANT(held_in(group, table, txn, spread) == mode && held_in(group, table, txn, base) == mode);
     WANT(held_in(group, table, txn, areas[0]) == mode && held_in(group, table, txn, areas[1]) == mode);
   }
-  WANT(!group_slot_at(group, txn.slot)->is_in_main && group->spread == 0);
+  WANT(!group_slot_at(group, txn.slot)->is_in_main && group_count_spread(group) == 0);
   ANSWERS(BS_TIMED_OUT, lock_for(strong, areas[1], BS_S, 1));
   commit(txn);
   commit(strong);

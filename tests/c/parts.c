@@ -20,6 +20,8 @@ typedef struct world {
   bs_node base, files[FILES], records[FILES][RECORDS], rows, index;
 } world;
 
+enum { FEW = 3 }; /* the slots of a table in stories of begins */
+
 static bs_options options_with(uint32_t parts) {
   bs_options options;
   memset(&options, 0, sizeof options);
@@ -27,14 +29,13 @@ static bs_options options_with(uint32_t parts) {
   return options;
 }
 
-static void make_world(world *w, uint32_t parts) {
-  const bs_options options = options_with(parts);
+static void make_world_by(world *w, bs_options options) {
   const uint64_t bound = 100;
   bs_txn txn;
   size_t i, j;
   memset(w, 0, sizeof *w);
   DONE(bs_table_make(&w->table, &options));
-  WANT((bs_table_group_of(w->table) != NULL) == (parts > 1));
+  WANT((bs_table_group_of(w->table) != NULL) == (options.parts > 1));
   w->base = DONE(bs_table_add_inner(w->table, NULL, 0)).node;
   for (i = 0; i < FILES; i++) w->files[i] = DONE(bs_table_add_file(w->table, &w->base, 1)).node;
   w->rows = DONE(bs_table_add_row_file(w->table, &w->base, 1)).node;
@@ -46,6 +47,10 @@ static void make_world(world *w, uint32_t parts) {
     }
   }
   DONE(bs_table_commit(w->table, txn, NULL));
+}
+
+static void make_world(world *w, uint32_t parts) {
+  make_world_by(w, options_with(parts));
 }
 
 static void end_world(world *w) {
@@ -90,21 +95,14 @@ static void options_say_how_many(void) {
   ANSWERS(BS_BAD_NUMBER, bs_table_make(&table, &options));
   options.parts = 2;
   ANSWERS(BS_BAD_NUMBER, bs_make(&manager, &options));
-  options.detect = BS_BY_WATCHER;
+  options.detect = BS_BY_WATCHER + 1;
   ANSWERS(BS_BAD_NUMBER, bs_table_make(&table, &options));
-  options.detect = BS_AT_BLOCK;
+  options.detect = BS_BY_WATCHER;
   options.transactions = 3;
   DONE(bs_table_make(&table, &options));
   ANSWERS(BS_IN_USE, bs_table_make(&table, &options));
   DONE(bs_table_end(table));
   DONE(bs_table_free(&table));
-}
-
-static bool dislikes_text(void *context, const char *text, size_t length) {
-  (void)context;
-  (void)text;
-  (void)length;
-  return false;
 }
 
 static void hears_nothing(void *context, const bs_long_wait *wait, const bs_deadlock *deadlock) {
@@ -118,23 +116,15 @@ static void what_parts_have_not_is_refused(world *w) {
   bs_txn txn = begun(w);
   bs_watcher watcher = BS_NO_WATCHER_HERE;
   bs_notices told;
-  bs_awaited awaited;
   told.count = 4;
   WANT(bs_table_hold(w->table) == NULL);
   ANSWERS(BS_NOT_HELD, bs_table_let_go(w->table));
   ANSWERS(BS_IN_PARTS, bs_table_move(w->table, txn, w->files[0], &w->base, 1, &told));
   WANT(told.count == 0);
-  ANSWERS(BS_IN_PARTS, bs_table_settle(w->table, txn, NULL));
-  ANSWERS(BS_IN_PARTS, bs_table_ask_await(w->table, txn, w->base, BS_S, NULL, NULL));
-  ANSWERS(BS_IN_PARTS, bs_table_ask_begin(w->table, NULL, NULL));
-  ANSWERS(BS_IN_PARTS, bs_table_cancel_begin(w->table, NULL));
   ANSWERS(BS_IN_PARTS, bs_table_watch(w->table, &watcher));
-  ANSWERS(BS_IN_PARTS, bs_table_awaited(w->table, &awaited, false));
   ANSWERS(BS_IN_PARTS, bs_table_on_long_wait(w->table, 1, hears_nothing, NULL));
-  ANSWERS(BS_IN_PARTS, bs_table_metrics(w->table, dislikes_text, NULL));
   ANSWERS(BS_IN_PARTS, bs_table_trace(w->table, 1));
   ANSWERS(BS_IN_PARTS, bs_table_trace_end(w->table));
-  ANSWERS(BS_IN_PARTS, bs_table_name_nodes(w->table, NULL, NULL));
   WANT(strcmp(bs_text(BS_IN_PARTS), "InParts") == 0);
   commit(w, txn);
 }
@@ -312,6 +302,468 @@ static void waits_are_timed(world *w) {
   WANT(waits.waiting == 0 && waits.longest == 0 && waits.ended[BS_END_GRANTED].nanoseconds > 0);
   ANSWERS(BS_NO_SUCH_TXN, bs_table_waited(w->table, holder));
   DONE(bs_table_await(w->table, txn, w->records[2][0], BS_S, NULL));
+  commit(w, txn);
+}
+
+/* ------------------------------------------------------------------------------------------------
+ * Ends that a callback is told, by the word of each ask. These stories are played with one part and with several.
+ */
+
+enum { WORDS = 200 }; /* more than wait for their turn at once */
+
+static pthread_mutex_t ends_latch = PTHREAD_MUTEX_INITIALIZER;
+static char words[WORDS];
+static bs_reply ends_told[WORDS];
+static size_t times_told[WORDS], told_in_all;
+static bool is_within;                      /* the callback is running, in stories of one thread */
+static void (*then_does)(bs_txn txn, bs_reply end); /* what the callback does beside, if it is not null */
+
+static void note_end(void *context, bs_txn txn, bs_reply end, void *word) {
+  size_t place = (size_t)((char *)word - words);
+  WANT(context == words && place < WORDS);
+  if (end.status == BS_DONE && end.txn.age != 0) WANT(end.txn.slot == txn.slot && end.txn.age == txn.age);
+  pthread_mutex_lock(&ends_latch);
+  ends_told[place] = end;
+  times_told[place]++;
+  told_in_all++;
+  pthread_mutex_unlock(&ends_latch);
+  if (then_does == NULL) return;
+  WANT(!is_within);
+  is_within = true;
+  then_does(txn, end);
+  is_within = false;
+}
+
+static void listen(world *w) {
+  memset(times_told, 0, sizeof times_told);
+  told_in_all = 0;
+  then_does = NULL;
+  DONE(bs_table_on_end(w->table, note_end, words));
+}
+
+/* The one end that was told since the last such call is that of this word. */
+static bs_reply was_told(size_t word, bs_status status) {
+  WANT(told_in_all == 1 && times_told[word] == 1);
+  told_in_all = 0;
+  times_told[word] = 0;
+  return ANSWERS(status, ends_told[word]);
+}
+
+static bs_reply ask_begin(world *w, size_t word, const struct timespec *until) {
+  return bs_table_ask_begin(w->table, until, &words[word]);
+}
+
+static bs_reply cancel_begin(world *w, size_t word) {
+  return bs_table_cancel_begin(w->table, &words[word]);
+}
+
+static const struct timespec long_ago = { 0, 0 }, some_day = { INT32_MAX, 0 };
+
+static void begins_are_asked_for(world *w) {
+  const struct timespec bad = { 0, -1 };
+  bs_txn own[FEW], next;
+  size_t i;
+  ANSWERS(BS_NULL_POINTER, ask_begin(w, 0, NULL));
+  listen(w);
+  ANSWERS(BS_BAD_NUMBER, ask_begin(w, 0, &bad));
+  ANSWERS(BS_NULL_POINTER, bs_table_ask_begin(NULL, NULL, words));
+  ANSWERS(BS_NULL_POINTER, bs_table_cancel_begin(NULL, words));
+  own[0] = DONE(ask_begin(w, 0, &long_ago)).txn;
+  for (i = 1; i < FEW; i++) own[i] = begun(w);
+  ANSWERS(BS_NOT_WAITING, cancel_begin(w, 0));
+  for (i = 0; i < 5; i++) ANSWERS(BS_WAITING, ask_begin(w, i, NULL));
+  ANSWERS(BS_WAITING, ask_begin(w, 2, NULL));
+  ANSWERS(BS_TOO_MANY_TXNS, bs_table_begin(w->table));
+  WANT(told_in_all == 0);
+  commit(w, own[0]);
+  next = was_told(0, BS_DONE).txn;
+  DONE(cancel_begin(w, 2));
+  was_told(2, BS_NOT_WAITING);
+  DONE(cancel_begin(w, 1));
+  was_told(1, BS_NOT_WAITING);
+  ANSWERS(BS_TOO_MANY_TXNS, bs_table_begin(w->table));
+  commit(w, next);
+  next = was_told(3, BS_DONE).txn;
+  DONE(bs_table_abort(w->table, own[1], NULL));
+  own[1] = was_told(4, BS_DONE).txn;
+  commit(w, next);
+  next = was_told(2, BS_DONE).txn;
+  WANT(held(w, next, w->base) == BS_NL);
+  commit(w, next);
+  next = begun(w);
+  ANSWERS(BS_WAITING, ask_begin(w, 0, NULL));
+  commit(w, own[1]);
+  was_told(0, BS_DONE);
+  ANSWERS(BS_WAITING, ask_begin(w, 1, NULL));
+  ANSWERS(BS_WAITING, ask_begin(w, 2, NULL));
+  DONE(bs_table_end(w->table));
+  WANT(told_in_all == 2 && ends_told[1].status == BS_NO_MANAGER && ends_told[2].status == BS_NO_MANAGER);
+  ANSWERS(BS_NO_MANAGER, ask_begin(w, 1, NULL));
+  ANSWERS(BS_NO_MANAGER, cancel_begin(w, 1));
+}
+
+static void take_all_slots(world *w, bs_txn *own) {
+  size_t i;
+  for (i = 0; i < FEW; i++) own[i] = begun(w);
+}
+
+static void asked_begins_end_at_their_times(world *w) {
+  struct timespec next;
+  bs_txn own[FEW];
+  listen(w);
+  take_all_slots(w, own);
+  ANSWERS(BS_WAITING, ask_begin(w, 0, NULL));
+  ANSWERS(BS_WAITING, ask_begin(w, 1, &long_ago));
+  ANSWERS(BS_WAITING, ask_begin(w, 2, &some_day));
+  WANT(told_in_all == 0 && DONE(bs_table_expire(w->table, &next)).count == 1);
+  WANT(next.tv_sec == some_day.tv_sec && next.tv_nsec == 0);
+  was_told(1, BS_TIMED_OUT);
+  commit(w, own[0]);
+  own[0] = was_told(0, BS_DONE).txn;
+  ANSWERS(BS_WAITING, ask_begin(w, 3, &long_ago));
+  DONE(cancel_begin(w, 2));
+  was_told(2, BS_NOT_WAITING);
+  WANT(DONE(bs_table_expire(w->table, NULL)).count == 0);
+  was_told(3, BS_TIMED_OUT);
+  commit(w, own[0]);
+  WANT(told_in_all == 0);
+  commit(w, begun(w));
+}
+
+static world *told_world;
+
+/* Each begin that is told ends at once. */
+static void commits_at_once(bs_txn txn, bs_reply end) {
+  ANSWERS(BS_DONE, end);
+  ANSWERS(BS_IN_USE, bs_table_begin_in_turn(told_world->table, NULL));
+  commit(told_world, txn);
+}
+
+/* Many begins that are asked for come one after the other in one call, and no callback is called within itself. */
+static void callbacks_end_what_has_begun(world *w) {
+  bs_txn own[FEW];
+  size_t i;
+  listen(w);
+  told_world = w;
+  take_all_slots(w, own);
+  for (i = 0; i < WORDS; i++) ANSWERS(BS_WAITING, ask_begin(w, i, NULL));
+  DONE(cancel_begin(w, WORDS - 1));
+  was_told(WORDS - 1, BS_NOT_WAITING);
+  then_does = commits_at_once;
+  commit(w, own[1]);
+  WANT(told_in_all == WORDS - 1);
+  for (i = 0; i + 1 < WORDS; i++) WANT(times_told[i] == 1);
+  then_does = NULL;
+  commit(w, begun(w));
+}
+
+/* Work that was tried before is the older one, so its transaction does not fall. */
+static void old_work_is_asked_for(world *w) {
+  bs_txn own[FEW], old, young;
+  bs_command list;
+  listen(w);
+  take_all_slots(w, own);
+  ANSWERS(BS_WAITING, bs_table_ask_begin_again(w->table, 1, NULL, &words[0]));
+  commit(w, own[0]);
+  old = was_told(0, BS_DONE).txn;
+  young = own[1];
+  DONE(bs_table_lock_path(w->table, old, w->records[0][0], BS_X, NULL));
+  DONE(bs_table_lock_path(w->table, young, w->records[1][0], BS_X, NULL));
+  list = bs_do_at(BS_DO_LOCK_PATH, young, w->records[0][0], BS_X);
+  WANT(bs_table_run(w->table, &list, 1) == 0 && list.reply.status == BS_WAITING);
+  list = bs_do_at(BS_DO_LOCK_PATH, old, w->records[1][0], BS_X);
+  WANT(bs_table_run(w->table, &list, 1) == 0 && list.reply.status == BS_WAITING);
+  DONE(bs_table_settle(w->table, old, NULL));
+  ANSWERS(BS_TXN_CONDEMNED, bs_table_commit(w->table, young, NULL));
+  DONE(bs_table_abort(w->table, young, NULL));
+  commit(w, own[2]);
+}
+
+/* A thread that sleeps for a slot, and then ends its transaction. */
+static void *sleep_for_a_slot(void *place) {
+  world *w = (world *)place;
+  commit(w, DONE(bs_table_begin_in_turn(w->table, NULL)).txn);
+  return NULL;
+}
+
+/* Threads that sleep and begins that are asked for are in one queue. */
+static void asks_and_sleepers_take_turns(world *w) {
+  bs_txn own[FEW];
+  pthread_t sleeper;
+  listen(w);
+  take_all_slots(w, own);
+  ANSWERS(BS_WAITING, ask_begin(w, 0, NULL));
+  start(&sleeper, sleep_for_a_slot, w);
+  nap();
+  nap();
+  ANSWERS(BS_WAITING, ask_begin(w, 1, NULL));
+  commit(w, own[0]);
+  own[0] = was_told(0, BS_DONE).txn;
+  nap();
+  WANT(told_in_all == 0);
+  commit(w, own[0]);
+  join(sleeper);
+  own[0] = was_told(1, BS_DONE).txn;
+  commit(w, own[0]);
+}
+
+/* A thread that asks for begins, and is told; some are cancelled, and some have little time. */
+typedef struct asker {
+  pthread_t thread;
+  size_t word;
+  pcg dice;
+  size_t begun, cancelled, late;
+} asker;
+
+static world *asked_world;
+
+static bool is_told(size_t word) {
+  bool is;
+  pthread_mutex_lock(&ends_latch);
+  is = times_told[word] != 0;
+  pthread_mutex_unlock(&ends_latch);
+  return is;
+}
+
+/* The end of a begin that was left waiting. */
+static bs_reply await_told(asker *own) {
+  bs_reply end;
+  bool is_cancelled = false;
+  if (pcg_below(&own->dice, 4) == 0) is_cancelled = cancel_begin(asked_world, own->word).status == BS_DONE;
+  while (!is_told(own->word)) {
+    if (pcg_below(&own->dice, 3) == 0) DONE(bs_table_expire(asked_world->table, NULL));
+    nap();
+  }
+  pthread_mutex_lock(&ends_latch);
+  WANT(times_told[own->word] == 1);
+  times_told[own->word] = 0;
+  end = ends_told[own->word];
+  pthread_mutex_unlock(&ends_latch);
+  if (is_cancelled) ANSWERS(BS_NOT_WAITING, end);
+  return end;
+}
+
+static void *ask_often(void *place) {
+  asker *own = (asker *)place;
+  size_t i;
+  for (i = 0; i < 60; i++) {
+    bs_reply reply = ask_begin(asked_world, own->word, pcg_below(&own->dice, 3) == 0 ? &long_ago : NULL);
+    if (reply.status == BS_WAITING) reply = await_told(own);
+    own->cancelled += reply.status == BS_NOT_WAITING;
+    own->late += reply.status == BS_TIMED_OUT;
+    if (reply.status == BS_NOT_WAITING || reply.status == BS_TIMED_OUT) continue;
+    own->begun++;
+    DONE(reply);
+    if (pcg_below(&own->dice, 2) == 0) sched_yield();
+    if (pcg_below(&own->dice, 2) == 0) commit(asked_world, reply.txn);
+    else DONE(bs_table_abort(asked_world->table, reply.txn, NULL));
+  }
+  return NULL;
+}
+
+static void threads_ask_for_begins(world *w) {
+  enum { ASKERS = 8 };
+  asker all[ASKERS];
+  bs_txn own[FEW];
+  size_t i, count = 0;
+  listen(w);
+  asked_world = w;
+  for (i = 0; i < ASKERS; i++) {
+    memset(&all[i], 0, sizeof all[i]);
+    all[i].word = i;
+    all[i].dice = pcg_new(i, 9);
+    start(&all[i].thread, ask_often, &all[i]);
+  }
+  for (i = 0; i < ASKERS; i++) {
+    join(all[i].thread);
+    count += all[i].begun + all[i].cancelled + all[i].late;
+  }
+  WANT(count == 60 * ASKERS);
+  take_all_slots(w, own);
+  for (i = 0; i < FEW; i++) commit(w, own[i]);
+}
+
+/* ------------------------------------------------------------------------------------------------
+ * What lists have left waiting, and deadlocks, without a thread that sleeps.
+ */
+
+/* A list's lock of a record waits for this holder. */
+static bs_command list_waits(world *w, bs_txn txn, bs_node record) {
+  bs_command list = bs_do_at(BS_DO_LOCK_PATH, txn, record, BS_S);
+  WANT(bs_table_run(w->table, &list, 1) == 0 && list.reply.status == BS_WAITING);
+  return list;
+}
+
+static bs_reply ask_await(world *w, const bs_command *list, const struct timespec *until, size_t word) {
+  return bs_table_ask_await(w->table, list->txn, list->reply.node, BS_S, until, &words[word]);
+}
+
+static void ends_of_lists_are_asked_for(world *w) {
+  bs_txn holder = begun(w), txn = begun(w);
+  struct timespec next;
+  bs_command list;
+  DONE(bs_table_lock_path(w->table, holder, w->records[0][0], BS_X, NULL));
+  list = list_waits(w, txn, w->records[0][0]);
+  ANSWERS(BS_NULL_POINTER, ask_await(w, &list, NULL, 0));
+  listen(w);
+  ANSWERS(BS_NOT_WAITING, bs_table_ask_await(w->table, holder, w->records[1][0], BS_S, NULL, words));
+  ANSWERS(BS_WAITING, ask_await(w, &list, &some_day, 0));
+  ANSWERS(BS_IN_USE, ask_await(w, &list, NULL, 1));
+  ANSWERS(BS_IN_USE, bs_table_await(w->table, txn, list.reply.node, BS_S, &long_ago));
+  WANT(DONE(bs_table_expire(w->table, &next)).count == 1 && next.tv_sec == some_day.tv_sec);
+  commit(w, holder);
+  was_told(0, BS_DONE);
+  WANT(held(w, txn, w->records[0][0]) == BS_S);
+  holder = begun(w);
+  DONE(bs_table_lock_path(w->table, holder, w->records[1][0], BS_X, NULL));
+  list = list_waits(w, txn, w->records[1][0]);
+  ANSWERS(BS_WAITING, ask_await(w, &list, &long_ago, 1));
+  WANT(told_in_all == 0 && DONE(bs_table_expire(w->table, NULL)).count == 0);
+  was_told(1, BS_TIMED_OUT);
+  list = list_waits(w, txn, w->records[1][0]);
+  commit(w, holder);
+  DONE(ask_await(w, &list, NULL, 2));
+  WANT(told_in_all == 0);
+  holder = begun(w);
+  DONE(bs_table_lock_path(w->table, holder, w->records[2][0], BS_X, NULL));
+  list = list_waits(w, txn, w->records[2][0]);
+  ANSWERS(BS_WAITING, ask_await(w, &list, NULL, 3));
+  DONE(bs_table_cancel(w->table, txn, NULL));
+  was_told(3, BS_NOT_WAITING);
+  commit(w, txn);
+  commit(w, holder);
+}
+
+static void deadlocks_are_settled(world *w) {
+  bs_txn old = begun(w), young = begun(w), nobody = { 1, 77777 };
+  bs_command settle = bs_do(BS_DO_SETTLE, old);
+  bs_notices told;
+  if (bs_table_group_of(w->table) != NULL && old.age > young.age) {
+    bs_txn other = old;
+    old = young;
+    young = other;
+  }
+  listen(w);
+  DONE(bs_table_lock_path(w->table, old, w->records[0][0], BS_X, NULL));
+  DONE(bs_table_lock_path(w->table, young, w->records[1][0], BS_X, NULL));
+  ANSWERS(BS_WAITING, bs_table_ask_path(w->table, old, w->records[1][0], BS_S, NULL, &words[0]));
+  DONE(bs_table_settle(w->table, old, &told));
+  WANT(told.count == 0 && told_in_all == 0);
+  ANSWERS(BS_NO_SUCH_TXN, bs_table_settle(w->table, nobody, &told));
+  ANSWERS(BS_WAITING, bs_table_ask_path(w->table, young, w->records[0][0], BS_S, NULL, &words[1]));
+  WANT(told_in_all == 0);
+  WANT(bs_table_run(w->table, &settle, 1) == 1);
+  was_told(1, BS_VICTIM);
+  ANSWERS(BS_TXN_CONDEMNED, bs_table_commit(w->table, young, NULL));
+  DONE(bs_table_abort(w->table, young, NULL));
+  was_told(0, BS_DONE);
+  commit(w, old);
+}
+
+/* ------------------------------------------------------------------------------------------------
+ * What is told of a table as it runs.
+ */
+
+/* Text that a function of the library wrote. */
+static char written[65536];
+static size_t written_length;
+
+static bool writes(void *context, const char *text, size_t length) {
+  WANT(context == written && written_length + length < sizeof written);
+  memcpy(written + written_length, text, length);
+  written_length += length;
+  written[written_length] = 0;
+  return true;
+}
+
+static bool dislikes_text(void *context, const char *text, size_t length) {
+  (void)context;
+  (void)text;
+  (void)length;
+  return false;
+}
+
+static void numbers_are_written(world *w) {
+  bool has_parts = bs_table_group_of(w->table) != NULL;
+  bs_txn txn = begun(w), other = begun(w);
+  char nodes[64];
+  ANSWERS(BS_NULL_POINTER, bs_table_metrics(w->table, NULL, NULL));
+  ANSWERS(BS_NOT_WRITTEN, bs_table_metrics(w->table, dislikes_text, NULL));
+  DONE(bs_table_lock_path(w->table, txn, w->records[0][0], BS_X, NULL));
+  list_waits(w, other, w->records[0][0]);
+  written_length = 0;
+  DONE(bs_table_metrics(w->table, writes, written));
+  WANT(strstr(written, "burlapslate_waiting 1\n") != NULL && strstr(written, "burlapslate_transactions 2\n") != NULL);
+  WANT(strstr(written, "burlapslate_transactions_limit 128\n") != NULL || BS_SLOTS != 128);
+  WANT(strstr(written, "burlapslate_begins_waiting 0\n") != NULL);
+  WANT(strstr(written, "burlapslate_locks_waited_total 1\n") != NULL);
+  snprintf(nodes, sizeof nodes, "burlapslate_nodes %d\n",
+           FILES * (RECORDS + 1) + 4 + (has_parts ? PARTS + 1 : 1));
+  WANT(strstr(written, nodes) != NULL && strstr(written, "# EOF\n") != NULL);
+  commit(w, txn);
+  commit(w, other);
+}
+
+/* A wait for a record, which a commit ends. */
+static void waits_a_while(world *w, bs_node record, size_t naps) {
+  bs_txn holder = begun(w), txn = begun(w);
+  DONE(bs_table_lock_path(w->table, holder, record, BS_X, NULL));
+  list_waits(w, txn, record);
+  while (naps-- > 0) nap();
+  commit(w, holder);
+  commit(w, txn);
+}
+
+static void the_longest_waits_are_known(world *w) {
+  bs_awaited awaited;
+  bs_node record = w->records[1][2];
+  size_t i;
+  ANSWERS(BS_NULL_POINTER, bs_table_awaited(w->table, NULL, true));
+  for (i = 0; i < 2; i++) waits_a_while(w, w->records[i][0], 1);
+  waits_a_while(w, record, 8);
+  for (i = 2; i < FILES; i++) waits_a_while(w, w->records[i][3], 1);
+  DONE(bs_table_awaited(w->table, &awaited, false));
+  WANT(awaited.count == FILES + 1 && awaited.at[0].waits == 1 && awaited.at[0].error == 0);
+  WANT(awaited.at[0].node.key == record.key && awaited.at[0].node.birth == record.birth);
+  for (i = 1; i < awaited.count; i++) WANT(awaited.at[i].nanoseconds <= awaited.at[i - 1].nanoseconds);
+  WANT(awaited.nanoseconds > awaited.at[0].nanoseconds && awaited.since >= awaited.nanoseconds);
+  for (i = 0; i < FILES; i++) waits_a_while(w, w->records[i][4], 1);
+  DONE(bs_table_awaited(w->table, &awaited, true));
+  WANT(awaited.count == BS_MOST_AWAITED && awaited.at[0].node.birth == record.birth);
+  DONE(bs_table_awaited(w->table, &awaited, false));
+  WANT(awaited.count == 0 && awaited.nanoseconds == 0);
+}
+
+/* Whether a file has this text in a line. */
+static bool has_text(FILE *file, const char *wanted) {
+  char text[256];
+  rewind(file);
+  while (fgets(text, sizeof text, file) != NULL) {
+    if (strstr(text, wanted) != NULL) return true;
+  }
+  return false;
+}
+
+static void names_node(void *context, bs_node node, char *text, size_t room) {
+  const world *w = (const world *)context;
+  if (node.key == w->base.key && node.birth == w->base.birth) snprintf(text, room, "bank");
+  if (node.key == w->files[1].key && node.birth == w->files[1].birth) snprintf(text, room, "orders");
+}
+
+static void nodes_are_named(world *w) {
+  bs_txn txn = begun(w);
+  FILE *file = tmpfile(), *later = tmpfile();
+  WANT(file != NULL && later != NULL);
+  DONE(bs_table_name_nodes(w->table, names_node, w));
+  DONE(bs_table_lock_path(w->table, txn, w->records[1][0], BS_X, NULL));
+  DONE(bs_table_lock_path(w->table, txn, w->files[0], BS_S, NULL));
+  DONE(bs_table_dump(w->table, file));
+  WANT(has_text(file, " bank\n") && has_text(file, " orders\n"));
+  DONE(bs_table_name_nodes(w->table, NULL, NULL));
+  DONE(bs_table_dump(w->table, later));
+  WANT(!has_text(later, " bank\n") && !has_text(later, " orders\n"));
+  fclose(file);
+  fclose(later);
   commit(w, txn);
 }
 
@@ -533,17 +985,38 @@ static void refused_memory_sets_no_savepoint(world *w) {
  * The program.
  */
 
-static void play(const char *name, void (*of)(world *w)) {
+/* Plays a story with a table of so many parts. A story may end its table. */
+static void play_with(bs_options options, void (*of)(world *w)) {
   world w;
+  make_world_by(&w, options);
+  of(&w);
+  if (bs_table_expire(w.table, NULL).status == BS_NO_MANAGER) DONE(bs_table_free(&w.table));
+  else end_world(&w);
+}
+
+static void play(const char *name, void (*of)(world *w)) {
   story = name;
   feed(20);
-  make_world(&w, PARTS);
-  of(&w);
-  end_world(&w);
+  play_with(options_with(PARTS), of);
+  printf("%s\n", name);
+}
+
+/* The same with one part too, with so many slots, and with deadlocks that a settle ends. */
+static void play_both(const char *name, uint32_t slots, void (*of)(world *w)) {
+  bs_options options = options_with(1);
+  options.transactions = slots;
+  options.detect = BS_BY_WATCHER;
+  story = name;
+  feed(20);
+  play_with(options, of);
+  options.parts = PARTS;
+  play_with(options, of);
   printf("%s\n", name);
 }
 
 #define PLAY(name) play(#name, name)
+#define PLAY_BOTH(name) play_both(#name, 0, name)
+#define PLAY_FEW(name) play_both(#name, FEW, name)
 
 static void play_twins(void) {
   world one, other;
@@ -569,6 +1042,17 @@ int main(void) {
   PLAY(calls_are_those_of_a_table);
   PLAY(lists_and_sessions_are_run);
   PLAY(asks_are_told);
+  PLAY_FEW(begins_are_asked_for);
+  PLAY_FEW(asked_begins_end_at_their_times);
+  PLAY_FEW(callbacks_end_what_has_begun);
+  PLAY_FEW(old_work_is_asked_for);
+  PLAY_FEW(asks_and_sleepers_take_turns);
+  PLAY_FEW(threads_ask_for_begins);
+  PLAY_BOTH(ends_of_lists_are_asked_for);
+  PLAY_BOTH(deadlocks_are_settled);
+  PLAY_BOTH(numbers_are_written);
+  PLAY_BOTH(the_longest_waits_are_known);
+  PLAY_BOTH(nodes_are_named);
   PLAY(each_part_is_dumped);
   PLAY(waits_are_timed);
   play_twins();
