@@ -2612,11 +2612,6 @@ bs_reply bs_group_deadline(bs_table_group *group, bs_txn txn, const struct times
  * Lists.
  */
 
-/* Whether a name stands for the node of an earlier command (bs_made), which it becomes then. */
-static void group_name_made(const bs_command *commands, size_t place, bs_node *node) {
-  if (node->birth == UINT64_MAX && node->key < place) *node = commands[node->key].reply.node;
-}
-
 /* A command that requests, tries or releases locks, or ends its transaction. */
 static bs_reply group_lock_made(bs_table_group *group, const bs_command *c, bs_txn txn) {
   switch (c->kind) {
@@ -2674,30 +2669,11 @@ static inline void group_tell_nobody(const bs_command *c) {
 
 /* Makes the command at this place of a list, after the nodes of earlier ones were named, and writes its reply. */
 static bs_status group_run_next(bs_table_group *group, bs_command *commands, size_t place, bs_txn begun) {
-  bs_command named = commands[place];
   bs_node parents[BS_MOST_PARENTS];
-  bs_txn none = bs_begun();
-  bool is_own = named.txn.slot == none.slot && named.txn.age == none.age;
-  size_t i;
-  group_name_made(commands, place, &named.node);
-  group_name_made(commands, place, &named.file);
-  group_name_made(commands, place, &named.index);
-  if (named.parents != NULL && named.parent_count <= BS_MOST_PARENTS) {
-    for (i = 0; i < named.parent_count; i++) {
-      parents[i] = named.parents[i];
-      group_name_made(commands, place, &parents[i]);
-    }
-    named.parents = parents;
-  }
+  bs_command named = bs_inside_named(commands, place, parents);
   group_tell_nobody(&named);
-  commands[place].reply = group_made(group, &named, is_own ? begun : named.txn);
+  commands[place].reply = group_made(group, &named, bs_inside_is_own(&named) ? begun : named.txn);
   return commands[place].reply.status;
-}
-
-/* The commands of a list after the first that was not done. */
-static void group_not_made(bs_command *commands, size_t count) {
-  size_t i;
-  for (i = 0; i < count; i++) commands[i].reply = group_only(BS_NOT_MADE);
 }
 
 size_t bs_group_run(bs_table_group *group, bs_command *commands, size_t count) {
@@ -2705,31 +2681,25 @@ size_t bs_group_run(bs_table_group *group, bs_command *commands, size_t count) {
   size_t done = 0;
   if (commands == NULL) return 0;
   while (done < count && group_run_next(group, commands, done, begun) == BS_DONE) {
-    uint32_t kind = commands[done].kind;
-    if (kind == BS_DO_BEGIN || kind == BS_DO_BEGIN_AGAIN || kind == BS_DO_RENEW) begun = commands[done].reply.txn;
+    if (bs_inside_begins(commands[done].kind)) begun = commands[done].reply.txn;
     done++;
   }
-  if (done < count) group_not_made(commands + done + 1, count - done - 1);
+  if (done < count) bs_inside_not_made(commands + done + 1, count - done - 1);
   return done;
 }
 
 /* Makes the next try of a list. What is no try is refused. */
 static bs_status group_try_next(bs_table_group *group, bs_command *next) {
-  bool is_try = next->kind == BS_DO_TRY || next->kind == BS_DO_TRY_PATH || next->kind == BS_DO_TRY_ROW ||
-                next->kind == BS_DO_TRY_ROW_PATH;
   group_tell_nobody(next);
-  next->reply = is_try ? group_lock_made(group, next, next->txn) : group_only(BS_BAD_NUMBER);
+  next->reply = bs_inside_is_try(next->kind) ? group_lock_made(group, next, next->txn) : group_only(BS_BAD_NUMBER);
   return next->reply.status;
 }
 
 size_t bs_group_try_first(bs_table_group *group, bs_command *commands, size_t count) {
   size_t place;
   if (commands == NULL) return count;
-  for (place = 0; place < count; place++) {
-    bs_status status = group_try_next(group, &commands[place]);
-    if (status != BS_WOULD_BLOCK && status != BS_NEED_PARENTS && status != BS_NO_SUCH_NODE) break;
-  }
-  if (place < count) group_not_made(commands + place + 1, count - place - 1);
+  for (place = 0; place < count && bs_inside_is_passed(group_try_next(group, &commands[place])); place++) continue;
+  if (place < count) bs_inside_not_made(commands + place + 1, count - place - 1);
   return place;
 }
 
@@ -2902,14 +2872,13 @@ bs_reply bs_inside_session_end(bs_session *session) {
 
 size_t bs_inside_session_run(bs_session *session, bs_command *commands, size_t count) {
   bs_table_group *group = bs_table_group_of(session->table);
-  const bs_txn none = bs_begun();
   bs_reply begun = group_only(BS_DONE);
   size_t done = 0;
   if (count == 0) return 0;
   if (group_named(group, session->txn) == NULL) begun = group_session_has(group, session, bs_group_begin(group));
   for (; begun.status == BS_DONE && done < count; done++) {
     bs_command *next = &commands[done];
-    bool is_own = next->txn.slot == none.slot && next->txn.age == none.age;
+    bool is_own = bs_inside_is_own(next);
     group_tell_nobody(next);
     if (is_own && next->kind == BS_DO_COMMIT) next->reply = bs_inside_session_commit(session);
     else group_run_next(group, commands, done, session->txn);
@@ -2920,7 +2889,7 @@ size_t bs_inside_session_run(bs_session *session, bs_command *commands, size_t c
     group_tell_nobody(commands);
     commands[0].reply = begun;
   }
-  if (done < count) group_not_made(commands + done + 1, count - done - 1);
+  if (done < count) bs_inside_not_made(commands + done + 1, count - done - 1);
   return done;
 }
 

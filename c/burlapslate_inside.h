@@ -106,6 +106,60 @@ bool bs_call_start(pthread_t *thread, void *(*run)(void *), void *place);
 void bs_call_engine(void (*function)(void *place), void *place);
 
 /* ------------------------------------------------------------------------------------------------
+ * Lists of commands, of a table or a group. No latch is needed.
+ */
+
+/* Whether a command is of the transaction that the list began; whether it begins one; whether it is a try. */
+static inline bool bs_inside_is_own(const bs_command *c) {
+  const bs_txn own = bs_begun();
+  return c->txn.slot == own.slot && c->txn.age == own.age;
+}
+
+static inline bool bs_inside_begins(uint32_t kind) {
+  return kind == BS_DO_BEGIN || kind == BS_DO_BEGIN_AGAIN || kind == BS_DO_RENEW;
+}
+
+static inline bool bs_inside_is_try(uint32_t kind) {
+  return kind == BS_DO_TRY || kind == BS_DO_TRY_PATH || kind == BS_DO_TRY_ROW || kind == BS_DO_TRY_ROW_PATH;
+}
+
+/* Whether a try that was answered so is passed over: it would block, its record or row has moved, or it is gone. */
+static inline bool bs_inside_is_passed(bs_status status) {
+  return status == BS_WOULD_BLOCK || status == BS_NEED_PARENTS || status == BS_NO_SUCH_NODE;
+}
+
+/* Whether a name stands for the node of an earlier command (bs_made); and names the node then, if that has one. */
+static inline bool bs_inside_is_made(bs_node node) {
+  return node.birth == UINT64_MAX;
+}
+
+static inline void bs_inside_name_made(const bs_command *commands, size_t place, bs_node *node) {
+  if (bs_inside_is_made(*node) && node->key < place) *node = commands[node->key].reply.node;
+}
+
+/* The command at a place of a list, with all its nodes named so; `parents` has room for the names of its parents. */
+static inline bs_command bs_inside_named(const bs_command *commands, size_t place, bs_node parents[BS_MOST_PARENTS]) {
+  bs_command named = commands[place];
+  size_t i;
+  bs_inside_name_made(commands, place, &named.node);
+  bs_inside_name_made(commands, place, &named.file);
+  bs_inside_name_made(commands, place, &named.index);
+  if (named.parents == NULL || named.parent_count > BS_MOST_PARENTS) return named;
+  for (i = 0; i < named.parent_count; i++) {
+    parents[i] = named.parents[i];
+    bs_inside_name_made(commands, place, &parents[i]);
+  }
+  named.parents = parents;
+  return named;
+}
+
+/* These commands of a list were not made. */
+static inline void bs_inside_not_made(bs_command *commands, size_t count) {
+  size_t i;
+  for (i = 0; i < count; i++) commands[i].reply = bs_call_only(BS_NOT_MADE);
+}
+
+/* ------------------------------------------------------------------------------------------------
  * Of burlapslate_shared.c: what burlapslate_group.c does with its tables. No latch is needed up to bs_inside_tell_ends;
  * enter, take and release are about the latch; all others are made with it held. What they name is the table's own.
  */

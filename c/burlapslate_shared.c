@@ -2164,12 +2164,6 @@ static inline bs_reply table_made(bs_table *table, const bs_command *c, bs_txn t
   }
 }
 
-/* For those after the first that was not done. */
-static void table_not_made(bs_command *commands, size_t count) {
-  size_t i;
-  for (i = 0; i < count; i++) commands[i].reply = bs_call_only(BS_NOT_MADE);
-}
-
 /* Makes a command whose nodes are named, and answers its reply. Those whose wait it has ended go on after it. */
 static TABLE_IN_LINE bs_reply table_make_one(bs_table *table, const bs_command *c, bs_txn txn) {
   bs_notices *told = table_list_of(table, c->told);
@@ -2183,15 +2177,6 @@ static TABLE_IN_LINE bs_reply table_make_one(bs_table *table, const bs_command *
   return reply;
 }
 
-/* Whether a command names a node by bs_made; and names the node then, if an earlier command has one. */
-static inline bool table_is_made(bs_node node) {
-  return node.birth == UINT64_MAX;
-}
-
-static void table_name_made(const bs_command *commands, size_t place, bs_node *node) {
-  if (table_is_made(*node) && node->key < place) *node = commands[node->key].reply.node;
-}
-
 /* Whether a command was refused since a name is no node's, or no file's of rows. */
 static inline bool table_names_none(bs_status status) {
   return status == BS_NO_SUCH_NODE || status == BS_NOT_ROWS;
@@ -2199,37 +2184,26 @@ static inline bool table_names_none(bs_status status) {
 
 static bool table_names_made(const bs_command *c) {
   size_t i;
-  bool any = table_is_made(c->node) || table_is_made(c->file) || table_is_made(c->index);
+  bool any = bs_inside_is_made(c->node) || bs_inside_is_made(c->file) || bs_inside_is_made(c->index);
   if (c->parents == NULL || c->parent_count > BS_MOST_PARENTS) return any;
-  for (i = 0; i < c->parent_count; i++) any |= table_is_made(c->parents[i]);
+  for (i = 0; i < c->parent_count; i++) any |= bs_inside_is_made(c->parents[i]);
   return any;
 }
 
 /* Makes a command again that was refused, since it names nodes so, and such a name is no node's. */
 static TABLE_APART bs_reply table_make_named(bs_table *table, const bs_command *commands, size_t place, bs_txn txn) {
-  bs_command named = commands[place];
   bs_node parents[BS_MOST_PARENTS];
-  size_t i;
-  if (!table_names_made(&named)) return named.reply;
-  table_name_made(commands, place, &named.node);
-  table_name_made(commands, place, &named.file);
-  table_name_made(commands, place, &named.index);
-  if (named.parents != NULL && named.parent_count <= BS_MOST_PARENTS) {
-    for (i = 0; i < named.parent_count; i++) {
-      parents[i] = named.parents[i];
-      table_name_made(commands, place, &parents[i]);
-    }
-    named.parents = parents;
-  }
+  bs_command named;
+  if (!table_names_made(&commands[place])) return commands[place].reply;
+  named = bs_inside_named(commands, place, parents);
   return table_make_one(table, &named, txn);
 }
 
 /* Makes the command at this place of a list, and writes its reply. It is inlined in each loop: a call for each command
  * of a list costs a twentieth of it. */
 static TABLE_IN_LINE bs_status table_run_next(bs_table *table, bs_command *commands, size_t place, bs_txn begun) {
-  bs_txn none = bs_begun();
   bs_command *next = &commands[place];
-  bs_txn txn = next->txn.slot == none.slot && next->txn.age == none.age ? begun : next->txn;
+  bs_txn txn = bs_inside_is_own(next) ? begun : next->txn;
   next->reply = table_make_one(table, next, txn);
   if (__builtin_expect(next->reply.status == BS_DONE, 1)) return BS_DONE;
   if (table_names_none(next->reply.status)) next->reply = table_make_named(table, commands, place, txn);
@@ -2239,7 +2213,7 @@ static TABLE_IN_LINE bs_status table_run_next(bs_table *table, bs_command *comma
 /* For a list whose table was not entered: the first command is refused so. */
 static TABLE_APART size_t table_none_made(bs_table *table, bs_command *commands, size_t count) {
   commands[0].reply = table_tell_none(table, commands[0].told);
-  table_not_made(commands + 1, count - 1);
+  bs_inside_not_made(commands + 1, count - 1);
   return 0;
 }
 
@@ -2247,13 +2221,8 @@ static TABLE_APART size_t table_none_made(bs_table *table, bs_command *commands,
 static size_t table_leave_list(bs_table *table, bs_command *commands, size_t done, size_t count) {
   table_hand_on(table);
   table_release(table);
-  if (done < count) table_not_made(commands + done + 1, count - done - 1);
+  if (done < count) bs_inside_not_made(commands + done + 1, count - done - 1);
   return done;
-}
-
-/* Whether a command of this kind begins a transaction. */
-static inline bool table_begins(uint32_t kind) {
-  return kind == BS_DO_BEGIN || kind == BS_DO_BEGIN_AGAIN || kind == BS_DO_RENEW;
 }
 
 size_t bs_table_run(bs_table *table, bs_command *commands, size_t count) {
@@ -2264,7 +2233,7 @@ size_t bs_table_run(bs_table *table, bs_command *commands, size_t count) {
   if (!table_enter(table)) return table_none_made(table, commands, count);
   while (done < count) {
     if (table_run_next(table, commands, done, begun) != BS_DONE) break;
-    if (table_begins(commands[done].kind)) begun = commands[done].reply.txn;
+    if (bs_inside_begins(commands[done].kind)) begun = commands[done].reply.txn;
     done++;
   }
   return table_leave_list(table, commands, done, count);
@@ -2281,11 +2250,10 @@ static bs_reply table_session_goes_on(bs_table *table, bs_session *session) {
 
 /* Makes the commands of a list for a session, up to the first that is not done; how many are. */
 static size_t table_run_in_session(bs_table *table, bs_session *session, bs_command *commands, size_t count) {
-  const bs_txn none = bs_begun();
   size_t done = 0;
   for (; done < count; done++) {
     bs_command *next = &commands[done];
-    bool is_own = next->txn.slot == none.slot && next->txn.age == none.age;
+    bool is_own = bs_inside_is_own(next);
     if (is_own && next->kind == BS_DO_COMMIT) {
       next->reply = table_session_commit(table, session, table_list_of(table, next->told));
     } else {
@@ -2316,9 +2284,7 @@ size_t bs_session_run(bs_session *session, bs_command *commands, size_t count) {
 
 /* Makes the next try of a list, and writes its reply. What is no try is refused. */
 static TABLE_APART bs_status table_try_one(bs_table *table, bs_command *next) {
-  bool is_try = next->kind == BS_DO_TRY || next->kind == BS_DO_TRY_PATH || next->kind == BS_DO_TRY_ROW ||
-                next->kind == BS_DO_TRY_ROW_PATH;
-  if (is_try) {
+  if (bs_inside_is_try(next->kind)) {
     next->reply = table_make_one(table, next, next->txn);
     return next->reply.status;
   }
@@ -2327,19 +2293,14 @@ static TABLE_APART bs_status table_try_one(bs_table *table, bs_command *next) {
   return BS_BAD_NUMBER;
 }
 
-/* Whether a try that was answered so is passed over: it would block, its record or row has moved, or it is gone. */
-static bool table_is_passed(bs_status status) {
-  return status == BS_WOULD_BLOCK || status == BS_NEED_PARENTS || status == BS_NO_SUCH_NODE;
-}
-
 size_t bs_table_try_first(bs_table *table, bs_command *commands, size_t count) {
   TABLE_BY_GROUP(table, bs_group_try_first(table->group, commands, count));
   size_t place = 0;
   if (commands == NULL || count == 0) return count;
   if (!table_enter(table)) return table_none_made(table, commands, count);
-  while (place < count && table_is_passed(table_try_one(table, &commands[place]))) place++;
+  while (place < count && bs_inside_is_passed(table_try_one(table, &commands[place]))) place++;
   table_release(table);
-  if (place < count) table_not_made(commands + place + 1, count - place - 1);
+  if (place < count) bs_inside_not_made(commands + place + 1, count - place - 1);
   return place;
 }
 

@@ -37,12 +37,12 @@ faults() {
   done
   cat <<'FAULTS'
 try-row-reads-null	s/  if (row->keys == NULL \&\& row->count != 0) return bs_call_null();//
-skip-takes-a-later-one	s/table_is_passed(table_try_one(table, &commands\[place\]))) place++;/table_is_passed(table_try_one(table, \&commands[place]))) place += 2;/
-skip-passes-refusals	s/table_is_passed(table_try_one(table, &commands\[place\]))) place++;/table_try_one(table, \&commands[place]) != BS_DONE) place++;/
+skip-takes-a-later-one	s/bs_inside_is_passed(table_try_one(table, &commands\[place\]))) place++;/bs_inside_is_passed(table_try_one(table, \&commands[place]))) place += 2;/
+skip-passes-refusals	s/bs_inside_is_passed(table_try_one(table, &commands\[place\]))) place++;/table_try_one(table, \&commands[place]) != BS_DONE) place++;/
 skip-ends-at-what-moved	s/ || status == BS_NEED_PARENTS || / || /
 skip-ends-at-what-is-gone	s/ || status == BS_NO_SUCH_NODE;/;/
-skip-makes-any-command	s/^  if (is_try) {/  if (true) {/
-skip-keeps-replies	s/  if (place < count) table_not_made(.*//
+skip-makes-any-command	/ table_try_one(/,/^}/s/^  if (bs_inside_is_try(next->kind)) {/  if (true) {/
+skip-keeps-replies	/^size_t bs_table_try_first(/,/^}/s/^  if (place < count) .*//
 other-keys-wake-nobody	s/^ *status == BS_OTHER_KEYS;/false;/
 run-forgets-to-wake	/ table_make_one(/,/^}/s/^  table_wake(.*//
 run-forgets-names	s/, c->kind == BS_DO_CANCEL || c->kind == BS_DO_ABORT);/, false);/
@@ -53,7 +53,7 @@ instant-came-and-is-not-known	/table_became(/,/^}/s/^  if (reply.status != BS_NO
 list-tells-its-own	/ table_made_waiting(/,/^}/s/^  table_tell_all_but(told, txn);//
 instant-tells-nobody	s/^      table_tell_too(told, &more);//
 run-says-not-for-what	/ table_made_waiting(/,/^}/s/^  reply.node = wait.node;//
-run-takes-a-slot-for-begun	s/  bs_txn txn = next->txn.slot == none.slot .*/  bs_txn txn = next->txn.age == none.age ? begun : next->txn;/
+run-takes-a-slot-for-begun	/ bs_inside_is_own(/,/^}/s/c->txn.slot == own.slot \&\& //
 list-path-tells-the-last	s/ table_tell_too(told, &table->told);/ *told = table->told;/
 list-path-tells-the-first	s/    if (told != &table->told) table_tell_too(.*//
 nobody-is-named	s/by_name || told->count/told->count/
@@ -67,8 +67,8 @@ watch-forgets-earlier-waits	/ table_blocked(bs_table/,/^}/s/^    table->waited =
 watch-is-not-woken	s/^  pthread_cond_signal(&table->began);//
 watch-forgets-to-wake	s/  table_wake(table, \(table_make_settle(.*\)\.status, &table->told, false);/  \1;/
 sleeper-is-cancelled	/table_doze(/,/^}/s/  pthread_setcancelstate(PTHREAD_CANCEL_DISABLE, &state);/  state = PTHREAD_CANCEL_ENABLE;/
-list-keeps-replies	s/  if (done < count) table_not_made(.*//
-dump-keeps-the-latch	s/  if (copy->manager == NULL) bs_table_let_go(copy->table);//
+list-keeps-replies	/ table_leave_list(/,/^}/s/^  if (done < count) .*//
+dump-keeps-the-latch	/^static void dump_let_go(/,/^}/s/^  if (copy->of.manager == NULL) .*//
 watch-takes-signals	s/  pthread_sigmask(SIG_SETMASK, &blocked, &before);/  pthread_sigmask(SIG_SETMASK, NULL, \&before);/
 watch-forgets-what-it-saw	s/    seen = board.epoch;/    seen = 0;/
 watch-sees-one-deadlock	s/  while (youngest.status == BS_DONE \&\& /  if (youngest.status == BS_DONE \&\& /
@@ -313,10 +313,10 @@ insert-path-keeps-all	s/^  if (keep == BS_KEEP_NOTHING \&\& reply.status != BS_D
 insert-path-keeps-nothing	s/^  if (keep == BS_KEEP_NOTHING \&\& reply.status != BS_DONE) table_give_back(.*/  if (reply.status != BS_DONE) table_give_back(table, txn, mark);/
 insert-path-takes-any-keep	/ table_inserted_by_path(/,/^}/s/^  if (keep > BS_KEEP_WAY) return bs_call_only(BS_BAD_NUMBER);//
 listed-insert-keeps-nothing	s/c->keys, c->key_count, c->keep);$/c->keys, c->key_count, BS_KEEP_NOTHING);/
-made-is-a-later-one	s/  if (table_is_made(\*node) \&\& node->key < place) /  if (table_is_made(*node)) /
-made-node-has-no-name	/ table_make_named(/,/^}/s/^  table_name_made(commands, place, &named.node);//
-made-file-has-no-name	/ table_make_named(/,/^}/s/^  table_name_made(commands, place, &named.file);//
-made-parents-have-no-names	/ table_make_named(/,/^}/s/^      table_name_made(.*//
+made-is-a-later-one	s/  if (bs_inside_is_made(\*node) \&\& node->key < place) /  if (bs_inside_is_made(*node)) /
+made-node-has-no-name	/ bs_inside_named(/,/^}/s/^  bs_inside_name_made(commands, place, &named.node);//
+made-file-has-no-name	/ bs_inside_named(/,/^}/s/^  bs_inside_name_made(commands, place, &named.file);//
+made-parents-have-no-names	/ bs_inside_named(/,/^}/s/^    bs_inside_name_made(.*//
 made-parents-are-not-looked-at	/ table_names_made(/,/^}/s/^  for (i = 0; .*//
 list-marks-nothing	s/    case BS_DO_MARK: return bs_mark(&table->manager, txn);/    case BS_DO_MARK: return bs_call_only(BS_DONE);/
 second-thread-watches	s/^  if (table->is_watched) return table_leave(table, bs_call_only(BS_IN_USE));//
@@ -454,10 +454,10 @@ group-sees-no-asks	/^bool bs_inside_any_waits(/,/^}/s/return any != 0;/return an
 group-lists-bar-their-transaction	/ group_end_list(/,/^}/s/^  __atomic_fetch_and(.*//
 group-awaits-without-a-look	/ group_doze(/,/^}/s/^    group_look_again(.*//
 group-awaits-cancel-nothing	/ group_await_end(/,/^}/s/^    group_cancel_wait(.*//
-group-lists-name-no-made-node	/^static void group_name_made(/,/^}/s/^  if (.*//
-group-lists-forget-who-began	/^size_t bs_group_run(/,/^}/s/^    if (kind == BS_DO_BEGIN .*//
+group-lists-name-no-made-node	/ group_run_next(/,/^}/s/bs_inside_named(commands, place, parents)/commands[place]/
+group-lists-forget-who-began	/^size_t bs_group_run(/,/^}/s/^    if (bs_inside_begins(.*//
 group-lists-go-on-after-a-refusal	/^size_t bs_group_run(/,/^}/s/ == BS_DONE) {/ != BS_NOT_MADE) {/
-group-tries-pass-a-refusal	/^size_t bs_group_try_first(/,/^}/s/status != BS_WOULD_BLOCK \&\&/status != BS_WOULD_BLOCK \&\& status != BS_BAD_NUMBER \&\&/
+group-tries-pass-a-refusal	/^size_t bs_group_try_first(/,/^}/s/bs_inside_is_passed(group_try_next(group, &commands\[place\]))/group_try_next(group, \&commands[place]) != BS_DONE/
 group-turns-are-in-no-order	/ group_begin_by_turn(/,/^}/s/bs_table_lock(turns->table, turn, turns->node, BS_X, until)/bs_table_lock(turns->table, turn, turns->node, BS_IS, until)/
 group-begins-pass-the-queue	/^bs_reply bs_group_begin_again(/,/^}/s/^  if (__builtin_expect(__atomic_load_n(&group->queued.*//
 group-frees-slots-for-nobody	/ group_free_slot(/,/^}/s/^  if (__builtin_expect(.*//
@@ -522,7 +522,7 @@ says() {
 # found NAME EDIT: whether the fault is found.
 found() {
   local there=$work/$1
-  mkdir -p "$there" && cp "$top"/c/*.[ch] "$there/" && sed -i "$2" "$there"/*.c || return 1
+  mkdir -p "$there" && cp "$top"/c/*.[ch] "$there/" && sed -i "$2" "$there"/*.[ch] || return 1
   ! diff -q "$top/c" "$there" -x out >/dev/null || { echo "faults.sh: $1 changes nothing"; return 1; }
   if ! cmp -s "$top/c/burlapslate_group.c" "$there/burlapslate_group.c"; then
     says "$there" group_asks && says "$there" parts && says "$there" groups
