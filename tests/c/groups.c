@@ -2218,6 +2218,12 @@ typedef struct crossed_file {
 static crossed_file crossed[CROSSED];
 static uint32_t crossed_now; /* atomic: the one that is used; after it has all its indexes the next is */
 
+/* The word of an ask: whose it is, and whether it is for a begin. */
+typedef struct crowd_word {
+  struct crowd_thread *own;
+  bool is_begin;
+} crowd_word;
+
 /* A thread of the crowd. */
 typedef struct crowd_thread {
   pthread_t thread;
@@ -2227,7 +2233,8 @@ typedef struct crowd_thread {
   uint64_t since;
   size_t claims;
   uint64_t *at[MOST_CLAIMS];
-  uint64_t commits, aborts, victims, times, strong, checks, ended, changes, rollbacks, asks, cancels;
+  uint64_t commits, aborts, victims, times, strong, checks, ended, changes, rollbacks, asks, cancels, begins;
+  crowd_word of_locks, of_begins;
   bs_reply end;                 /* of its ask, once it was told */
   bool is_told;                 /* atomic, as the next two */
   uint64_t named_slot, named_age; /* the name of its transaction, for who cancels its wait */
@@ -2315,8 +2322,11 @@ static const struct timespec *some_time(crowd_thread *own, struct timespec *time
 
 /* The callback of the crowd's group. */
 static void hear_in_crowd(void *context, bs_txn txn, bs_reply end, void *word) {
-  crowd_thread *own = (crowd_thread *)word;
-  WANT(context == &crowd_end && txn.slot == own->txn.slot && txn.age == own->txn.age);
+  const crowd_word *of = (const crowd_word *)word;
+  crowd_thread *own = of->own;
+  bs_txn named = of->is_begin ? end.txn : own->txn;
+  WANT(context == &crowd_end && txn.slot == named.slot && txn.age == named.age);
+  WANT(!__atomic_load_n(&own->is_told, __ATOMIC_RELAXED));
   own->end = end;
   __atomic_store_n(&own->is_told, true, __ATOMIC_RELEASE);
 }
@@ -2332,10 +2342,12 @@ static bs_reply hear_of_ask(crowd_thread *own, bs_reply reply) {
   return own->end;
 }
 
-/* Awaits what a list has left waiting. */
+/* Awaits what a list has left waiting: it sleeps, or asks for that end. */
 static bs_reply run_and_await(crowd_thread *own, bs_command *list, const struct timespec *until) {
   bs_group_run(group, list, 1);
-  return list->reply.status == BS_WAITING ? bs_group_await(group, own->txn, until) : list->reply;
+  if (list->reply.status != BS_WAITING) return list->reply;
+  if (draw(own, 2) == 0) return bs_group_await(group, own->txn, until);
+  return hear_of_ask(own, bs_group_ask_await(group, own->txn, until, &own->of_locks));
 }
 
 /* Locks a node: the thread sleeps in the call, it asks, or a list leaves it waiting. */
@@ -2343,7 +2355,7 @@ static bs_reply lock_node(crowd_thread *own, bs_node node, bs_mode mode, const s
   bs_command list = bs_do_at(BS_DO_LOCK_PATH, own->txn, node, mode);
   uint32_t way = draw(own, 4);
   __atomic_store_n(&own->is_told, false, __ATOMIC_RELAXED);
-  if (way == 0) return hear_of_ask(own, bs_group_ask_path(group, own->txn, node, mode, until, own));
+  if (way == 0) return hear_of_ask(own, bs_group_ask_path(group, own->txn, node, mode, until, &own->of_locks));
   if (way == 1) return run_and_await(own, &list, until);
   return bs_group_lock_path(group, own->txn, node, mode, until);
 }
@@ -2359,7 +2371,8 @@ static bs_reply lock_row(crowd_thread *own, bs_node file, uint64_t number, const
   list.key_count = count;
   __atomic_store_n(&own->is_told, false, __ATOMIC_RELAXED);
   if (way == 0) {
-    return hear_of_ask(own, bs_group_ask_row_path(group, own->txn, file, number, keys, count, mode, until, own));
+    return hear_of_ask(
+        own, bs_group_ask_row_path(group, own->txn, file, number, keys, count, mode, until, &own->of_locks));
   }
   if (way == 1) return run_and_await(own, &list, until);
   return bs_group_lock_row_path(group, own->txn, file, number, keys, count, mode, until);
@@ -2597,13 +2610,29 @@ static void touch_something(crowd_thread *own, bool *fell) {
   else touch_row(own, fell);
 }
 
+/* Asks for a begin, and may cancel that. */
+static bs_reply ask_begin(crowd_thread *own, const struct timespec *until) {
+  bool is_cancelled = false;
+  bs_reply reply;
+  __atomic_store_n(&own->is_told, false, __ATOMIC_RELAXED);
+  reply = bs_group_ask_begin_again(group, own->since, until, &own->of_begins);
+  if (reply.status != BS_WAITING) return reply;
+  own->begins++;
+  if (draw(own, 4) == 0) is_cancelled = bs_group_cancel_begin(group, &own->of_begins).status == BS_DONE;
+  reply = hear_of_ask(own, reply);
+  WANT((reply.status == BS_NOT_WAITING) == is_cancelled);
+  return reply;
+}
+
 /* Begins a transaction; others may have all slots. */
 static void begin_one(crowd_thread *own) {
   bs_reply reply = bs_group_begin_again(group, own->since);
   while (reply.status == BS_TOO_MANY_TXNS) {
     struct timespec time = moment_in(draw(own, 2000));
-    bs_reply slept = bs_group_begin_again_in_turn(group, own->since, draw(own, 2) == 0 ? NULL : &time);
-    reply = slept.status == BS_TIMED_OUT ? bs_group_begin_again(group, own->since) : slept;
+    const struct timespec *until = draw(own, 2) == 0 ? NULL : &time;
+    if (draw(own, 2) == 0) reply = ask_begin(own, until);
+    else reply = bs_group_begin_again_in_turn(group, own->since, until);
+    if (reply.status == BS_TIMED_OUT || reply.status == BS_NOT_WAITING) reply = bs_group_begin_again(group, own->since);
   }
   own->txn = DONE(reply).txn;
   __atomic_store_n(&own->named_slot, own->txn.slot, __ATOMIC_RELAXED);
@@ -2694,6 +2723,8 @@ static void crowd(uint32_t threads, uint32_t slots, uint32_t parts, uint32_t str
   for (i = 0; i < threads; i++) {
     all[i].number = i;
     all[i].dice = pcg_new(seed, i);
+    all[i].of_locks.own = all[i].of_begins.own = &all[i];
+    all[i].of_begins.is_begin = true;
     start(&all[i].thread, in_crowd, &all[i]);
   }
   for (i = 0; i < threads; i++) {
@@ -2709,14 +2740,16 @@ static void crowd(uint32_t threads, uint32_t slots, uint32_t parts, uint32_t str
     sum.rollbacks += all[i].rollbacks;
     sum.asks += all[i].asks;
     sum.cancels += all[i].cancels;
+    sum.begins += all[i].begins;
   }
   printf("crowd of %u, %u slots, %u parts, %u in 1000 strong%s: %llu commits, %llu aborts, %llu victims, ", threads, slots,
          parts, strong, keeps ? ", kept" : "", (unsigned long long)sum.commits, (unsigned long long)sum.aborts,
          (unsigned long long)sum.victims);
   printf("%llu late, %llu inner, %llu checks, %llu indexes, ", (unsigned long long)sum.times,
          (unsigned long long)sum.strong, (unsigned long long)sum.checks, (unsigned long long)sum.changes);
-  printf("%llu ended by them, %llu rolled back, %llu asks waited, %llu cancels\n", (unsigned long long)sum.ended,
-         (unsigned long long)sum.rollbacks, (unsigned long long)sum.asks, (unsigned long long)sum.cancels);
+  printf("%llu ended by them, %llu rolled back, %llu asks waited, %llu begins, %llu cancels\n",
+         (unsigned long long)sum.ended, (unsigned long long)sum.rollbacks, (unsigned long long)sum.asks,
+         (unsigned long long)sum.begins, (unsigned long long)sum.cancels);
   end_world();
   world_keeps = 0;
   world_parts = PARTS;
