@@ -121,16 +121,25 @@ typedef struct table_asks {
 /* A table is ending as soon as it must wake all sleepers, and ended when its manager is gone. */
 typedef enum table_stage { TABLE_OPEN = 0, TABLE_ENDING, TABLE_ENDED } table_stage;
 
-/* All fields but the latch and `looks` are read and written with the latch held. What each call reads and writes comes
- * first, up to the count of `told`: 88 bytes, which are in two cache lines wherever malloc puts a table. */
+/* The bytes of a cache line. */
+enum { TABLE_LINE = 64 };
+
+/* All fields after `pauses` are read and written with the latch held. What each call reads alone is in the first cache
+ * line, which so stays in the caches of all processors; what each call writes, up to the count of `told`, in the second. */
 struct bs_table {
-  pthread_mutex_t latch;
   bs_table_group *group;          /* null; of a table with parts its group, and then nothing else is used. No latch is
                                    * needed: it stays as long as the table does */
-  bs_manager manager;
+  bs_manager manager;             /* its place never changes; whether it is open is read with the latch */
+  void *block;                    /* what malloc gave */
+  uint32_t looks, pauses;         /* how often a thread that finds the latch held retries before it sleeps, and how often
+                                   * it pauses before each retry */
+  bs_inside_look *look;           /* null, or what each sleeper calls now and then */
+  void *look_context;
+  pthread_mutex_t latch __attribute__((aligned(TABLE_LINE)));
   table_stage stage;
   bool is_due;                    /* this hold has ended waits: waiters are woken or told as it ends */
   bool is_traced;                 /* it has a trace */
+  bool has_rested;                /* a transaction of a session has rested: one may rest still */
   size_t queued;                  /* how many begins wait for a slot */
   bs_notices told;                /* by the last command whose caller wanted no list */
   table_asks *asks;               /* null if nobody can ask without a sleep */
@@ -139,13 +148,10 @@ struct bs_table {
                                    * thread watched then: the first board of one that starts later has all waits */
   bs_slots to_wake;               /* the slots whose sleepers must be woken after this hold */
   bs_table *held_before;          /* if bs_table_hold holds this one: what its holder held before */
-  uint32_t looks, pauses;         /* how often a thread that finds the latch held retries before it sleeps, and how often
-                                   * it pauses before each retry */
   pthread_cond_t ended[BS_SLOTS]; /* by slot: a wait is over */
   table_waiter *waiters[BS_SLOTS]; /* by slot: who awaits its end */
   table_deadline deadlines[BS_SLOTS]; /* by slot: of the transaction of this age, and of no later one */
   table_instant instants[BS_SLOTS]; /* by slot: for which lock it waited that a list requested, up to its next wait */
-  bool has_rested;                /* a transaction of a session has rested: one may rest still */
   size_t to_tell;                 /* how many ends of asks must be told, and asks that tell others' before they end */
   pthread_cond_t left;            /* the last sleeper has left an ending table, or the last end was told */
   bool is_watched;                /* there is a thread that watches, and it looks by `eye` */
@@ -157,8 +163,6 @@ struct bs_table {
   bs_call_namer namer;            /* how the engine names nodes, in dumps */
   bs_running running;             /* the times of its waits */
   bs_trace *trace;                /* null if it has none */
-  bs_inside_look *look;           /* null, or what each sleeper calls now and then */
-  void *look_context;
 };
 
 /* Rare code is not inlined, so that the path of each call is short. What each caller gives another constant is: so a
@@ -881,12 +885,22 @@ static TABLE_APART bs_reply table_no_sleep(bs_table *table) {
  * Tables.
  */
 
+/* A place for a table, whose fields are zero; null if memory is refused. */
+static bs_table *table_new_place(void) {
+  void *block = malloc(sizeof(bs_table) + TABLE_LINE);
+  bs_table *table;
+  if (block == NULL) return NULL;
+  table = (bs_table *)(((uintptr_t)block + TABLE_LINE - 1) & ~(uintptr_t)(TABLE_LINE - 1));
+  memset(table, 0, sizeof *table);
+  table->block = block;
+  return table;
+}
+
 /* A new table, with no manager yet; null if memory is refused. */
 static bs_table *table_new_table(void) {
-  bs_table *table = (bs_table *)malloc(sizeof *table);
+  bs_table *table = table_new_place();
   size_t slot;
   if (table == NULL) return NULL;
-  memset(table, 0, sizeof *table);
   pthread_mutex_init(&table->latch, NULL);
   table->looks = sysconf(_SC_NPROCESSORS_ONLN) > 1 ? TABLE_LOOKS : 0;
   table->pauses = TABLE_PAUSES;
@@ -912,18 +926,17 @@ static void table_free_table(bs_table *table) {
     free(spare);
   }
   free(table->asks);
-  free(table);
+  free(table->block);
 }
 
 /* Makes a table with parts. */
 static bs_reply table_make_parts(bs_table **table, const bs_options *options) {
-  bs_table *made = (bs_table *)malloc(sizeof *made);
+  bs_table *made = table_new_place();
   bs_reply reply;
   if (made == NULL) return bs_call_only(BS_NO_MEMORY);
-  memset(made, 0, sizeof *made);
   reply = bs_group_make(&made->group, options, options->parts);
   if (reply.status == BS_DONE) *table = made;
-  else free(made);
+  else free(made->block);
   return reply;
 }
 
@@ -931,7 +944,7 @@ static bs_reply table_make_parts(bs_table **table, const bs_options *options) {
 static bs_reply table_free_parts(bs_table **table) {
   bs_reply reply = bs_group_free(&(*table)->group);
   if (reply.status != BS_DONE) return reply;
-  free(*table);
+  free((*table)->block);
   *table = NULL;
   return reply;
 }

@@ -483,7 +483,7 @@ parts-know-waits-by-names-of-parts	/ running_add_awaited(/,/^}/s/^    node.node 
 parts-leave-told	/ table_told_nobody(/,/^}/s/^  if (told != NULL) told->count = 0;//
 parts-lend-a-manager	/^static inline bool table_enter(/,/^}/s/ || table->group != NULL//
 parts-refuse-as-ended	/^static bs_status table_shut(/,/^}/s/^  if (table->group != NULL) .*//
-parts-leave-their-memory	/^static bs_reply table_free_parts(/,/^}/s/^  free(\*table);//
+parts-leave-their-memory	/^static bs_reply table_free_parts(/,/^}/s/^  free((\*table)->block);//
 parts-sum-no-locks	/^bs_reply bs_inside_mark(/,/^}/s/reply.count += savepoint/reply.count = savepoint/
 parts-keep-old-savepoints	/ \*group_new_savepoint(/,/^}/s/^    own->savepoint_count--;/    break;/
 parts-keep-savepoints-of-others	/ group_end_in_all(/,/^}/s/^  own->savepoint_count = 0;//
