@@ -66,7 +66,7 @@ extern "C" {
 /* The version of these declarations. The first number rises if programs must be changed, or the second while the first
  * is 0. The second rises if something is added, the third if neither. */
 #define BS_VERSION_MAJOR 0
-#define BS_VERSION_MINOR 34
+#define BS_VERSION_MINOR 35
 #define BS_VERSION_PATCH 0
 
 /* How many transactions can live at once, and so how many notices a call can have. A library can be built for another
