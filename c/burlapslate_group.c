@@ -3018,21 +3018,23 @@ static void group_delist_begin(group_turns *turns, group_asked_begin *begin) {
   if (turns->at_gate.age == begin->turn.age) turns->at_gate.age = 0;
 }
 
-/* Cancels the wait of a cancelled begin, wherever it waits; `begin` is its name alone. */
-static void group_cut_begin(const group_turns *turns, const void *begin, bs_txn turn) {
-  if (turn.age == 0) bs_table_cancel_begin(turns->table, begin);
-  else bs_table_cancel(turns->table, turn, NULL);
+/* Cancels the wait of a cancelled begin, wherever it waits, with the latch of the list held. */
+static void group_cut_begin(const group_turns *turns, const group_asked_begin *begin) {
+  if (begin->turn.age == 0) bs_table_cancel_begin(turns->table, begin);
+  else bs_table_cancel(turns->table, begin->turn, NULL);
 }
 
-/* The begin of this name, if it is in the list and cancelled, with its transaction. */
-static bool group_finds_cancelled(group_turns *turns, const void *name, bs_txn *turn) {
+/* Cancels the wait of the begin of this name, if it is in the list and cancelled. */
+static void group_cut_if_cancelled(group_turns *turns, const void *name) {
   const group_asked_begin *begin = NULL;
+  bs_inside_asks ends;
+  bs_inside_keep_ends(&ends);
   pthread_mutex_lock(&turns->latch);
   if (turns->cancelled > 0) begin = turns->first;
   while (begin != NULL && (begin != name || !begin->is_cancelled)) begin = begin->next;
-  if (begin != NULL) *turn = begin->turn;
+  if (begin != NULL) group_cut_begin(turns, begin);
   pthread_mutex_unlock(&turns->latch);
-  return begin != NULL;
+  bs_inside_tell_ends(&ends);
 }
 
 /* Whether a slot is free. */
@@ -3045,8 +3047,7 @@ static bool group_any_is_free(const bs_table_group *group) {
 /* After a begin, by this name, was left waiting: another thread may have ended it by now. What came between its last look
  * and its wait is done: a cancel, or the end of a transaction that freed a slot. */
 static bs_reply group_begin_waits(bs_table_group *group, const void *name, bs_reply reply) {
-  bs_txn turn;
-  if (group_finds_cancelled(&group->turns, name, &turn)) group_cut_begin(&group->turns, name, turn);
+  group_cut_if_cancelled(&group->turns, name);
   if (group_any_is_free(group)) group_wake_turn(group);
   return reply;
 }
@@ -3167,22 +3168,20 @@ bs_reply bs_group_ask_begin(bs_table_group *group, const struct timespec *until,
 bs_reply bs_group_cancel_begin(bs_table_group *group, const void *word) {
   bs_status shut = group_shut(group);
   group_asked_begin *begin;
-  group_turns *turns;
-  bs_txn turn;
+  bs_inside_asks ends;
   if (shut != BS_DONE) return group_only(shut);
-  turns = &group->turns;
-  pthread_mutex_lock(&turns->latch);
-  begin = turns->first;
+  bs_inside_keep_ends(&ends);
+  pthread_mutex_lock(&group->turns.latch);
+  begin = group->turns.first;
   while (begin != NULL && (begin->word != word || begin->is_cancelled)) begin = begin->next;
   if (begin != NULL) {
     begin->is_cancelled = true;
-    turns->cancelled++;
-    turn = begin->turn;
+    group->turns.cancelled++;
+    group_cut_begin(&group->turns, begin);
   }
-  pthread_mutex_unlock(&turns->latch);
-  if (begin == NULL) return group_only(BS_NOT_WAITING);
-  group_cut_begin(turns, begin, turn);
-  return group_only(BS_DONE);
+  pthread_mutex_unlock(&group->turns.latch);
+  bs_inside_tell_ends(&ends);
+  return group_only(begin == NULL ? BS_NOT_WAITING : BS_DONE);
 }
 
 /* ------------------------------------------------------------------------------------------------

@@ -462,9 +462,9 @@ group-turns-are-in-no-order	/ group_begin_by_turn(/,/^}/s/bs_table_lock(turns->t
 group-begins-pass-the-queue	/^bs_reply bs_group_begin_again(/,/^}/s/^  if (__builtin_expect(__atomic_load_n(&group->queued.*//
 group-frees-slots-for-nobody	/ group_free_slot(/,/^}/s/^  if (__builtin_expect(.*//
 group-gate-stays-shut	/ group_wake_turn(/,/^}/s/^  if (at_gate.age != 0) .*//
-group-cancels-no-begin	/^bs_reply bs_group_cancel_begin(/,/^}/s/^  group_cut_begin(.*//
+group-cancels-no-begin	/^bs_reply bs_group_cancel_begin(/,/^}/s/^    group_cut_begin(.*//
 group-cancels-a-begin-twice	/^bs_reply bs_group_cancel_begin(/,/^}/s/ || begin->is_cancelled//
-group-cancels-no-begin-before-its-turn	/ group_cut_begin(/,/^}/s/^  if (turn.age == 0) .*/  if (turn.age == 0) return;/
+group-cancels-no-begin-before-its-turn	/ group_cut_begin(const/,/^}/s/^  if (begin->turn.age == 0) .*/  if (begin->turn.age == 0) return;/
 group-asked-begins-forget-since	/ \*group_new_begin(/,/^}/s/^  begin->since = since;/  begin->since = UINT64_MAX;/
 group-asked-begins-have-no-time	/ \*group_time_of(const/,/^}/s/^  return .*/  return begin == NULL ? \&begin->until : NULL;/
 group-asked-begins-tell-another-word	/ group_turn_ended(/,/^}/s/own_word = begin->word;/own_word = begin;/
