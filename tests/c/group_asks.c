@@ -768,7 +768,7 @@ static uint64_t turns(void) {
   for (slot = 0; m != NULL && slot < BS_SLOTS; slot++) count += bs_living(m, slot).status == BS_DONE;
   if (m != NULL) DONE(bs_table_let_go(group->turns.table));
   pthread_mutex_unlock(&group->turns.latch);
-  return count;
+  return m == NULL ? 0 : count - 1; /* one has the gate */
 }
 
 static void sleep_for_turn(beginner *own, uint64_t before) {

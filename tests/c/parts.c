@@ -479,6 +479,31 @@ static void old_work_is_asked_for(world *w) {
   commit(w, own[2]);
 }
 
+/* Text that a function of the library wrote. */
+static char written[65536];
+static size_t written_length;
+
+static bool writes(void *context, const char *text, size_t length) {
+  WANT(context == written && written_length + length < sizeof written);
+  memcpy(written + written_length, text, length);
+  written_length += length;
+  written[written_length] = 0;
+  return true;
+}
+
+/* Waits until so many begins wait for a slot, and a little longer: until their threads sleep. */
+static void await_begins(world *w, const char *count) {
+  char line[64];
+  size_t i;
+  snprintf(line, sizeof line, "burlapslate_begins_waiting %s\n", count);
+  do {
+    nap();
+    written_length = 0;
+    DONE(bs_table_metrics(w->table, writes, written));
+  } while (strstr(written, line) == NULL);
+  for (i = 0; i < 20; i++) nap();
+}
+
 /* A thread that sleeps for a slot, and then ends its transaction. */
 static void *sleep_for_a_slot(void *place) {
   world *w = (world *)place;
@@ -494,8 +519,7 @@ static void asks_and_sleepers_take_turns(world *w) {
   take_all_slots(w, own);
   ANSWERS(BS_WAITING, ask_begin(w, 0, NULL));
   start(&sleeper, sleep_for_a_slot, w);
-  nap();
-  nap();
+  await_begins(w, "2");
   ANSWERS(BS_WAITING, ask_begin(w, 1, NULL));
   commit(w, own[0]);
   own[0] = was_told(0, BS_DONE).txn;
@@ -664,18 +688,6 @@ static void deadlocks_are_settled(world *w) {
  * What is told of a table as it runs.
  */
 
-/* Text that a function of the library wrote. */
-static char written[65536];
-static size_t written_length;
-
-static bool writes(void *context, const char *text, size_t length) {
-  WANT(context == written && written_length + length < sizeof written);
-  memcpy(written + written_length, text, length);
-  written_length += length;
-  written[written_length] = 0;
-  return true;
-}
-
 static bool dislikes_text(void *context, const char *text, size_t length) {
   (void)context;
   (void)text;
@@ -704,7 +716,7 @@ static void numbers_are_written(world *w) {
   commit(w, other);
 }
 
-/* A wait for a record, which a commit ends. */
+/* A wait for a record, which a commit ends after so many naps. */
 static void waits_a_while(world *w, bs_node record, size_t naps) {
   bs_txn holder = begun(w), txn = begun(w);
   DONE(bs_table_lock_path(w->table, holder, record, BS_X, NULL));
@@ -714,22 +726,47 @@ static void waits_a_while(world *w, bs_node record, size_t naps) {
   commit(w, txn);
 }
 
+/* How long all waits took that have ended. */
+static uint64_t time_of_all(world *w) {
+  uint64_t sum = 0;
+  bs_waits waits;
+  size_t end;
+  DONE(bs_table_waits(w->table, &waits));
+  for (end = 0; end < BS_WAIT_ENDS; end++) sum += waits.ended[end].nanoseconds;
+  return sum;
+}
+
+/* A node that was awaited is a record of the table, by its name there. */
+static void want_record(const world *w, const bs_awaited_node *at) {
+  size_t i, j;
+  bool is_one = false;
+  for (i = 0; i < FILES; i++) {
+    for (j = 0; j < RECORDS; j++) {
+      is_one |= at->node.key == w->records[i][j].key && at->node.birth == w->records[i][j].birth;
+    }
+  }
+  WANT(is_one && at->error == 0 && at->waits == 1);
+}
+
 static void the_longest_waits_are_known(world *w) {
   bs_awaited awaited;
-  bs_node record = w->records[1][2];
+  uint64_t sum = 0;
   size_t i;
   ANSWERS(BS_NULL_POINTER, bs_table_awaited(w->table, NULL, true));
-  for (i = 0; i < 2; i++) waits_a_while(w, w->records[i][0], 1);
-  waits_a_while(w, record, 8);
-  for (i = 2; i < FILES; i++) waits_a_while(w, w->records[i][3], 1);
+  for (i = 0; i < FILES; i++) waits_a_while(w, w->records[i][i], 3 * (FILES - i));
   DONE(bs_table_awaited(w->table, &awaited, false));
-  WANT(awaited.count == FILES + 1 && awaited.at[0].waits == 1 && awaited.at[0].error == 0);
-  WANT(awaited.at[0].node.key == record.key && awaited.at[0].node.birth == record.birth);
-  for (i = 1; i < awaited.count; i++) WANT(awaited.at[i].nanoseconds <= awaited.at[i - 1].nanoseconds);
-  WANT(awaited.nanoseconds > awaited.at[0].nanoseconds && awaited.since >= awaited.nanoseconds);
-  for (i = 0; i < FILES; i++) waits_a_while(w, w->records[i][4], 1);
+  WANT(awaited.count == FILES && awaited.nanoseconds == time_of_all(w) && awaited.since >= awaited.nanoseconds);
+  for (i = 0; i < awaited.count; i++) {
+    want_record(w, &awaited.at[i]);
+    sum += awaited.at[i].nanoseconds;
+    if (i > 0) WANT(awaited.at[i].nanoseconds <= awaited.at[i - 1].nanoseconds);
+  }
+  WANT(sum == awaited.nanoseconds);
+  for (i = 0; i < FILES; i++) waits_a_while(w, w->records[i][4], i);
+  waits_a_while(w, w->records[0][3], 0);
   DONE(bs_table_awaited(w->table, &awaited, true));
-  WANT(awaited.count == BS_MOST_AWAITED && awaited.at[0].node.birth == record.birth);
+  WANT(awaited.count == BS_MOST_AWAITED && awaited.nanoseconds == time_of_all(w));
+  for (i = 0; i < awaited.count; i++) want_record(w, &awaited.at[i]);
   DONE(bs_table_awaited(w->table, &awaited, false));
   WANT(awaited.count == 0 && awaited.nanoseconds == 0);
 }
