@@ -224,6 +224,7 @@ struct bs_table_group {
   uint32_t *strong;         /* numbers */
   uint64_t faults;          /* how many copies were not granted at once: by the laws there is none */
   bs_board joined, one;     /* with all latches: of a look */
+  uint64_t condemned;       /* atomic: how many fell to end deadlocks over several tables */
   group_turns turns;
   group_watch watch;
   uint64_t ages __attribute__((aligned(GROUP_LINE)));   /* atomic: the next ages for a slot */
@@ -2156,6 +2157,7 @@ bs_reply bs_group_counters(bs_table_group *group, bs_counts *counts) {
     bs_inside_release(t->table);
     group_add_counts(&all, &one);
   }
+  all.condemned = group_sum(all.condemned, __atomic_load_n(&group->condemned, __ATOMIC_RELAXED));
   *counts = all;
   return group_only(BS_DONE);
 }
@@ -2224,7 +2226,9 @@ static bool group_settle_one(bs_table_group *group) {
   }
   youngest = bs_youngest(&group->joined, bs_suspects(&group->joined).slots);
   for (table = 0; youngest.status == BS_DONE && table <= group->parts; table++) {
-    if (bs_inside_end_sleep(group->tables[table].table, (uint32_t)youngest.count, BS_VICTIM)) return true;
+    if (!bs_inside_end_sleep(group->tables[table].table, (uint32_t)youngest.count, BS_VICTIM)) continue;
+    __atomic_fetch_add(&group->condemned, 1, __ATOMIC_RELAXED);
+    return true;
   }
   return false;
 }
@@ -2834,15 +2838,14 @@ bs_reply bs_inside_release_to(bs_table_group *group, bs_txn txn, uint64_t locks)
   return bs_group_release_since(group, txn, &savepoint);
 }
 
-/* A session has no transaction. */
-static void group_session_has_none(bs_session *session) {
+/* A session has no transaction. What the one of this name has kept rests for its slot. */
+static void group_session_has_none(bs_session *session, bs_txn rests) {
   session->txn = group_only(BS_DONE).txn;
-  session->rests = session->txn;
+  session->rests = rests;
 }
 
 /* Begins a session's transaction so. Its group keeps at least as many intentions as the session. */
 static bs_reply group_session_has(bs_table_group *group, bs_session *session, bs_reply begun) {
-  group_session_has_none(session);
   if (begun.status != BS_DONE) return begun;
   session->txn = begun.txn;
   if (__atomic_load_n(&group->most_kept, __ATOMIC_RELAXED) < session->most) bs_group_keep(group, session->most);
@@ -2857,8 +2860,23 @@ bs_reply bs_inside_session_begin(bs_session *session, uint64_t since, const stru
 
 bs_reply bs_inside_session_commit(bs_session *session) {
   bs_reply reply = bs_group_commit(bs_table_group_of(session->table), session->txn);
-  if (reply.status == BS_DONE) group_session_has_none(session);
+  if (reply.status == BS_DONE) group_session_has_none(session, session->txn);
   return reply;
+}
+
+/* Ends what rests for a slot, unless a transaction has it by now. */
+static void group_end_rests(bs_table_group *group, uint32_t slot) {
+  group_slot *own;
+  if (slot >= group->most || !group_takes(group, slot)) return;
+  own = group_slot_at(group, slot);
+  for (; own->resting != 0; own->resting &= own->resting - 1) {
+    const group_table *t = &group->tables[__builtin_ctzll(own->resting)];
+    bs_txn rests = { slot, own->kept[t->number].age };
+    if (!bs_inside_enter(t->table)) break;
+    if (bs_call_wake(t->manager, rests).status == BS_DONE) bs_inside_commit(t->table, rests);
+    bs_inside_release(t->table);
+  }
+  group_free_slot(group, own);
 }
 
 bs_reply bs_inside_session_end(bs_session *session) {
@@ -2866,7 +2884,8 @@ bs_reply bs_inside_session_end(bs_session *session) {
   bs_status shut = group_shut(group);
   if (shut != BS_DONE) return group_only(shut);
   if (group_named(group, session->txn) != NULL) return group_only(BS_IN_USE);
-  group_session_has_none(session);
+  if (session->rests.age != 0) group_end_rests(group, session->rests.slot);
+  group_session_has_none(session, group_only(BS_DONE).txn);
   return group_only(BS_DONE);
 }
 
@@ -3212,7 +3231,7 @@ bs_reply bs_group_watch_thread(bs_table_group *group, uint64_t pace) {
   if (watch->is_over) reply.status = BS_NO_MANAGER;
   else if (watch->is_there) reply.status = BS_IN_USE;
   if (reply.status == BS_DONE) {
-    watch->pace = pace;
+    watch->pace = pace == 0 ? GROUP_REST : pace;
     watch->is_there = bs_call_start(&watch->thread, group_watch_over, group);
     if (!watch->is_there) reply.status = BS_NO_MEMORY;
   }

@@ -48,10 +48,9 @@
  * the file cannot have; what it acquired above the node stays.
  *
  * DEADLOCKS. A cycle of waits within one table is ended by that table, as it arises, whatever `detect` of the options is.
- * A cycle over several tables is
- * ended by a thread that sleeps: it looks after 2 ms, and then after twice as long each time, up to 256 ms, if any
- * transaction is in two tables and no other thread has looked meanwhile. If no thread sleeps, it is ended by
- * bs_group_expire or by a thread that watches. To look costs the latches of all tables, and
+ * A cycle over several tables is ended by a thread that sleeps: it looks after 2 ms, and then after twice as long each
+ * time, up to 256 ms, if any transaction is in two tables and no other thread has looked meanwhile. If no thread sleeps,
+ * it is ended by bs_group_expire, bs_group_settle or a thread that watches. To look costs the latches of all tables, and
  * the boards of those where threads sleep. The youngest on a cycle falls, by `since`: its call is answered BS_VICTIM.
  *
  * KEPT INTENTIONS. A transaction mostly needs the intentions that the one before it in its thread had. After
@@ -279,8 +278,8 @@ bs_reply bs_group_expire(bs_table_group *group, struct timespec *next);
  * arose. Costs the latches of all tables. Refused with BS_NO_SUCH_TXN. */
 bs_reply bs_group_settle(bs_table_group *group, bs_txn txn);
 
-/* Starts a thread that looks for deadlocks over several tables each `pace` nanoseconds, until the group ends. Refused with
- * BS_IN_USE if the group has one, and with BS_NO_MEMORY if it cannot be started. */
+/* Starts a thread that looks for deadlocks over several tables each `pace` nanoseconds, until the group ends; 0 stands for
+ * 2 ms. Refused with BS_IN_USE if the group has one, and with BS_NO_MEMORY if it cannot be started. */
 bs_reply bs_group_watch_thread(bs_table_group *group, uint64_t pace);
 
 /* As bs_table_run, but each command is a critical section of its own, in the tables that it needs. BS_DO_LOCK and

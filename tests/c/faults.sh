@@ -463,7 +463,6 @@ group-begins-pass-the-queue	/^bs_reply bs_group_begin_again(/,/^}/s/^  if (__bui
 group-frees-slots-for-nobody	/ group_free_slot(/,/^}/s/^  if (__builtin_expect(.*//
 group-gate-stays-shut	/ group_wake_turn(/,/^}/s/^  if (at_gate.age != 0) .*//
 group-cancels-no-begin	/^bs_reply bs_group_cancel_begin(/,/^}/s/^    group_cut_begin(.*//
-group-cancels-a-begin-twice	/^bs_reply bs_group_cancel_begin(/,/^}/s/ || begin->is_cancelled//
 group-cancels-no-begin-before-its-turn	/ group_cut_begin(const/,/^}/s/^  if (begin->turn.age == 0) .*/  if (begin->turn.age == 0) return;/
 group-asked-begins-forget-since	/ \*group_new_begin(/,/^}/s/^  begin->since = since;/  begin->since = UINT64_MAX;/
 group-asked-begins-have-no-time	/ \*group_time_of(const/,/^}/s/^  return .*/  return begin == NULL ? \&begin->until : NULL;/
@@ -489,6 +488,8 @@ parts-keep-old-savepoints	/ \*group_new_savepoint(/,/^}/s/^    own->savepoint_co
 parts-keep-savepoints-of-others	/ group_end_in_all(/,/^}/s/^  own->savepoint_count = 0;//
 parts-roll-back-to-an-older-one	/^bs_reply bs_inside_release_to(/,/^}/s/^  while (place < own->savepoint_count .*/  while (place + 1 < own->savepoint_count \&\& group_savepoint_at(group, own, place + 1)[0] <= locks) place++;/
 parts-forget-a-savepoint	/^bs_reply bs_inside_mark(/,/^}/s/^  memcpy(place + 1.*//
+parts-session-leaves-what-rests	/^bs_reply bs_inside_session_end(/,/^}/s/^  if (session->rests.age != 0) .*//
+group-counts-no-victim	/ group_settle_one(/,/^}/s/^    __atomic_fetch_add(.*//
 parts-session-begins-twice	/^bs_reply bs_inside_session_begin(/,/^}/s/^  if (group_named(.*//
 parts-session-ends-in-a-transaction	/^bs_reply bs_inside_session_end(/,/^}/s/^  if (group_named(.*//
 parts-session-begins-as-new	/^bs_reply bs_inside_session_begin(/,/^}/s/group, since, until/group, UINT64_MAX, until/

@@ -219,6 +219,13 @@ static void lists_and_sessions_are_run(world *w) {
   other = session.txn;
   DONE(bs_session_commit(&session, &told));
   WANT(told.count == 0 && session.txn.age == 0 && rests(w, other, w->files[0]));
+  DONE(bs_session_end(&session));
+  WANT(!rests(w, other, w->files[0]));
+  DONE(bs_session_begin(&session, NULL));
+  DONE(bs_table_lock_path(w->table, session.txn, w->records[0][0], BS_X, NULL));
+  other = session.txn;
+  DONE(bs_session_commit(&session, &told));
+  WANT(rests(w, other, w->files[0]));
   list[0] = bs_do_at(BS_DO_LOCK_PATH, bs_begun(), w->records[0][1], BS_X);
   list[1] = bs_do(BS_DO_MARK, bs_begun());
   list[2] = bs_do(BS_DO_RENEW, bs_begun());
@@ -464,9 +471,10 @@ static void old_work_is_asked_for(world *w) {
   listen(w);
   take_all_slots(w, own);
   ANSWERS(BS_WAITING, bs_table_ask_begin_again(w->table, 1, NULL, &words[0]));
-  commit(w, own[0]);
+  commit(w, own[FEW - 1]);
   old = was_told(0, BS_DONE).txn;
-  young = own[1];
+  young = own[0];
+  WANT(old.age > young.age);
   DONE(bs_table_lock_path(w->table, old, w->records[0][0], BS_X, NULL));
   DONE(bs_table_lock_path(w->table, young, w->records[1][0], BS_X, NULL));
   list = bs_do_at(BS_DO_LOCK_PATH, young, w->records[0][0], BS_X);
@@ -476,7 +484,7 @@ static void old_work_is_asked_for(world *w) {
   DONE(bs_table_settle(w->table, old, NULL));
   ANSWERS(BS_TXN_CONDEMNED, bs_table_commit(w->table, young, NULL));
   DONE(bs_table_abort(w->table, young, NULL));
-  commit(w, own[2]);
+  commit(w, own[1]);
 }
 
 /* Text that a function of the library wrote. */
@@ -662,6 +670,7 @@ static void deadlocks_are_settled(world *w) {
   bs_txn old = begun(w), young = begun(w), nobody = { 1, 77777 };
   bs_command settle = bs_do(BS_DO_SETTLE, old);
   bs_notices told;
+  bs_counts counts;
   if (bs_table_group_of(w->table) != NULL && old.age > young.age) {
     bs_txn other = old;
     old = young;
@@ -678,6 +687,10 @@ static void deadlocks_are_settled(world *w) {
   WANT(told_in_all == 0);
   WANT(bs_table_run(w->table, &settle, 1) == 1);
   was_told(1, BS_VICTIM);
+  if (bs_table_group_of(w->table) != NULL) {
+    DONE(bs_group_counters(bs_table_group_of(w->table), &counts));
+    WANT(counts.condemned == 1);
+  }
   ANSWERS(BS_TXN_CONDEMNED, bs_table_commit(w->table, young, NULL));
   DONE(bs_table_abort(w->table, young, NULL));
   was_told(0, BS_DONE);
