@@ -13,29 +13,19 @@ static void want(const char *story, bs_status status, bs_status wanted) {
   if (status != wanted) fail("%s: %s in place of %s", story, bs_text(status), bs_text(wanted));
 }
 
-/* The account of a number that has one. */
-static bs_node numbered(struct bank *b, uint64_t number) {
-  bs_node account = { 0, 0 };
-  number--;
-  if (!bank_next_account(b, &number, &account)) fail("too few accounts for a story");
-  return account;
-}
-
 static void rest(void) {
   static const struct timespec moment = { 0, 100000 };
   nanosleep(&moment, NULL);
 }
 
-static bool is_waiting(struct bank *b, bs_txn name) {
-  uint64_t doing = bs_doing(bs_table_hold(b->locks), name).count;
-  bs_table_let_go(b->locks);
-  return doing == BS_WAITS;
-}
-
 /* ------------------------------------------------------------------------------------------------
  * Waits and their ends. A leader locks an account; a follower in a thread of its own locks another, and
- * then waits for the leader's.
+ * then waits for the leader's. Accounts with odd numbers are in one table, those with even ones in the other.
  */
+
+/* The `since` of work that is older than all other. In parts, of two transactions the first to begin may be the
+ * younger. */
+enum { OLDEST = 1 };
 
 struct follower {
   const char *story;
@@ -45,7 +35,7 @@ struct follower {
   struct txn txn;
   bs_status status;
   bs_counts before; /* what had been done by then */
-  uint64_t given_up;
+  uint64_t victims, given_up;
   pthread_t thread;
 };
 
@@ -58,16 +48,18 @@ static void *run_follower(void *arg) {
 }
 
 static void lead(struct follower *f, struct txn *leader) {
-  *leader = txn_begin(f->bank, NULL, FOR_EVER);
+  uint64_t since = OLDEST;
+  *leader = txn_begin(f->bank, &since, FOR_EVER);
   want(f->story, txn_lock_account(leader, f->wanted, BS_X), BS_DONE);
   f->txn = txn_begin(f->bank, NULL, f->patience);
+  f->victims = f->bank->counts.victims;
   f->given_up = f->bank->counts.given_up;
   f->before = bank_lock_counts(f->bank);
   start(&f->thread, run_follower, f);
 }
 
 static void await_wait(struct follower *f) {
-  while (!is_waiting(f->bank, f->txn.name)) rest();
+  while (!bank_is_waiting(f->bank, f->txn.name)) rest();
 }
 
 /* How many waits have ended so since the follower began. */
@@ -75,7 +67,7 @@ static uint64_t ended(struct follower *f, bs_status of_wait) {
   bs_counts now = bank_lock_counts(f->bank);
   switch (of_wait) {
     case BS_DONE: return now.granted_later - f->before.granted_later;
-    case BS_VICTIM: return now.condemned - f->before.condemned;
+    case BS_VICTIM: return f->bank->counts.victims - f->victims;
     case BS_MOVED: return now.moved - f->before.moved;
     case BS_GONE: return now.gone - f->before.gone;
     default: return f->bank->counts.given_up - f->given_up;
@@ -93,7 +85,7 @@ static void join(struct follower *f, bs_status of_wait, bs_status of_txn) {
 
 /* A commit lets the follower have the lock. */
 static void a_wait_is_granted(struct bank *b) {
-  struct follower f = { .story = "granted", .bank = b, .first = numbered(b, 1), .wanted = numbered(b, 2) };
+  struct follower f = { .story = "granted", .bank = b, .first = bank_account(b, 1), .wanted = bank_account(b, 2) };
   struct txn leader;
   lead(&f, &leader);
   await_wait(&f);
@@ -102,9 +94,11 @@ static void a_wait_is_granted(struct bank *b) {
 }
 
 /* The leader closes a cycle of waits, and the follower is the younger. */
-static void a_wait_ends_as_a_victims(struct bank *b) {
-  struct follower f = { .story = "victim", .bank = b, .first = numbered(b, 1), .wanted = numbered(b, 2) };
+static void a_wait_ends_as_a_victims(struct bank *b, const char *story, uint64_t first, uint64_t wanted) {
+  struct follower f = { .story = story, .bank = b };
   struct txn leader;
+  f.first = bank_account(b, first);
+  f.wanted = bank_account(b, wanted);
   lead(&f, &leader);
   await_wait(&f);
   want(f.story, txn_lock_account(&leader, f.first, BS_X), BS_DONE);
@@ -114,8 +108,8 @@ static void a_wait_ends_as_a_victims(struct bank *b) {
 
 /* The account comes to lie in another interval. The follower asks again, and has it. */
 static void a_wait_is_moved(struct bank *b) {
-  struct follower f = { .story = "moved", .bank = b, .first = numbered(b, 3), .wanted = numbered(b, 2) };
-  struct order most = { f.wanted, numbered(b, 1), 60, let_others_run, NULL, false };
+  struct follower f = { .story = "moved", .bank = b, .first = bank_account(b, 3), .wanted = bank_account(b, 2) };
+  struct order most = { f.wanted, bank_account(b, 1), 60, let_others_run, NULL, false };
   struct txn leader;
   lead(&f, &leader);
   await_wait(&f);
@@ -125,8 +119,8 @@ static void a_wait_is_moved(struct bank *b) {
 
 /* The account is closed, and the follower has nothing to do any more. */
 static void a_wait_for_what_goes(struct bank *b) {
-  struct follower f = { .story = "gone", .bank = b, .first = numbered(b, 3), .wanted = numbered(b, 2) };
-  struct order all = { f.wanted, numbered(b, 1), UINT64_MAX, let_others_run, NULL, false };
+  struct follower f = { .story = "gone", .bank = b, .first = bank_account(b, 3), .wanted = bank_account(b, 2) };
+  struct order all = { f.wanted, bank_account(b, 1), UINT64_MAX, let_others_run, NULL, false };
   struct txn leader;
   lead(&f, &leader);
   await_wait(&f);
@@ -138,7 +132,7 @@ static void a_wait_for_what_goes(struct bank *b) {
 
 /* The leader keeps its lock until the follower has lost patience. */
 static void a_wait_takes_too_long(struct bank *b) {
-  struct follower f = { .story = "gave up", .bank = b, .first = numbered(b, 1), .wanted = numbered(b, 3) };
+  struct follower f = { .story = "gave up", .bank = b, .first = bank_account(b, 1), .wanted = bank_account(b, 3) };
   struct txn leader;
   f.patience = 1;
   lead(&f, &leader);
@@ -148,7 +142,8 @@ static void a_wait_takes_too_long(struct bank *b) {
 
 void led_waits(struct bank *b) {
   a_wait_is_granted(b);
-  a_wait_ends_as_a_victims(b);
+  a_wait_ends_as_a_victims(b, "victim in one table", 1, 3);
+  a_wait_ends_as_a_victims(b, "victim over two", 1, 2);
   a_wait_is_moved(b);
   a_wait_for_what_goes(b);
   a_wait_takes_too_long(b);
@@ -182,7 +177,7 @@ static void let_the_other_read(void *arg) {
   pthread_mutex_lock(&p->bank->mutex);
   p->has_read = true;
   pthread_mutex_unlock(&p->bank->mutex);
-  while (!has_read(p->other) && !is_waiting(p->bank, p->other->txn.name)) rest();
+  while (!has_read(p->other) && !bank_is_waiting(p->bank, p->other->txn.name)) rest();
 }
 
 static void *pay(void *arg) {
@@ -201,9 +196,9 @@ static uint64_t balance_of(struct bank *b, bs_node account) {
 }
 
 void led_payments(struct bank *b, bool skips_lock) {
-  bs_node to = numbered(b, 6);
-  struct order first = { numbered(b, 4), to, 10, let_the_other_read, NULL, skips_lock };
-  struct order second = { numbered(b, 5), to, 10, let_the_other_read, NULL, skips_lock };
+  bs_node to = bank_account(b, 6);
+  struct order first = { bank_account(b, 4), to, 10, let_the_other_read, NULL, skips_lock };
+  struct order second = { bank_account(b, 5), to, 10, let_the_other_read, NULL, skips_lock };
   struct payment payments[2] = { { .bank = b, .order = first }, { .bank = b, .order = second } };
   uint64_t before = balance_of(b, to), after;
   size_t i;
@@ -217,4 +212,41 @@ void led_payments(struct bank *b, bool skips_lock) {
   after = balance_of(b, to);
   if (after == before + 20) return;
   fail("lost update: two payments of 10 made %" PRIu64 " of %" PRIu64, after, before);
+}
+
+/* ------------------------------------------------------------------------------------------------
+ * An audit, and a payment of another table to one that it has read.
+ */
+
+struct passer {
+  struct bank *bank;
+  struct order order;
+  struct txn txn;
+  bs_status status;
+  pthread_t thread;
+};
+
+static void *run_passer(void *arg) {
+  struct passer *p = arg;
+  p->status = txn_end(&p->txn, move_money(&p->txn, &p->order));
+  return NULL;
+}
+
+/* The payment takes its money, and waits for the table that was read: the audit must not see what it took. */
+static void let_it_pass(void *arg) {
+  struct passer *p = arg;
+  start(&p->thread, run_passer, p);
+  while (!bank_is_waiting(p->bank, p->txn.name)) rest();
+}
+
+void led_audit(struct bank *b, uint64_t sum, bool skips_lock) {
+  struct passer p = { .bank = b };
+  struct order order = { bank_account(b, 8), bank_account(b, 7), 10, let_others_run, NULL, false };
+  struct reading reading = { sum, let_it_pass, &p, skips_lock };
+  uint64_t since = OLDEST;
+  p.order = order;
+  p.txn = txn_begin(b, NULL, FOR_EVER);
+  want("audit", audit_tables(b, &since, &reading), BS_DONE);
+  pthread_join(p.thread, NULL);
+  want("a payment during an audit", p.status, BS_VICTIM);
 }

@@ -2,11 +2,14 @@
  * A small storage engine over the lock manager: threads that move money between accounts, open and close
  * accounts, and read many at once, all under granular locks. README.md says what is where.
  *
- *   engine [--watch] [--sessions] [--skip-lock]
+ *   engine [--parts N] [--watch] [--sessions] [--skip-lock] [--skip-table]
  *
- * --watch      deadlocks are ended by a thread that watches, and not when a transaction begins to wait.
- * --sessions   the transactions of each worker are those of one session, which keeps its intentions.
- * --skip-lock  a planted fault: two payments skip their lock. The program must find the lost update.
+ * --parts N     the table of locks has N parts, from 1 to 63, and each table of accounts is in one of them.
+ * --watch       deadlocks are ended by a thread that watches, and not when a transaction begins to wait; with parts
+ *               it ends those over several.
+ * --sessions    the transactions of each worker are those of one session, which keeps its intentions.
+ * --skip-lock   a planted fault: two payments skip their lock. The program must find the lost update.
+ * --skip-table  a planted fault: an audit skips its lock on a table. The program must find the wrong sum.
  *
  * Status 0: all was as it must be; 1: something was not, and standard error says what; 2: wrong words.
  */
@@ -16,25 +19,36 @@
 
 #include <inttypes.h>
 #include <stdio.h>
+#include <stdlib.h>
 #include <string.h>
 
-enum { FOUNDERS = 24, FIRST_BALANCE = 100, MOST_MOVED = 80 };
+enum { FOUNDERS = 24, FIRST_BALANCE = 100, MOST_MOVED = 80, SUM = FOUNDERS * FIRST_BALANCE };
 enum { TELLERS = 6, TRANSFERS = 500, CHANGES = 300, AUDITS = 150, LISTS = 300 };
 
 /* How many milliseconds the branch waits for a lock before it lets others go first. */
 enum { PATIENCE = 2 };
 
 struct words {
-  bool watch, sessions, skip_lock;
+  bool watch, sessions, skip_lock, skip_table;
+  uint32_t parts;
 };
 
-static bool read_words(int count, char **word, struct words *words) {
-  int i;
-  for (i = 1; i < count; i++) {
-    if (strcmp(word[i], "--watch") == 0) words->watch = true;
-    else if (strcmp(word[i], "--sessions") == 0) words->sessions = true;
-    else if (strcmp(word[i], "--skip-lock") == 0) words->skip_lock = true;
-    else return false;
+static bool read_parts(const char *word, uint32_t *parts) {
+  char *end;
+  unsigned long number = word == NULL ? 0 : strtoul(word, &end, 10);
+  if (number == 0 || number > BS_MOST_PARTS || *end != '\0') return false;
+  *parts = (uint32_t)number;
+  return true;
+}
+
+/* The last of the words is null. */
+static bool read_words(char **word, struct words *words) {
+  while (*++word != NULL) {
+    if (strcmp(*word, "--watch") == 0) words->watch = true;
+    else if (strcmp(*word, "--sessions") == 0) words->sessions = true;
+    else if (strcmp(*word, "--skip-lock") == 0) words->skip_lock = true;
+    else if (strcmp(*word, "--skip-table") == 0) words->skip_table = true;
+    else if (strcmp(*word, "--parts") != 0 || !read_parts(*++word, &words->parts)) return false;
   }
   return true;
 }
@@ -61,6 +75,10 @@ static uint64_t roll(struct worker *w, uint64_t sides) {
 
 static bs_node any_account(struct worker *w) {
   return bank_account_from(w->bank, roll(w, MOST_ACCOUNTS));
+}
+
+static const struct table *any_table(struct worker *w) {
+  return &w->bank->tables[roll(w, TABLES)];
 }
 
 /* Whether the work of a transaction that was rolled back is to begin again. */
@@ -94,24 +112,29 @@ static void *run_branch(void *arg) {
   size_t i;
   for (i = 0; i < CHANGES; i++) {
     struct order o = any_order(w);
+    struct opening opening = { any_table(w), o.from, o.amount };
     unsigned patience = PATIENCE;
     uint64_t since = 0;
     bs_status status = BS_TIMED_OUT;
     while (same_node(o.from, o.to)) o.to = any_account(w);
     for (; is_to_repeat(status); patience = FOR_EVER) {
-      if (i % 8 < 4) status = open_account(w->bank, &since, o.from, o.amount, patience);
+      if (i % 8 < 4) status = open_account(w->bank, &since, &opening, patience);
       else status = close_account(w->bank, &since, o.from, o.to, patience);
     }
   }
   return NULL;
 }
 
+/* Audits by a lock on each table and by one on all, in turn. */
 static void *run_auditor(void *arg) {
+  const struct reading reading = { SUM, let_others_run, NULL, false };
   struct worker *w = arg;
   size_t i;
   for (i = 0; i < AUDITS; i++) {
     uint64_t since = 0;
-    while (is_to_repeat(audit(w->bank, &since, FOUNDERS * FIRST_BALANCE))) continue;
+    while (is_to_repeat(audit_tables(w->bank, &since, &reading))) continue;
+    since = 0;
+    while (is_to_repeat(audit_all(w->bank, &since, SUM))) continue;
   }
   return NULL;
 }
@@ -120,9 +143,10 @@ static void *run_lister(void *arg) {
   struct worker *w = arg;
   size_t i;
   for (i = 0; i < LISTS; i++) {
+    const struct table *table = any_table(w);
     size_t place = (size_t)roll(w, INTERVALS);
     uint64_t since = 0;
-    while (is_to_repeat(list_interval(w->bank, &since, place))) continue;
+    while (is_to_repeat(list_interval(w->bank, &since, table, place))) continue;
   }
   return NULL;
 }
@@ -157,7 +181,7 @@ static void run_crowd(struct bank *b, bool in_sessions) {
 
 static void found_accounts(struct bank *b) {
   size_t i;
-  for (i = 0; i < FOUNDERS; i++) found_account(b, FIRST_BALANCE);
+  for (i = 0; i < FOUNDERS; i++) found_account(b, &b->tables[i % TABLES], FIRST_BALANCE);
 }
 
 struct item {
@@ -179,11 +203,12 @@ static void print_summary(struct bank *b) {
     { "closed", c->closed }, { "rekeyed", c->rekeyed }
   };
   const struct item reads[] = {
-    { "reads of the table", c->audits }, { "escalations", locks.escalations },
-    { "locks released by them", locks.released_children }, { "reads of an interval", c->lists }
+    { "reads of each table", c->audits }, { "escalations", locks.escalations },
+    { "locks released by them", locks.released_children }, { "reads of the whole", c->whole_audits },
+    { "reads of an interval", c->lists }
   };
   const struct item waits[] = {
-    { "waits", locks.waited }, { "granted", locks.granted_later }, { "victims", locks.condemned },
+    { "waits", locks.waited }, { "granted", locks.granted_later }, { "victims", c->victims },
     { "moved", locks.moved }, { "gone", locks.gone }, { "given up", c->given_up },
     { "the longest queue", locks.longest_queue }
   };
@@ -194,17 +219,18 @@ static void print_summary(struct bank *b) {
 
 int main(int count, char **word) {
   static struct bank bank;
-  struct words words = { false, false, false };
-  if (!read_words(count, word, &words)) {
-    fputs("usage: engine [--watch] [--sessions] [--skip-lock]\n", stderr);
+  struct words words = { .parts = 1 };
+  if (count == 0 || !read_words(word, &words)) {
+    fputs("usage: engine [--parts N] [--watch] [--sessions] [--skip-lock] [--skip-table]\n", stderr);
     return 2;
   }
-  bank_open(&bank, words.watch ? BS_BY_WATCHER : BS_AT_BLOCK);
+  bank_open(&bank, words.parts, words.watch);
   found_accounts(&bank);
   led_waits(&bank);
   led_payments(&bank, words.skip_lock);
+  led_audit(&bank, SUM, words.skip_table);
   run_crowd(&bank, words.sessions);
-  bank_check(&bank, FOUNDERS * FIRST_BALANCE);
+  bank_check(&bank, SUM);
   print_summary(&bank);
   bank_close(&bank);
   return 0;

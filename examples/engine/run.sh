@@ -1,8 +1,9 @@
 #!/usr/bin/env bash
-# run.sh [--slots N]: compiles the engine over the C library and runs it: with deadlocks found when a wait begins, with a
-# watcher, with sessions, and with the planted fault, which it must refuse by the lost update that comes of it. Ends with
-# status 1 where something is not as wanted; where there is no C compiler it says so, and ends with status 77: not
-# tried. CC names another compiler than cc. N is the number of slots of the library, 128 or 1024 (tools/c_library.sh).
+# run.sh [--slots N]: compiles the engine over the C library and runs it: with deadlocks found when a wait begins, with
+# a watcher, with sessions, with parts, and with each planted fault, which it must find by the lost update or the wrong
+# sum that comes of it. Ends with status 1 if something is not as wanted; if there is no C compiler it says so, and ends
+# with status 77: not tried. CC names another compiler than cc. N is the number of slots of the library, 128 or 1024
+# (tools/c_library.sh).
 set -uo pipefail
 here=$(cd "$(dirname "$0")" && pwd) || exit 2
 top=$here/../..
@@ -10,7 +11,7 @@ slots=128
 if [ "${1:-}" = --slots ] && [ $# -eq 2 ]; then
   slots=$2
 elif [ $# -ne 0 ]; then
-  sed -n '2,5s/^# //p' "$0" >&2
+  sed -n '2,6s/^# //p' "$0" >&2
   exit 2
 fi
 headers=$("$top/tools/c_library.sh" --headers --slots "$slots") || exit 2
@@ -38,15 +39,24 @@ run() {
   [ "$status" -eq 0 ] || { echo "examples/engine: engine $*: status $status" >&2; exit 1; }
 }
 
+# finds WHAT WORDS: runs the engine with a planted fault, which it must find by what comes of it.
+finds() {
+  local status
+  echo "engine ${*:2}"
+  timeout 120 "$work/engine" "${@:2}" >"$work/out" 2>&1
+  status=$?
+  cat "$work/out"
+  [ "$status" -ne 1 ] || ! grep -q "$1" "$work/out" || return 0
+  echo "examples/engine: engine ${*:2}: no $1 was found: status $status" >&2
+  exit 1
+}
+
 run
 run --watch
 run --sessions
-
-echo "engine --skip-lock"
-timeout 120 "$work/engine" --skip-lock >"$work/out" 2>&1
-status=$?
-cat "$work/out"
-if [ "$status" -ne 1 ] || ! grep -q "lost update" "$work/out"; then
-  echo "examples/engine: the skipped lock was not found by the lost update: status $status" >&2
-  exit 1
-fi
+run --parts 4
+run --parts 4 --watch --sessions
+for parts in 1 4; do
+  finds "lost update" --parts "$parts" --skip-lock
+  finds "wrong sum" --parts "$parts" --skip-table
+done

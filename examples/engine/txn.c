@@ -24,7 +24,8 @@ static bs_status lock(struct txn *t, bs_node node, bs_mode mode) {
   const struct timespec *limit = t->patience == FOR_EVER ? NULL : &until;
   bs_reply reply = bs_table_lock_path(t->bank->locks, t->name, node, mode, limit);
   switch (reply.status) {
-    case BS_VICTIM: case BS_GONE: return reply.status;
+    case BS_VICTIM: bank_count(t->bank, &t->bank->counts.victims); return BS_VICTIM;
+    case BS_GONE: return BS_GONE;
     case BS_NO_SUCH_NODE: return BS_GONE; /* It went before it was asked for. */
     case BS_TIMED_OUT: bank_count(t->bank, &t->bank->counts.given_up); return BS_TIMED_OUT;
     default: return must(reply, "bs_table_lock_path").status;
@@ -35,21 +36,25 @@ bs_status txn_lock_account(struct txn *t, bs_node account, bs_mode mode) {
   return lock(t, account, mode);
 }
 
-bs_status txn_lock_interval(struct txn *t, size_t place) {
-  return lock(t, bank_interval_at(t->bank, place), BS_S);
+bs_status txn_lock_interval(struct txn *t, const struct table *table, size_t place) {
+  return lock(t, bank_interval_at(t->bank, table, place), BS_S);
+}
+
+bs_status txn_lock_all(struct txn *t) {
+  return lock(t, t->bank->root, BS_S);
 }
 
 /* Trades locks on accounts for one on the table: at once, or after a wait for those who write there. */
-bs_status txn_lock_table(struct txn *t) {
-  struct bank *b = t->bank;
-  bs_status status = lock(t, b->table, BS_IS);
+bs_status txn_lock_table(struct txn *t, const struct table *table) {
+  bs_table *locks = t->bank->locks;
+  bs_status status = lock(t, table->file, BS_IS);
   bs_reply reply;
   if (status != BS_DONE) return status;
-  reply = bs_table_escalate(b->locks, t->name, b->table, NULL);
+  reply = bs_table_escalate(locks, t->name, table->file, NULL);
   if (reply.status == BS_WOULD_BLOCK) {
-    status = lock(t, b->table, BS_S);
+    status = lock(t, table->file, BS_S);
     if (status != BS_DONE) return status;
-    reply = bs_table_escalate(b->locks, t->name, b->table, NULL);
+    reply = bs_table_escalate(locks, t->name, table->file, NULL);
   }
   return must(reply, "bs_table_escalate").status;
 }
@@ -90,21 +95,23 @@ static bs_status lock_new_intervals(struct txn *t) {
   bs_status status = BS_DONE;
   size_t i;
   for (i = 0; i < t->writes && status == BS_DONE; i++) {
-    status = lock(t, bank_interval_for(b, txn_read(t, t->undo[i].account)), BS_IX);
+    bs_node account = t->undo[i].account;
+    status = lock(t, bank_interval_for(b, bank_table_of(b, account), txn_read(t, account)), BS_IX);
   }
-  if (t->opens && status == BS_DONE) status = lock(t, b->table, BS_IX);
-  if (t->opens && status == BS_DONE) status = lock(t, bank_interval_for(b, t->deposit), BS_IX);
+  if (t->opens && status == BS_DONE) status = lock(t, t->table->file, BS_IX);
+  if (t->opens && status == BS_DONE) status = lock(t, bank_interval_for(b, t->table, t->deposit), BS_IX);
   return status;
 }
 
 /* The record comes before the row, so that each row has its record. */
 static void insert_opened(struct txn *t) {
   struct bank *b = t->bank;
-  bs_node account = MUST(bs_table_insert(b->locks, t->name, b->table, &t->deposit, 1)).node;
+  bs_node account = MUST(bs_table_insert(b->locks, t->name, t->table->file, &t->deposit, 1)).node;
   struct row *row;
   pthread_mutex_lock(&b->mutex);
   row = bank_free_row(b);
   row->account = account;
+  row->table = t->table;
   row->number = ++b->numbers;
   row->balance = t->deposit;
   row->is_open = true;
@@ -128,11 +135,13 @@ static void rekey_written(struct txn *t) {
   size_t i;
   for (i = 0; i < t->writes; i++) {
     bs_node account = t->undo[i].account;
+    const struct table *table;
     uint64_t balance;
     if (t->closes && same_node(account, t->closed)) continue;
+    table = bank_table_of(b, account);
     balance = txn_read(t, account);
-    if (same_node(bank_interval_for(b, balance), bank_interval_of(b, account))) continue;
-    MUST(bs_table_rekey(b->locks, t->name, account, b->by_balance, balance, NULL));
+    if (same_node(bank_interval_for(b, table, balance), bank_interval_of(b, account))) continue;
+    MUST(bs_table_rekey(b->locks, t->name, account, table->by_balance, balance, NULL));
     bank_count(b, &b->counts.rekeyed);
   }
 }
@@ -159,7 +168,9 @@ static void roll_back(struct txn *t) {
 
 /* If all slots are taken it sleeps. */
 static bs_reply begin(struct bank *b, uint64_t since) {
-  if (session.table != NULL) return since != 0 ? bs_session_begin_again(&session, since, NULL) : bs_session_begin(&session, NULL);
+  if (session.table != NULL) {
+    return since != 0 ? bs_session_begin_again(&session, since, NULL) : bs_session_begin(&session, NULL);
+  }
   return since != 0 ? bs_table_begin_again_in_turn(b->locks, since, NULL) : bs_table_begin_in_turn(b->locks, NULL);
 }
 

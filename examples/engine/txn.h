@@ -31,7 +31,8 @@ struct txn {
   unsigned patience; /* of each wait, in milliseconds */
   size_t writes;
   struct undo undo[MOST_WRITES];
-  bool opens;        /* an account, with this deposit */
+  bool opens;        /* an account in this table, with this deposit */
+  const struct table *table;
   uint64_t deposit;
   bool closes;       /* this account */
   bs_node closed;
@@ -53,10 +54,11 @@ bs_status txn_end(struct txn *t, bs_status status);
 /* Locks an account in BS_S or BS_X. */
 bs_status txn_lock_account(struct txn *t, bs_node account, bs_mode mode);
 
-/* Lock all accounts of an interval, or all, to read: until the end none of them changes, and none comes or
- * goes. The lock on the table takes the place of those on accounts that were read before. */
-bs_status txn_lock_interval(struct txn *t, size_t place);
-bs_status txn_lock_table(struct txn *t);
+/* Lock all accounts of an interval, of a table, or of all tables, to read: until the end none of them changes, and none
+ * is opened or closed. The lock on a table takes the place of those on accounts that were read before. */
+bs_status txn_lock_interval(struct txn *t, const struct table *table, size_t place);
+bs_status txn_lock_table(struct txn *t, const struct table *table);
+bs_status txn_lock_all(struct txn *t);
 
 /* The transaction has the lock that this takes. */
 uint64_t txn_read(struct txn *t, bs_node account);

@@ -46,21 +46,23 @@ bs_status transfer(struct bank *b, uint64_t *since, const struct order *o) {
   return status;
 }
 
-void found_account(struct bank *b, uint64_t balance) {
+void found_account(struct bank *b, const struct table *table, uint64_t balance) {
   struct txn t = txn_begin(b, NULL, FOR_EVER);
   t.opens = true;
+  t.table = table;
   t.deposit = balance;
   if (txn_end(&t, BS_DONE) != BS_DONE) fail("an account was not founded");
 }
 
-bs_status open_account(struct bank *b, uint64_t *since, bs_node donor, uint64_t deposit, unsigned patience) {
+bs_status open_account(struct bank *b, uint64_t *since, const struct opening *o, unsigned patience) {
   struct txn t = txn_begin(b, since, patience);
-  bs_status status = txn_lock_account(&t, donor, BS_X);
+  bs_status status = txn_lock_account(&t, o->donor, BS_X);
   if (status == BS_DONE) {
-    uint64_t balance = txn_read(&t, donor);
+    uint64_t balance = txn_read(&t, o->donor);
     t.opens = true;
-    t.deposit = deposit < balance ? deposit : balance;
-    txn_write(&t, donor, balance - t.deposit);
+    t.table = o->table;
+    t.deposit = o->deposit < balance ? o->deposit : balance;
+    txn_write(&t, o->donor, balance - t.deposit);
   }
   return finish(&t, status, &b->counts.opened);
 }
@@ -82,24 +84,41 @@ static void read_one(struct txn *t, bs_node account, struct totals *totals) {
   totals->sum += txn_read(t, account);
 }
 
-/* Reads the accounts by their numbers, the first few under a lock on each, the rest under one on the table.
- * New numbers are the highest, so before it has that lock no account can come in behind the reader. */
-static bs_status read_all(struct txn *t, struct totals *totals) {
-  uint64_t number = 0;
+/* Reads the first few accounts of a table under a lock on each, up to this number. */
+static bs_status read_few(struct txn *t, const struct table *table, uint64_t *number, struct totals *totals) {
   size_t locks = 0;
   bs_node account;
-  bs_status status;
-  while (locks < LOCKS_BEFORE_ESCALATION && bank_next_account(t->bank, &number, &account)) {
-    status = txn_lock_account(t, account, BS_S);
+  while (locks < LOCKS_BEFORE_ESCALATION && bank_next_account(t->bank, table, number, &account)) {
+    bs_status status = txn_lock_account(t, account, BS_S);
     if (status == BS_GONE) continue; /* It was closed meanwhile. */
     if (status != BS_DONE) return status;
     read_one(t, account, totals);
     locks++;
   }
-  status = txn_lock_table(t);
-  if (status != BS_DONE) return status;
-  while (bank_next_account(t->bank, &number, &account)) read_one(t, account, totals);
   return BS_DONE;
+}
+
+/* Reads the accounts by their numbers, the first few under a lock on each, the rest under one on the table. New numbers
+ * are the highest, so before it has that lock no account is opened that the reader has passed. */
+static bs_status read_table(struct txn *t, const struct table *table, bool skips_lock, struct totals *totals) {
+  uint64_t number = 0;
+  bs_node account;
+  bs_status status = BS_DONE;
+  if (!skips_lock) status = read_few(t, table, &number, totals);
+  if (!skips_lock && status == BS_DONE) status = txn_lock_table(t, table);
+  if (status != BS_DONE) return status;
+  while (bank_next_account(t->bank, table, &number, &account)) read_one(t, account, totals);
+  return BS_DONE;
+}
+
+static bs_status read_tables(struct txn *t, const struct reading *r, struct totals *totals) {
+  bs_status status = read_table(t, &t->bank->tables[0], false, totals);
+  size_t i;
+  for (i = 1; i < TABLES && status == BS_DONE; i++) {
+    r->between(r->arg);
+    status = read_table(t, &t->bank->tables[i], r->skips_lock, totals);
+  }
+  return status;
 }
 
 /* What a transaction has read it must read again. */
@@ -109,25 +128,35 @@ static void want_same(const char *what, struct totals first, struct totals again
        first.count, first.sum, again.count, again.sum);
 }
 
-bs_status audit(struct bank *b, uint64_t *since, uint64_t sum) {
+/* The same of all accounts, which have this sum. */
+static void want_all(struct bank *b, struct totals totals, uint64_t sum) {
+  if (totals.sum != sum) fail("wrong sum: read %" PRIu64 " in place of %" PRIu64, totals.sum, sum);
+  let_others_run(NULL);
+  want_same("the whole", totals, bank_total(b));
+}
+
+bs_status audit_tables(struct bank *b, uint64_t *since, const struct reading *r) {
   struct txn t = txn_begin(b, since, FOR_EVER);
   struct totals totals = { 0, 0 };
-  bs_status status = read_all(&t, &totals);
-  if (status == BS_DONE) {
-    if (totals.sum != sum) fail("wrong sum: read %" PRIu64 " in place of %" PRIu64, totals.sum, sum);
-    let_others_run(NULL);
-    want_same("the table", totals, bank_total(b));
-  }
+  bs_status status = read_tables(&t, r, &totals);
+  if (status == BS_DONE) want_all(b, totals, r->sum);
   return finish(&t, status, &b->counts.audits);
 }
 
-bs_status list_interval(struct bank *b, uint64_t *since, size_t place) {
+bs_status audit_all(struct bank *b, uint64_t *since, uint64_t sum) {
   struct txn t = txn_begin(b, since, FOR_EVER);
-  bs_status status = txn_lock_interval(&t, place);
+  bs_status status = txn_lock_all(&t);
+  if (status == BS_DONE) want_all(b, bank_total(b), sum);
+  return finish(&t, status, &b->counts.whole_audits);
+}
+
+bs_status list_interval(struct bank *b, uint64_t *since, const struct table *table, size_t place) {
+  struct txn t = txn_begin(b, since, FOR_EVER);
+  bs_status status = txn_lock_interval(&t, table, place);
   if (status == BS_DONE) {
-    struct totals totals = bank_total_of_interval(b, place);
+    struct totals totals = bank_total_of_interval(b, table, place);
     let_others_run(NULL);
-    want_same("an interval", totals, bank_total_of_interval(b, place));
+    want_same("an interval", totals, bank_total_of_interval(b, table, place));
   }
   return finish(&t, status, &b->counts.lists);
 }

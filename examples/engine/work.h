@@ -24,17 +24,34 @@ bs_status move_money(struct txn *t, const struct order *o);
 
 bs_status transfer(struct bank *b, uint64_t *since, const struct order *o);
 
-/* Opens an account with money from nowhere, while nothing else runs. */
-void found_account(struct bank *b, uint64_t balance);
+/* Opens an account in a table with money from nowhere, while nothing else runs. */
+void found_account(struct bank *b, const struct table *table, uint64_t balance);
 
-/* Open an account with money of another, and close one, whose money goes to another. */
-bs_status open_account(struct bank *b, uint64_t *since, bs_node donor, uint64_t deposit, unsigned patience);
+/* An account that is to be opened in a table, with so much of a donor's money. */
+struct opening {
+  const struct table *table;
+  bs_node donor;
+  uint64_t deposit;
+};
+
+/* Open an account with money of another, and close one, whose money is paid to another. */
+bs_status open_account(struct bank *b, uint64_t *since, const struct opening *o, unsigned patience);
 bs_status close_account(struct bank *b, uint64_t *since, bs_node account, bs_node heir, unsigned patience);
 
-/* Reads all accounts, and then again. Fails where they do not have this sum, or the totals differ. */
-bs_status audit(struct bank *b, uint64_t *since, uint64_t sum);
+/* To read all tables, one after the other. */
+struct reading {
+  uint64_t sum;               /* of all accounts */
+  void (*between)(void *arg); /* is called after the first table, and before each other */
+  void *arg;
+  bool skips_lock;            /* the planted fault: the other tables are read without a lock */
+};
 
-/* Reads all accounts of an interval, and then again. Fails where the totals differ. */
-bs_status list_interval(struct bank *b, uint64_t *since, size_t place);
+/* Read all accounts, and then again: under a lock on each table, or one on all. Fail if they have another sum, or the
+ * totals differ. */
+bs_status audit_tables(struct bank *b, uint64_t *since, const struct reading *r);
+bs_status audit_all(struct bank *b, uint64_t *since, uint64_t sum);
+
+/* Reads all accounts of an interval, and then again. Fails if the totals differ. */
+bs_status list_interval(struct bank *b, uint64_t *since, const struct table *table, size_t place);
 
 #endif
