@@ -1,5 +1,6 @@
 #include "bank.h"
 
+#include "burlapslate_running.h"
 #include "check.h"
 
 #include <inttypes.h>
@@ -71,7 +72,7 @@ struct row *bank_free_row(struct bank *b) {
 
 /* ------------------------------------------------------------------------------------------------
  * Questions of the locks. A table without parts lends its manager. One with parts lends a manager of each part and a
- * main one, which is the first: each has its own names of nodes and transactions.
+ * main one, which is the first: each has its own names of nodes.
  */
 
 static const bs_manager *hold(struct bank *b, uint32_t part) {
@@ -118,18 +119,8 @@ bs_node bank_interval_of(struct bank *b, bs_node account) {
   return named(b, bs_parent(m, name_in(b, account, part), PLACE_OF_INTERVAL), part);
 }
 
-/* A transaction has its slot in each part, and another age. */
-static bool is_waiting_in(struct bank *b, bs_txn txn, uint32_t part) {
-  const bs_manager *m = hold(b, part);
-  bs_reply doing = bs_doing(m, b->group == NULL ? txn : bs_living(m, txn.slot).txn);
-  let_go(b, part);
-  return doing.status == BS_DONE && doing.count == BS_WAITS;
-}
-
 bool bank_is_waiting(struct bank *b, bs_txn txn) {
-  uint32_t part = 0;
-  while (part < b->managers && !is_waiting_in(b, txn, part)) part++;
-  return part < b->managers;
+  return bs_table_waited(b->locks, txn).status == BS_DONE;
 }
 
 bs_counts bank_lock_counts(struct bank *b) {
