@@ -11,8 +11,8 @@ enum { PLACE_OF_INTERVAL = 1 };
 /* Below the data base and above the records: the tables, their indexes and the intervals of these. */
 enum { NODES_BETWEEN = TABLES * (2 + INTERVALS) };
 
-/* The nanoseconds after which a thread that watches over parts looks again. */
-enum { PACE = 500000 };
+/* For so many nanoseconds the thread that watches rests after each look. */
+enum { PACE = 200000 };
 
 static const uint64_t bounds[INTERVALS - 1] = { 50, 150, 300 };
 
@@ -23,12 +23,12 @@ bool same_node(bs_node a, bs_node b) {
 static void make_locks(struct bank *b, uint32_t parts, bool has_watch) {
   bs_options options = { 0 };
   options.parts = parts;
-  options.detect = has_watch && parts <= 1 ? BS_BY_WATCHER : BS_AT_BLOCK;
+  options.detect = has_watch ? BS_BY_WATCHER : BS_AT_BLOCK;
   b->locks = NULL;
   MUST(bs_table_make(&b->locks, &options));
   b->group = bs_table_group_of(b->locks);
   b->managers = b->group == NULL ? 1 : parts + 1;
-  if (has_watch) MUST(bs_table_watch_thread(b->locks, b->group == NULL ? 0 : PACE));
+  if (has_watch) MUST(bs_table_watch_thread(b->locks, PACE));
 }
 
 void bank_open(struct bank *b, uint32_t parts, bool has_watch) {

@@ -54,7 +54,8 @@ struct totals {
   uint64_t count, sum;
 };
 
-/* The locks have so many parts, if more than one. With a watch a thread ends deadlocks, in parts those over several. */
+/* The locks have so many parts. With a watch a thread ends deadlocks; if there are several parts, those over more than
+ * one. */
 void bank_open(struct bank *b, uint32_t parts, bool has_watch);
 void bank_close(struct bank *b);
 
