@@ -124,19 +124,15 @@ typedef enum table_stage { TABLE_OPEN = 0, TABLE_ENDING, TABLE_ENDED } table_sta
 /* The bytes of a cache line. */
 enum { TABLE_LINE = 64 };
 
-/* All fields after `pauses` are read and written with the latch held. What each call reads alone is in the first cache
- * line, which so stays in the caches of all processors; what each call writes, up to the count of `told`, in the second. */
+/* All fields but the latch, `group` and `looks` are read and written with the latch held. The latch is in a cache line
+ * with what no call writes: who retries it takes that line from its holder, and not the next one, which has what each call
+ * writes, up to the count of `told`. */
 struct bs_table {
+  pthread_mutex_t latch;
   bs_table_group *group;          /* null; of a table with parts its group, and then nothing else is used. No latch is
                                    * needed: it stays as long as the table does */
-  bs_manager manager;             /* its place never changes; whether it is open is read with the latch */
-  void *block;                    /* what malloc gave */
-  uint32_t looks, pauses;         /* how often a thread that finds the latch held retries before it sleeps, and how often
-                                   * it pauses before each retry */
-  bs_inside_look *look;           /* null, or what each sleeper calls now and then */
-  void *look_context;
-  pthread_mutex_t latch __attribute__((aligned(TABLE_LINE)));
-  table_stage stage;
+  bs_manager manager;
+  table_stage stage __attribute__((aligned(TABLE_LINE)));
   bool is_due;                    /* this hold has ended waits: waiters are woken or told as it ends */
   bool is_traced;                 /* it has a trace */
   bool has_rested;                /* a transaction of a session has rested: one may rest still */
@@ -148,6 +144,9 @@ struct bs_table {
                                    * thread watched then: the first board of one that starts later has all waits */
   bs_slots to_wake;               /* the slots whose sleepers must be woken after this hold */
   bs_table *held_before;          /* if bs_table_hold holds this one: what its holder held before */
+  void *block;                    /* what malloc gave */
+  uint32_t looks, pauses;         /* how often a thread that finds the latch held retries before it sleeps, and how often
+                                   * it pauses before each retry */
   pthread_cond_t ended[BS_SLOTS]; /* by slot: a wait is over */
   table_waiter *waiters[BS_SLOTS]; /* by slot: who awaits its end */
   table_deadline deadlines[BS_SLOTS]; /* by slot: of the transaction of this age, and of no later one */
@@ -163,6 +162,8 @@ struct bs_table {
   bs_call_namer namer;            /* how the engine names nodes, in dumps */
   bs_running running;             /* the times of its waits */
   bs_trace *trace;                /* null if it has none */
+  bs_inside_look *look;           /* null, or what each sleeper calls now and then */
+  void *look_context;
 };
 
 /* Rare code is not inlined, so that the path of each call is short. What each caller gives another constant is: so a
