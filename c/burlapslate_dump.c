@@ -347,8 +347,9 @@ static bs_reply dump_alone(const bs_manager *held, bs_table *table, FILE *out) {
 /* Dumps each table of one with parts, up to the first that refuses it. The main table keeps the engine's names. */
 static bs_reply dump_of_group(bs_table_group *group, FILE *out) {
   bs_table *main = bs_inside_table_of(group, 0);
-  dump_source of = { NULL, main, bs_call_table_namer(main, NULL), group, 0 };
-  bs_reply reply = bs_call_only(BS_DONE);
+  dump_source of = { NULL, main, { NULL, NULL }, group, 0 };
+  bs_reply reply = bs_inside_open(group);
+  if (reply.status == BS_DONE) of.namer = bs_call_table_namer(main, NULL);
   while (of.table != NULL && reply.status == BS_DONE) {
     if (of.number == 0) fprintf(out, "Main table:\n");
     else fprintf(out, "\nPart %u:\n", of.number);

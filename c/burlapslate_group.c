@@ -2760,6 +2760,10 @@ bs_reply bs_group_await(bs_table_group *group, bs_txn txn, const struct timespec
   return group_await_end(own->ask, is_limited ? &own->deadline : until);
 }
 
+bs_reply bs_inside_open(const bs_table_group *group) {
+  return group_only(group_shut(group));
+}
+
 bs_reply bs_inside_lives(bs_table_group *group, bs_txn txn) {
   bs_status shut = group_shut(group);
   if (shut != BS_DONE) return group_only(shut);
@@ -2844,22 +2848,23 @@ static void group_session_has_none(bs_session *session, bs_txn rests) {
   session->rests = rests;
 }
 
-/* Begins a session's transaction so. Its group keeps at least as many intentions as the session. */
-static bs_reply group_session_has(bs_table_group *group, bs_session *session, bs_reply begun) {
-  if (begun.status != BS_DONE) return begun;
-  session->txn = begun.txn;
-  if (__atomic_load_n(&group->most_kept, __ATOMIC_RELAXED) < session->most) bs_group_keep(group, session->most);
+/* Begins a session's transaction so. */
+static bs_reply group_session_has(bs_session *session, bs_reply begun) {
+  if (begun.status == BS_DONE) session->txn = begun.txn;
   return begun;
 }
 
 bs_reply bs_inside_session_begin(bs_session *session, uint64_t since, const struct timespec *until) {
   bs_table_group *group = bs_table_group_of(session->table);
   if (group_named(group, session->txn) != NULL) return group_only(BS_IN_USE);
-  return group_session_has(group, session, bs_group_begin_again_in_turn(group, since, until));
+  return group_session_has(session, bs_group_begin_again_in_turn(group, since, until));
 }
 
 bs_reply bs_inside_session_commit(bs_session *session) {
-  bs_reply reply = bs_group_commit(bs_table_group_of(session->table), session->txn);
+  bs_table_group *group = bs_table_group_of(session->table);
+  bs_reply reply;
+  if (__atomic_load_n(&group->most_kept, __ATOMIC_RELAXED) < session->most) bs_group_keep(group, session->most);
+  reply = bs_group_commit(group, session->txn);
   if (reply.status == BS_DONE) group_session_has_none(session, session->txn);
   return reply;
 }
@@ -2894,7 +2899,7 @@ size_t bs_inside_session_run(bs_session *session, bs_command *commands, size_t c
   bs_reply begun = group_only(BS_DONE);
   size_t done = 0;
   if (count == 0) return 0;
-  if (group_named(group, session->txn) == NULL) begun = group_session_has(group, session, bs_group_begin(group));
+  if (group_named(group, session->txn) == NULL) begun = group_session_has(session, bs_group_begin(group));
   for (; begun.status == BS_DONE && done < count; done++) {
     bs_command *next = &commands[done];
     bool is_own = bs_inside_is_own(next);

@@ -262,6 +262,9 @@ bs_status bs_inside_end_resting(bs_table *table);
 /* A table of the group by its number; null if it has none. */
 bs_table *bs_inside_table_of(bs_table_group *group, uint32_t number);
 
+/* Whether this thread may call the group: BS_DONE, or why not. It holds no table then. */
+bs_reply bs_inside_open(const bs_table_group *group);
+
 /* Whether a transaction of the group has this name: BS_DONE, or why not. */
 bs_reply bs_inside_lives(bs_table_group *group, bs_txn txn);
 

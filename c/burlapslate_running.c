@@ -316,7 +316,7 @@ static void running_add_waits(bs_waits *all, const bs_waits *one) {
 /* The waits of all parts, each of its own moment. */
 static bs_reply running_waits_of_parts(bs_table_group *group, bs_waits *waits) {
   bs_table *part = bs_inside_table_of(group, 0);
-  bs_reply reply = bs_call_only(BS_DONE);
+  bs_reply reply = bs_inside_open(group);
   bs_waits all, one;
   uint32_t number = 0;
   memset(&all, 0, sizeof all);
@@ -422,7 +422,7 @@ static void running_add_awaited(bs_table_group *group, uint32_t number, bs_await
 /* The nodes that were awaited longest in all parts, each of its own moment. */
 static bs_reply running_awaited_in_parts(bs_table_group *group, bs_awaited *awaited, bool reset) {
   bs_table *part = bs_inside_table_of(group, 0);
-  bs_reply reply = bs_call_only(BS_DONE);
+  bs_reply reply = bs_inside_open(group);
   bs_awaited all, one;
   uint32_t number = 0;
   memset(&all, 0, sizeof all);

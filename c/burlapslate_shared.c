@@ -2340,9 +2340,17 @@ bs_reply bs_table_let_go(bs_table *table) {
   return table_leave(table, bs_call_only(BS_DONE));
 }
 
+/* The main table of a group keeps the function. */
+static bs_reply table_name_nodes_of_group(bs_table_group *group,
+                                          void (*function)(void *context, bs_node node, char *text, size_t room),
+                                          void *context) {
+  bs_reply reply = bs_inside_open(group);
+  return reply.status == BS_DONE ? bs_table_name_nodes(bs_inside_table_of(group, 0), function, context) : reply;
+}
+
 bs_reply bs_table_name_nodes(bs_table *table,
                              void (*function)(void *context, bs_node node, char *text, size_t room), void *context) {
-  TABLE_BY_GROUP(table, bs_table_name_nodes(bs_inside_table_of(table->group, 0), function, context));
+  TABLE_BY_GROUP(table, table_name_nodes_of_group(table->group, function, context));
   if (!table_enter(table)) return table_no_table(table);
   table->namer.function = function;
   table->namer.context = context;

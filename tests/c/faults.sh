@@ -473,6 +473,7 @@ group-turns-are-kept	/ group_begin_by_turn(/,/^}/s/^  bs_table_abort(.*//
 group-renews-as-new	/^bs_reply bs_group_renew(/,/^}/s/group_begin_in(group, own, since)/group_begin_in(group, own, UINT64_MAX)/
 group-watches-never	/group_watch_over(void/,/^}/s/ group_settle_all(group);/ ;/
 group-leaves-who-sleeps-for-a-slot	/ group_end_turns(/,/^}/s/^  if (turns->table != NULL) bs_table_end(turns->table);//
+parts-are-told-of-with-a-latch	/^bs_reply bs_inside_open(/,/^}/s/group_shut(group)/group_closed(group)/
 parts-dump-without-names	/^bs_reply bs_table_name_nodes(/,/^}/s/^  TABLE_BY_GROUP(.*/  TABLE_BY_GROUP(table, bs_call_only(BS_DONE));/
 parts-name-nodes-of-parts	/ dump_put_name(/,/^}/s/^  if (of->group != NULL) node = .*//
 parts-count-the-nodes-of-one	/ metrics_add_part(/,/^}/s/nodes += /nodes = /
@@ -493,7 +494,7 @@ group-counts-no-victim	/ group_settle_one(/,/^}/s/^    __atomic_fetch_add(.*//
 parts-session-begins-twice	/^bs_reply bs_inside_session_begin(/,/^}/s/^  if (group_named(.*//
 parts-session-ends-in-a-transaction	/^bs_reply bs_inside_session_end(/,/^}/s/^  if (group_named(.*//
 parts-session-begins-as-new	/^bs_reply bs_inside_session_begin(/,/^}/s/group, since, until/group, UINT64_MAX, until/
-parts-session-keeps-nothing	/^static bs_reply group_session_has(/,/^}/s/^  if (__atomic_load_n(&group->most_kept.*//
+parts-session-keeps-nothing	/^bs_reply bs_inside_session_commit(/,/^}/s/^  if (__atomic_load_n(&group->most_kept.*//
 parts-session-commits-others	/^size_t bs_inside_session_run(/,/^}/s/if (is_own \&\& next->kind == BS_DO_COMMIT)/if (next->kind == BS_DO_COMMIT)/
 parts-session-loses-what-it-renewed	/^size_t bs_inside_session_run(/,/^}/s/^    if (is_own \&\& next->kind == BS_DO_RENEW) .*//
 parts-insert-with-any-keep	/^bs_reply bs_table_insert_path(/,/^}/s/keep > BS_KEEP_WAY ?/false ?/

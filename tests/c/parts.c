@@ -827,6 +827,44 @@ static bool has_line(FILE *file, const char *line) {
   return false;
 }
 
+/* A thread that holds the main table until it is told. */
+typedef struct main_holder {
+  pthread_t thread;
+  bs_table_group *group;
+  bool holds, is_over; /* atomic */
+} main_holder;
+
+static void *hold_main(void *place) {
+  main_holder *own = (main_holder *)place;
+  WANT(bs_group_hold(own->group, 0) != NULL);
+  __atomic_store_n(&own->holds, true, __ATOMIC_RELEASE);
+  while (!__atomic_load_n(&own->is_over, __ATOMIC_ACQUIRE)) nap();
+  DONE(bs_group_let_go(own->group, 0));
+  return NULL;
+}
+
+/* A thread that holds a part waits for no other latch. */
+static void holders_are_refused(world *w, bs_table_group *group, bs_txn txn, FILE *file) {
+  main_holder other = { 0, group, false, false };
+  bs_awaited awaited;
+  bs_waits waits;
+  start(&other.thread, hold_main, &other);
+  while (!__atomic_load_n(&other.holds, __ATOMIC_ACQUIRE)) nap();
+  WANT(bs_group_hold(group, PARTS) != NULL);
+  ANSWERS(BS_IN_USE, bs_table_dump(w->table, file));
+  ANSWERS(BS_IN_USE, bs_table_waits(w->table, &waits));
+  ANSWERS(BS_IN_USE, bs_table_waited(w->table, txn));
+  ANSWERS(BS_IN_USE, bs_table_awaited(w->table, &awaited, true));
+  ANSWERS(BS_IN_USE, bs_table_metrics(w->table, writes, written));
+  ANSWERS(BS_IN_USE, bs_table_settle(w->table, txn, NULL));
+  ANSWERS(BS_IN_USE, bs_table_ask_begin(w->table, NULL, words));
+  ANSWERS(BS_IN_USE, bs_table_cancel_begin(w->table, words));
+  ANSWERS(BS_IN_USE, bs_table_name_nodes(w->table, names_node, w));
+  DONE(bs_group_let_go(group, PARTS));
+  __atomic_store_n(&other.is_over, true, __ATOMIC_RELEASE);
+  join(other.thread);
+}
+
 static void each_part_is_dumped(world *w) {
   bs_table_group *group = bs_table_group_of(w->table);
   bs_txn txn = begun(w);
@@ -837,9 +875,8 @@ static void each_part_is_dumped(world *w) {
   DONE(bs_table_dump(w->table, file));
   WANT(has_line(file, "Main table:") && has_line(file, "Part 1:") && has_line(file, "Part 5:"));
   WANT(!has_line(file, "Part 6:") && has_line(file, "Locks by transaction:"));
-  WANT(bs_group_hold(group, 1) != NULL);
-  ANSWERS(BS_IN_USE, bs_table_dump(w->table, file));
-  DONE(bs_group_let_go(group, 1));
+  DONE(bs_table_name_nodes(w->table, names_node, w));
+  holders_are_refused(w, group, txn, file);
   fclose(file);
   commit(w, txn);
 }
