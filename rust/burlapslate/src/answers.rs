@@ -203,7 +203,6 @@ impl Answers {
 
     /// In a group the wait goes on to the end of its request, which was this. A command of a row asks for that again, which
     /// is granted at once.
-    #[cfg_attr(not(target_pointer_width = "64"), allow(dead_code))]
     pub(crate) fn has_come_to(&mut self, end: Result<Mode, Stop>) -> Result<(), Stop> {
         self.has_ended(end, true)
     }

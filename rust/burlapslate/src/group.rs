@@ -7,6 +7,7 @@ use crate::mode::{Detect, Mode};
 use crate::names::{Node, Row, Txn};
 use crate::refusal::{accepted, done, Refusal};
 use crate::session::{deadline, ended, Handle, Keep, RowLocked, Stop, Tried};
+use crate::sys::awaited::Asks;
 use crate::sys::group::{self, Savepoint, Transaction};
 use crate::sys::shared::Time;
 use crate::table::node_of;
@@ -108,12 +109,17 @@ impl Group {
     pub fn with_options(options: Options, parts: usize) -> Result<Group, Refusal> {
         let options = options.checked()?;
         let parts = within(parts, MOST_PARTS)?;
-        Ok(Group {
-            group: group::Group::new(&options, parts)?,
+        Ok(Group::of(group::Group::new(&options, parts)?, parts))
+    }
+
+    /// With so many parts.
+    pub(crate) fn of(group: group::Group, parts: u32) -> Group {
+        Group {
+            group,
             parts,
             clock: Clock::new(),
             watching: Watching::new(),
-        })
+        }
     }
 
     /// How many parts it has. Beside them it has the main table, whose number is 0.
@@ -502,6 +508,40 @@ impl Group {
     /// ```
     pub fn name_of(&self, node: Node, table: usize) -> Result<Node, Refusal> {
         node_of(self.group.name_of(node, self.table(table)?))
+    }
+
+    /// The node of a row, if it has one now; refused while the thread holds a table.
+    pub(crate) fn row_node(&self, row: Row) -> Result<Option<Node>, Refusal> {
+        let named = match self.file_of_row(row) {
+            Err(Refusal::NotRows) => row.file,
+            named => named?,
+        };
+        let (table, number) = (Group::table_of(named), row.number);
+        let Ok(file) = self.name_in(named, table) else {
+            return Ok(None);
+        };
+        let asked = self.with_table(table, |m| m.row_node(Row { file, number }))?;
+        Ok(asked.and_then(|node| self.name_of(node, table).ok()))
+    }
+
+    /// What each of its tables has, each of its own moment, as text in columns, by their numbers; refused while the thread
+    /// holds a table.
+    pub(crate) fn dump(&self) -> Result<String, Refusal> {
+        let mut text = String::new();
+        for table in 0..=self.parts() {
+            text += &match table {
+                0 => "Main table:\n".to_owned(),
+                part => format!("\nPart {part}:\n"),
+            };
+            text += &self.with_table(table, |m| m.listing().to_string())?;
+        }
+        Ok(text)
+    }
+
+    /// The mode in which a transaction of a table with parts holds a node. It is a call of its session's.
+    pub(crate) fn held(&self, txn: Txn, node: Node) -> Result<Mode, Refusal> {
+        let reply = accepted(self.group.held(txn, node))?;
+        Ok(Mode::of(reply.mode))
     }
 
     /// The number of a part.

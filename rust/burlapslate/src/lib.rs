@@ -173,8 +173,7 @@ pub const MOST_PARENTS: usize = 8;
 /// How many watchers a manager can have at once.
 pub const MOST_WATCHERS: usize = 8;
 
-/// How many parts a [`Group`] can have.
-#[cfg(target_pointer_width = "64")]
+/// How many parts a [`Group`] or a [`Table`] can have.
 pub const MOST_PARTS: usize = 63;
 
 /// The examples of the README.

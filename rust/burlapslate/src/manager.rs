@@ -9,7 +9,7 @@ use crate::refusal::{accepted, Refusal};
 use crate::session::Stop;
 use crate::sys::{self, Pinned, Reply};
 use crate::watcher::Watcher;
-use crate::SLOTS;
+use crate::{MOST_PARTS, SLOTS};
 use std::fmt;
 use std::time::Duration;
 
@@ -168,11 +168,12 @@ pub struct Options {
     transactions: usize,
     nodes: usize,
     bounds: usize,
+    parts: usize,
 }
 
 impl Options {
-    /// For [`SLOTS`] transactions and 65,536 nodes at once, and 256 bounds of an index; the victim of a
-    /// deadlock is its youngest member.
+    /// For [`SLOTS`] transactions and 65,536 nodes at once, 256 bounds of an index, and one part; the victim
+    /// of a deadlock is its youngest member.
     pub fn new(detect: Detect) -> Options {
         Options {
             detect,
@@ -180,6 +181,7 @@ impl Options {
             transactions: SLOTS,
             nodes: 65_536,
             bounds: 256,
+            parts: 1,
         }
     }
 
@@ -206,12 +208,32 @@ impl Options {
         Options { bounds, ..self }
     }
 
+    /// For a [`Table`](crate::Table) with so many parts, 1 to [`MOST_PARTS`], each with a latch of its own. With more
+    /// than one, detection is [`AtBlock`](Detect::AtBlock), and the number of nodes is that of each part. A [`Manager`]
+    /// has one part. A [`Group`](crate::Group) is told how many it has when it is made, and does not look at this.
+    ///
+    /// ```
+    /// use burlapslate::{Detect, Mode, Options, Stop, Table};
+    ///
+    /// let table = Table::with_options(Options::new(Detect::AtBlock).parts(16))?;
+    /// let db = table.add_inner(&[])?;
+    /// let orders = table.add_file(&[db])?; // In each part by turns.
+    /// let mut session = table.begin()?;
+    /// assert_eq!(session.lock_path(orders, Mode::X), Ok(Mode::X));
+    /// session.commit()?;
+    /// # Ok::<(), Stop>(())
+    /// ```
+    pub fn parts(self, parts: usize) -> Options {
+        Options { parts, ..self }
+    }
+
     /// As the library takes them; refused if a number is out of range.
     pub(crate) fn checked(self) -> Result<sys::Options, Refusal> {
         let can_be = 1..=1 << 31;
         let can_have = (1..=SLOTS).contains(&self.transactions)
             && can_be.contains(&self.nodes)
-            && can_be.contains(&self.bounds);
+            && can_be.contains(&self.bounds)
+            && (1..=MOST_PARTS).contains(&self.parts);
         if !can_have {
             return Err(Refusal::BadNumber);
         }
@@ -221,7 +243,7 @@ impl Options {
             transactions: self.transactions as u32,
             nodes: self.nodes as u32,
             bounds: self.bounds as u32,
-            parts: 1,
+            parts: self.parts as u32,
         })
     }
 }
@@ -243,10 +265,13 @@ impl Manager {
 
     /// By options.
     ///
-    /// Refused with [`BadNumber`](Refusal::BadNumber), [`NoMemory`](Refusal::NoMemory). Memory for
-    /// nodes is taken as they are made.
+    /// Refused with [`BadNumber`](Refusal::BadNumber), also for more than one part, and with
+    /// [`NoMemory`](Refusal::NoMemory). Memory for nodes is taken as they are made.
     pub fn with_options(options: Options) -> Result<Manager, Refusal> {
         let options = options.checked()?;
+        if options.parts > 1 {
+            return Err(Refusal::BadNumber);
+        }
         let mut pinned = Pinned::new().ok_or(Refusal::NoMemory)?;
         accepted(sys::bs_call_make_with(
             pinned.place_mut(),

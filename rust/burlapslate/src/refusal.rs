@@ -69,7 +69,7 @@ pub enum Refusal {
     TooManyWatchers,
     /// A call that could sleep, in a waker or while the thread holds a table ([`Table::with`](crate::Table::with),
     /// [`Group::with_table`](crate::Group::with_table)); or any call of the table that the thread holds, or of a
-    /// [`Group`](crate::Group) while it holds any table; or the part of
+    /// [`Group`](crate::Group) or a table with parts while it holds any table; or the part of
     /// [`Manager::next_copy`](crate::Manager::next_copy) is the manager itself.
     InUse,
     /// More than 8 parents, or a manager for none or more than [`SLOTS`](crate::SLOTS) transactions, or a number of a
@@ -82,6 +82,9 @@ pub enum Refusal {
     NoTrace,
     /// A trace could not be written to its end; or it has no line for this call.
     NotWritten,
+    /// A table with parts ([`Options::parts`](crate::Options::parts)) has no such call; or it is a call of
+    /// [`Table`](crate::Table) that would end the transaction of a session.
+    InParts,
 }
 
 impl Refusal {
@@ -118,6 +121,7 @@ impl Refusal {
             sys::TOO_LATE => Refusal::TooLate,
             sys::NO_TRACE => Refusal::NoTrace,
             sys::NOT_WRITTEN => Refusal::NotWritten,
+            sys::IN_PARTS => Refusal::InParts,
             // Null pointers, places without a manager and the like cannot come from these types.
             status => unreachable!("the library answered with status {status}"),
         }
@@ -156,6 +160,7 @@ impl Refusal {
             Refusal::TooLate => "TooLate",
             Refusal::NoTrace => "NoTrace",
             Refusal::NotWritten => "NotWritten",
+            Refusal::InParts => "InParts",
         }
     }
 }
@@ -195,7 +200,7 @@ mod tests {
     }
 
     /// The names of the statuses by number, those that the safe calls never answer left out.
-    const TEXTS: [(u32, &str); 27] = [
+    const TEXTS: [(u32, &str); 28] = [
         (1, "NoMemory"),
         (2, "NoSuchNode"),
         (3, "NoSuchTxn"),
@@ -223,6 +228,7 @@ mod tests {
         (70, "TooManyWatchers"),
         (71, "RowsByNumber"),
         (72, "NotRows"),
+        (78, "InParts"),
     ];
 
     #[test]

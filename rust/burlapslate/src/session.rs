@@ -5,10 +5,11 @@ use crate::mode::Mode;
 use crate::names::{Node, Row, Txn};
 use crate::refusal::{accepted, done, Refusal};
 use crate::resting::Resting;
+use crate::sys::awaited::{Asks, Resumes};
 use crate::sys::commands::{self, Command};
 use crate::sys::shared::{self, Calling, Kept};
 use crate::sys::{self, Reply};
-use crate::table::{node_of, Asker, Locking, Sought, Table};
+use crate::table::{node_of, Locking, Sought, Table, Transaction};
 use std::error::Error;
 use std::fmt;
 use std::ops::Deref;
@@ -273,8 +274,9 @@ pub(crate) fn try_first(
 
 /// A transaction of a [`Table`], which one thread drives. A lock call sleeps until the lock is granted.
 /// A session that is dropped without a commit is aborted, so that its locks never outlive it: undo what
-/// it wrote first. Within the closure of [`Table::with`] it cannot be aborted: a drop panics there. It borrows
-/// its table, or is one of its owners ([`Table::begin_shared`]).
+/// it wrote first. Within the closure of [`Table::with`] it cannot be aborted: a drop panics there. If its table has
+/// parts, a drop panics while the thread holds any table, and in a waker while a lock waits that a list has left. It
+/// borrows its table, or is one of its owners ([`Table::begin_shared`]).
 ///
 /// ```
 /// use burlapslate::{Detect, Mode, Table, SLOTS};
@@ -289,8 +291,7 @@ pub(crate) fn try_first(
 /// ```
 #[must_use = "a session that is dropped is aborted"]
 pub struct Session<'t> {
-    table: Handle<'t>,
-    txn: Txn,
+    own: Transaction<'t>,
     has_ended: bool,
     /// The deadline of each of its waits.
     deadline: Option<Instant>,
@@ -327,7 +328,7 @@ impl<T> Deref for Handle<'_, T> {
 impl Session<'static> {
     /// The same transaction, in a session that shares ownership of its table.
     pub(crate) fn shared(table: &Arc<Table>, lent: Session<'_>) -> Session<'static> {
-        Session::over(Handle::Shared(Arc::clone(table)), lent.leave())
+        Session::over(Handle::Shared(Arc::clone(table)), lent.ends())
     }
 }
 
@@ -343,8 +344,7 @@ impl<'t> Session<'t> {
     /// With so many locks that the transaction before it has kept.
     pub(crate) fn with_kept(table: Handle<'t>, txn: Txn, kept: u32) -> Session<'t> {
         Session {
-            table,
-            txn,
+            own: Transaction::new(table, txn),
             has_ended: false,
             deadline: None,
             kept,
@@ -353,7 +353,7 @@ impl<'t> Session<'t> {
 
     /// The name of its transaction, by which other threads may abort, cancel or settle it.
     pub fn txn(&self) -> Txn {
-        self.txn
+        self.own.txn
     }
 
     /// Ends its transaction and begins another, which holds what it held, as [`Manager::renew`](crate::Manager::renew):
@@ -370,9 +370,13 @@ impl<'t> Session<'t> {
     /// assert_ne!(session.txn(), before);
     /// # Ok::<(), burlapslate::Refusal>(())
     /// ```
+    ///
+    /// If the table has parts, what the transaction held is released, but for what is kept as by
+    /// [`Group::keep`](crate::Group::keep).
     pub fn renew(&mut self, since: u64) -> Result<(), Refusal> {
-        let reply = shared::bs_table_renew(&self.call(), self.txn, since);
-        self.txn = accepted(reply)?.txn;
+        let _resumes = Resumes; // So the panic of a waker finds the new name noted.
+        let reply = shared::bs_table_renew(self.own.table.shared(), self.own.txn, since);
+        self.own.txn = accepted(reply)?.txn;
         Ok(())
     }
 
@@ -397,7 +401,7 @@ impl<'t> Session<'t> {
 
     /// The table for one call of the library.
     fn call(&self) -> Calling<'_> {
-        self.table.call()
+        self.own.call()
     }
 
     /// The earlier of this time and its own.
@@ -408,7 +412,7 @@ impl<'t> Session<'t> {
     /// Locks a row, within the earlier of this time and its own.
     #[inline(always)]
     fn sought_row(&mut self, sought: Sought<'_>, time: Option<Instant>) -> Result<RowLocked, Stop> {
-        self.table.lock(self.txn, sought, self.until(time))
+        self.own.table.lock(self.own.txn, sought, self.until(time))
     }
 
     /// The same of a node or a path, which has no keys.
@@ -418,9 +422,9 @@ impl<'t> Session<'t> {
     }
 
     /// Locks what is requested, for a task.
-    fn locking<'a>(&'a mut self, sought: Sought<'a>) -> Locking<'a, Asker<'a>> {
-        let (table, txn) = (&*self.table, self.txn);
-        Locking::new(Asker { table, txn }, sought, self.until(None))
+    fn locking<'a>(&'a mut self, sought: Sought<'a>) -> Locking<'a, Transaction<'t>> {
+        let time = self.own.table.time(self.deadline);
+        Locking::new(&mut self.own, sought, self.deadline, time)
     }
 
     /// As [`Manager::lock`](crate::Manager::lock), but the call sleeps until the lock is granted or the
@@ -744,7 +748,7 @@ impl<'t> Session<'t> {
         keep: Keep,
     ) -> Result<Tried<Mode>, Refusal> {
         let (mode, keep) = (mode as u32, keep.as_number());
-        let reply = shared::bs_table_try_path(&self.call(), self.txn, node, mode, keep);
+        let reply = shared::bs_table_try_path(&self.call(), self.own.txn, node, mode, keep);
         Tried::of_node(&reply)
     }
 
@@ -760,7 +764,7 @@ impl<'t> Session<'t> {
         keys: &[u64],
         mode: Mode,
     ) -> Result<Tried<RowLocked>, Refusal> {
-        let reply = shared::try_row(&self.call(), self.txn, row, keys, mode as u32);
+        let reply = shared::try_row(&self.call(), self.own.txn, row, keys, mode as u32);
         Tried::of(&reply)
     }
 
@@ -794,7 +798,7 @@ impl<'t> Session<'t> {
         keep: Keep,
     ) -> Result<Tried<RowLocked>, Refusal> {
         let (mode, keep) = (mode as u32, keep.as_number());
-        let reply = shared::try_row_path(&self.call(), self.txn, row, keys, mode, keep);
+        let reply = shared::try_row_path(&self.call(), self.own.txn, row, keys, mode, keep);
         Tried::of(&reply)
     }
 
@@ -823,7 +827,7 @@ impl<'t> Session<'t> {
     /// ```
     pub fn try_first(&mut self, tries: &[Try<'_>]) -> Result<Option<Taken>, Refusal> {
         let call = |list: &mut [Command<'_>]| commands::try_first(&self.call(), list);
-        try_first(self.txn, tries, call)
+        try_first(self.own.txn, tries, call)
     }
 
     /// As [`Manager::unlock_row`](crate::Manager::unlock_row).
@@ -831,7 +835,7 @@ impl<'t> Session<'t> {
         let Row { file, number } = row;
         done(shared::bs_table_unlock_row(
             &self.call(),
-            self.txn,
+            self.own.txn,
             file,
             number,
             None,
@@ -842,24 +846,61 @@ impl<'t> Session<'t> {
     pub fn rekey_row(&mut self, row: Row, index: Node, key: u64) -> Result<(), Refusal> {
         let (table, Row { file, number }) = (&self.call(), row);
         done(shared::bs_table_rekey_row(
-            table, self.txn, file, number, index, key, None,
+            table,
+            self.own.txn,
+            file,
+            number,
+            index,
+            key,
+            None,
         ))
     }
 
     /// As [`Manager::try_lock`](crate::Manager::try_lock).
     pub fn try_lock(&mut self, node: Node, mode: Mode) -> Result<Mode, Refusal> {
-        let reply = shared::bs_table_try(&self.call(), self.txn, node, mode as u32);
+        let reply = shared::bs_table_try(&self.call(), self.own.txn, node, mode as u32);
         accepted(reply).map(|reply| Mode::of(reply.mode))
     }
 
     /// As [`Manager::unlock`](crate::Manager::unlock).
     pub fn unlock(&mut self, node: Node) -> Result<(), Refusal> {
-        done(shared::bs_table_unlock(&self.call(), self.txn, node, None))
+        done(shared::bs_table_unlock(
+            &self.call(),
+            self.own.txn,
+            node,
+            None,
+        ))
     }
 
-    /// As [`Manager::mark`](crate::Manager::mark).
-    pub fn mark(&self) -> Result<Mark, Refusal> {
-        let reply = accepted(shared::bs_table_mark(&self.call(), self.txn))?;
+    /// The mode in which the transaction holds a node; with parts as
+    /// [`GroupSession::held`](crate::GroupSession::held).
+    ///
+    /// Refused as [`Manager::held`](crate::Manager::held), and with [`InUse`](Refusal::InUse).
+    ///
+    /// ```
+    /// # use burlapslate::{Detect, Mode, Options, Stop, Table};
+    /// for parts in [1, 4] {
+    ///     let table = Table::with_options(Options::new(Detect::AtBlock).parts(parts))?;
+    ///     let db = table.add_inner(&[])?;
+    ///     let file = table.add_file(&[db])?;
+    ///     let mut session = table.begin()?;
+    ///     session.lock_path(file, Mode::X)?;
+    ///     assert_eq!(session.held(db), Ok(Mode::IX));
+    /// }
+    /// # Ok::<(), Stop>(())
+    /// ```
+    pub fn held(&mut self, node: Node) -> Result<Mode, Refusal> {
+        let txn = self.own.txn;
+        #[cfg(target_pointer_width = "64")]
+        if let Some(group) = self.own.table.group() {
+            return group.held(txn, node);
+        }
+        self.own.table.try_with(|m| m.held(txn, node))?
+    }
+
+    /// As [`Manager::mark`](crate::Manager::mark); with parts in each of them, and it takes memory.
+    pub fn mark(&mut self) -> Result<Mark, Refusal> {
+        let reply = accepted(shared::bs_table_mark(&self.call(), self.own.txn))?;
         Ok(Mark(reply.count as usize))
     }
 
@@ -880,19 +921,19 @@ impl<'t> Session<'t> {
     /// ```
     pub fn release_since(&mut self, mark: Mark) -> Result<usize, Refusal> {
         let savepoint = mark.0 as u64;
-        let reply = shared::bs_table_release_since(&self.call(), self.txn, savepoint, None);
+        let reply = shared::bs_table_release_since(&self.call(), self.own.txn, savepoint, None);
         accepted(reply).map(|reply| reply.count as usize)
     }
 
     /// As [`Manager::escalate`](crate::Manager::escalate).
     pub fn escalate(&mut self, node: Node) -> Result<Escalated, Refusal> {
-        let reply = shared::bs_table_escalate(&self.call(), self.txn, node, None);
+        let reply = shared::bs_table_escalate(&self.call(), self.own.txn, node, None);
         accepted(reply).map(|reply| Escalated::of(&reply))
     }
 
     /// As [`Manager::insert`](crate::Manager::insert).
     pub fn insert(&mut self, file: Node, keys: &[u64]) -> Result<Node, Refusal> {
-        node_of(shared::insert(&self.call(), self.txn, file, keys))
+        node_of(shared::insert(&self.call(), self.own.txn, file, keys))
     }
 
     /// As [`insert`](Session::insert), with what must be held above the record: [`IX`](Mode::IX) on the file and on
@@ -907,7 +948,7 @@ impl<'t> Session<'t> {
         keys: &[u64],
         keep: Keep,
     ) -> Result<Tried<Node>, Refusal> {
-        let reply = shared::insert_path(&self.call(), self.txn, file, keys, keep.as_number());
+        let reply = shared::insert_path(&self.call(), self.own.txn, file, keys, keep.as_number());
         Tried::of_made(&reply)
     }
 
@@ -915,7 +956,7 @@ impl<'t> Session<'t> {
     pub fn delete(&mut self, record: Node) -> Result<(), Refusal> {
         done(shared::bs_table_delete(
             &self.call(),
-            self.txn,
+            self.own.txn,
             record,
             None,
         ))
@@ -925,26 +966,42 @@ impl<'t> Session<'t> {
     pub fn rekey(&mut self, record: Node, index: Node, key: u64) -> Result<(), Refusal> {
         let table = &self.call();
         done(shared::bs_table_rekey(
-            table, self.txn, record, index, key, None,
+            table,
+            self.own.txn,
+            record,
+            index,
+            key,
+            None,
         ))
     }
 
     /// As [`Manager::move_node`](crate::Manager::move_node).
     pub fn move_node(&mut self, node: Node, parents: &[Node]) -> Result<(), Refusal> {
-        done(shared::move_node(&self.call(), self.txn, node, parents))
+        done(shared::move_node(&self.call(), self.own.txn, node, parents))
     }
 
     /// As [`Manager::drop_node`](crate::Manager::drop_node). Threads that sleep for the node are woken and
     /// answered [`Stop::Gone`].
     pub fn drop_node(&mut self, node: Node) -> Result<(), Refusal> {
-        done(shared::bs_table_drop(&self.call(), self.txn, node, None))
+        done(shared::bs_table_drop(
+            &self.call(),
+            self.own.txn,
+            node,
+            None,
+        ))
     }
 
     /// As [`Manager::split`](crate::Manager::split): the new interval. Threads that sleep for the interval are
     /// woken; a path begins anew with it, and a lock is answered [`Stop::Moved`].
     pub fn split(&mut self, interval: Node, at: u64) -> Result<Node, Refusal> {
         let table = &self.call();
-        node_of(shared::bs_table_split(table, self.txn, interval, at, None))
+        node_of(shared::bs_table_split(
+            table,
+            self.own.txn,
+            interval,
+            at,
+            None,
+        ))
     }
 
     /// As [`Manager::merge`](crate::Manager::merge). Threads that sleep for the next interval are woken and
@@ -952,7 +1009,7 @@ impl<'t> Session<'t> {
     pub fn merge(&mut self, interval: Node) -> Result<(), Refusal> {
         done(shared::bs_table_merge(
             &self.call(),
-            self.txn,
+            self.own.txn,
             interval,
             None,
         ))
@@ -967,7 +1024,7 @@ impl<'t> Session<'t> {
     ) -> Result<Node, Refusal> {
         node_of(shared::index_by(
             &self.call(),
-            self.txn,
+            self.own.txn,
             parents,
             file,
             bounds,
@@ -988,7 +1045,7 @@ impl<'t> Session<'t> {
         if records.len() != keys.len() {
             return Err(Refusal::BadKeys);
         }
-        let (table, txn) = (self.call(), self.txn);
+        let (table, txn) = (self.call(), self.own.txn);
         node_of(shared::index_records(
             &table, txn, parents, file, bounds, records, keys,
         ))
@@ -999,9 +1056,9 @@ impl<'t> Session<'t> {
     ///
     /// Refused as [`Manager::commit`](crate::Manager::commit).
     pub fn commit(mut self) -> Result<(), Refusal> {
-        let end = self.table.commit(self.txn);
-        self.has_ended = end.is_ok();
-        end
+        let reply = shared::bs_table_commit(&self.call(), self.own.txn, None);
+        self.has_ended = reply.status == sys::DONE;
+        done(reply)
     }
 
     /// Commits as [`commit`](Session::commit), and keeps for the thread's next transaction the first locks that are
@@ -1025,13 +1082,13 @@ impl<'t> Session<'t> {
         let mut kept = self.keeping(most);
         accepted(shared::session_commit(&self.call(), &mut kept))?;
         self.has_ended = true;
-        Ok(Resting::of(self.table.clone(), kept))
+        Ok(Resting::of(self.own.table.clone(), kept))
     }
 
     /// For a commit that keeps so many locks.
     fn keeping(&self, most: usize) -> Kept {
         Kept {
-            txn: self.txn,
+            txn: self.own.txn,
             most: u32::try_from(most).unwrap_or(u32::MAX),
             count: self.kept,
             ..Kept::NOTHING
@@ -1043,28 +1100,43 @@ impl<'t> Session<'t> {
 
     /// Keeps the transaction and its locks without a session, as for one that is prepared: any thread
     /// with its name ends it by [`Table::commit`] or [`Table::abort`].
-    pub fn leave(mut self) -> Txn {
+    pub fn leave(self) -> Txn {
+        let table = self.own.table.clone();
+        let txn = self.ends();
+        table.left(txn);
+        txn
+    }
+
+    /// The session ends without its transaction.
+    fn ends(mut self) -> Txn {
         self.has_ended = true;
-        self.txn
+        self.own.txn
     }
 }
 
 impl Drop for Session<'_> {
     fn drop(&mut self) {
-        if !self.has_ended {
-            let end = self.table.abort(self.txn); // Refused if another thread has ended it.
-            let is_lost = end == Err(Refusal::InUse) && !thread::panicking();
-            assert!(
-                !is_lost,
-                "a session was dropped while its thread held the table"
-            );
+        if self.has_ended {
+            return;
         }
+        let end = done(self.own.abort()); // Refused if another thread has ended it.
+        if thread::panicking() {
+            return;
+        }
+        assert!(
+            end != Err(Refusal::InUse),
+            "a session was dropped while its thread held the table"
+        );
+        assert!(
+            end != Err(Refusal::TxnWaiting),
+            "a session whose list waited was dropped in a waker"
+        );
     }
 }
 
 impl fmt::Debug for Session<'_> {
     fn fmt(&self, f: &mut fmt::Formatter<'_>) -> fmt::Result {
-        f.debug_tuple("Session").field(&self.txn).finish()
+        f.debug_tuple("Session").field(&self.own.txn).finish()
     }
 }
 

@@ -16,9 +16,7 @@ use crate::board::Slots;
 use crate::listing::Counters;
 use crate::names::{Node, Row, Txn};
 use crate::{FITS, SLOTS};
-#[cfg(target_pointer_width = "64")]
-use std::alloc::alloc;
-use std::alloc::{alloc_zeroed, Layout};
+use std::alloc::{alloc, alloc_zeroed, Layout};
 use std::cell::UnsafeCell;
 use std::ffi::c_void;
 use std::panic::UnwindSafe;
@@ -72,6 +70,7 @@ pub(crate) const NOT_ROWS: u32 = 72;
 pub(crate) const NOT_WRITTEN: u32 = 75;
 pub(crate) const TOO_LATE: u32 = 76;
 pub(crate) const NO_TRACE: u32 = 77;
+pub(crate) const IN_PARTS: u32 = 78;
 
 pub(crate) const ACTIVE: u64 = 1;
 pub(crate) const WAITS: u64 = 2;
@@ -308,7 +307,6 @@ unsafe fn zeroed<T>() -> Option<Box<T>> {
 }
 
 /// A box of this value; `None` if memory is refused.
-#[cfg(target_pointer_width = "64")] // Only groups need it.
 fn boxed<T>(value: T) -> Option<Box<T>> {
     const { assert!(size_of::<T>() > 0) };
     // SAFETY: the layout is that of the type, which is not empty.

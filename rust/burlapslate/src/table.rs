@@ -1,23 +1,24 @@
 //! A table that threads share.
 
 use crate::clock::Clock;
+#[cfg(target_pointer_width = "64")]
+use crate::group::Group;
+use crate::listing::Counters;
 use crate::manager::{Manager, Options};
-use crate::mode::{Detect, Victims};
+use crate::mode::{Detect, Mode, Victims};
 use crate::names::{Node, Row, Txn};
 use crate::notices::{Notice, Notices};
 use crate::refusal::{accepted, done, Refusal};
 use crate::session::{deadline, Session, Stop};
 use crate::sys::shared::{self, Calling, Time};
-use crate::sys::{Reply, DONE};
+use crate::sys::{Reply, DONE, IN_USE};
 use crate::watcher::Watcher;
 use crate::watching::Watching;
 use std::fmt;
 use std::sync::Arc;
 use std::time::{Duration, Instant};
 
-#[cfg(target_pointer_width = "64")]
-pub(crate) use asks::Asks;
-pub(crate) use asks::{Asker, Locking, Sought};
+pub(crate) use asks::{Locking, Sought, Transaction};
 use begins::Beginning;
 pub use running::{Awaited, AwaitedNode, Blocker, Histogram, LongWait, Told, WaitEnd, Waits};
 
@@ -48,6 +49,52 @@ pub use running::{Awaited, AwaitedNode, Blocker, Histogram, LongWait, Told, Wait
 ///
 /// Proved are: what each command does, whom it notifies, how a wait ended and which slots' sleepers must be
 /// woken. Written in C, and tested: the mutex, the conditions, and the calls around them.
+///
+/// # Parts
+///
+/// By [`Options::parts`] a table has several parts, with a latch each, and so serves many cores. Its calls are those of the
+/// [`Group`](crate::Group) that [`group`](Table::group) lends, and that has the rules: what is locked where, and how
+/// deadlocks over several parts are detected. These differ from a table of one part:
+///
+///   - [`Session::lock`], [`try_lock`](Session::try_lock), those of rows and for tasks, and [`Session::insert`] also lock
+///     what must be held above. An insert and a new index acquire what they lack by tries, and are refused with
+///     [`WouldBlock`](Refusal::WouldBlock) if that cannot be granted at once.
+///   - An intention on an inner node is no precondition. [`Session::held`] says what a transaction holds in all parts.
+///   - Each command of a list is a critical section of its own. A lock that a list left waiting goes on by itself. In a
+///     waker a list is refused with [`InUse`](Refusal::InUse).
+///   - [`Session::mark`] takes memory, and [`release_since`](Session::release_since) keeps what the transaction has in the
+///     main table.
+///   - [`Session::rest`] keeps intentions as [`Group::keep`](crate::Group::keep) does, and [`Session::renew`] too.
+///   - [`Table::commit`] and [`Table::abort`] end a transaction that its session has left ([`Session::leave`]). The
+///     transaction of a session ends by that session alone: these calls are refused with [`InParts`](Refusal::InParts).
+///   - Each call is refused with [`InUse`](Refusal::InUse) while the thread holds any table.
+///   - The table lends no manager ([`with`](Table::with)).
+///
+/// What the library does not offer over several parts is refused with [`InParts`](Refusal::InParts).
+///
+/// ```
+/// use burlapslate::{Detect, Mode, Options, Row, Stop, Table};
+/// use std::thread;
+///
+/// let table = Table::with_options(Options::new(Detect::AtBlock).parts(4))?;
+/// let db = table.add_inner(&[])?;
+/// let files = [(); 4].map(|()| table.add_row_file(&[db]).unwrap());
+/// thread::scope(|scope| {
+///     for file in files {
+///         let table = &table;
+///         scope.spawn(move || {
+///             let mut session = table.begin()?;
+///             let _ = session.lock_row_path(Row { file, number: 7 }, &[], Mode::X)?;
+///             session.commit()?;
+///             Ok::<(), Stop>(())
+///         });
+///     }
+/// });
+/// let mut backup = table.begin()?;
+/// backup.lock_path(db, Mode::S)?; // It reads all files, in all parts.
+/// backup.commit()?;
+/// # Ok::<(), Stop>(())
+/// ```
 pub struct Table {
     shared: shared::Table,
     clock: Clock,
@@ -68,9 +115,10 @@ impl Table {
         Table::with_options(Options::new(detect).victims(victims).transactions(most))
     }
 
-    /// By options.
+    /// By options, also with several parts ([`Options::parts`]).
     ///
-    /// Refused as [`Manager::with_options`].
+    /// Refused with [`BadNumber`](Refusal::BadNumber), also for parts with another detection than
+    /// [`AtBlock`](Detect::AtBlock), and with [`NoMemory`](Refusal::NoMemory).
     pub fn with_options(options: Options) -> Result<Table, Refusal> {
         Ok(Table {
             shared: shared::Table::new(&options.checked()?)?,
@@ -297,24 +345,35 @@ impl Table {
     }
 
     /// As [`Manager::row_node`].
+    ///
+    /// # Panics
+    ///
+    /// While the thread holds this table ([`with`](Table::with)), or any table if this one has parts.
     pub fn row_node(&self, row: Row) -> Option<Node> {
+        #[cfg(target_pointer_width = "64")]
+        if let Some(group) = self.group() {
+            return group.row_node(row).expect(HOLDS);
+        }
         self.with(|m| m.row_node(row))
     }
 
     /// Ends a transaction whatever it is doing, from any thread, and lets its rows go. A thread or task that
-    /// waits for it is woken and answered [`Refusal::NoSuchTxn`].
+    /// waits for it is woken and answered [`Refusal::NoSuchTxn`]. If the table has parts, it must be one that its session
+    /// has left ([`Session::leave`]), and in a waker it must not wait.
     ///
-    /// Refused as [`Manager::abort`].
+    /// Refused as [`Manager::abort`]; with parts also with [`InParts`](Refusal::InParts) if a session has the
+    /// transaction, and with [`TxnWaiting`](Refusal::TxnWaiting) in a waker.
     pub fn abort(&self, txn: Txn) -> Result<(), Refusal> {
-        done(shared::bs_table_abort(&self.call(), txn, None))
+        self.shared.end(txn, shared::bs_table_abort)
     }
 
     /// Commits a transaction that no session drives any more ([`Session::leave`]), and lets its rows
     /// go.
     ///
-    /// Refused as [`Manager::commit`].
+    /// Refused as [`Manager::commit`]; with parts also with [`InParts`](Refusal::InParts) if a session has the
+    /// transaction.
     pub fn commit(&self, txn: Txn) -> Result<(), Refusal> {
-        done(shared::bs_table_commit(&self.call(), txn, None))
+        self.shared.end(txn, shared::bs_table_commit)
     }
 
     /// Cancels the wait of a transaction, from any thread. The thread or task that waits is woken and
@@ -328,7 +387,7 @@ impl Table {
 
     /// Condemns victims until a transaction is on no cycle of waits, and wakes them; how many.
     ///
-    /// Refused as [`Manager::settle`].
+    /// Refused as [`Manager::settle`], and with [`InParts`](Refusal::InParts).
     pub fn settle(&self, txn: Txn) -> Result<usize, Refusal> {
         let (reply, told) = shared::settle(&self.call(), txn);
         accepted(reply)?;
@@ -356,19 +415,91 @@ impl Table {
     ///
     /// # Panics
     ///
-    /// Within the closure of another such call of this table.
+    /// Within the closure of another such call of this table, and if the table has parts, which have a manager each: ask
+    /// those by [`Group::with_table`](crate::Group::with_table) of its [`group`](Table::group).
+    /// [`try_with`](Table::try_with) is refused in place of that.
     pub fn with<T>(&self, ask: impl FnOnce(&Manager) -> T) -> T {
+        match self.try_with(ask) {
+            Ok(answer) => answer,
+            Err(Refusal::InParts) => panic!("a table with parts lends no manager"),
+            Err(_in_use) => panic!("{HOLDS}"),
+        }
+    }
+
+    /// As [`with`](Table::with), but without a panic.
+    ///
+    /// Refused with [`InUse`](Refusal::InUse), [`InParts`](Refusal::InParts).
+    ///
+    /// ```
+    /// # use burlapslate::{Detect, Options, Refusal, Table};
+    /// let table = Table::with_options(Options::new(Detect::AtBlock).parts(2))?;
+    /// assert_eq!(table.try_with(|m| m.len()), Err(Refusal::InParts));
+    /// let group = table.group().unwrap();
+    /// assert_eq!(group.with_table(1, |m| m.len()), Ok(0));
+    /// # Ok::<(), Refusal>(())
+    /// ```
+    pub fn try_with<T>(&self, ask: impl FnOnce(&Manager) -> T) -> Result<T, Refusal> {
         shared::with(&self.call(), ask)
     }
 
-    /// All that there is, of one moment, as text in columns, with the waits by their length.
+    /// How many parts it has.
+    pub fn parts(&self) -> usize {
+        #[cfg(target_pointer_width = "64")]
+        if let Some(group) = self.group() {
+            return group.parts();
+        }
+        1
+    }
+
+    /// The group that a table with parts is; `None` if it has one part. It has the calls that a table has not, as those that
+    /// make a file in a part or a spread file, and questions of one part. A transaction that it begins is one of the table.
+    ///
+    /// ```
+    /// # use burlapslate::{Detect, Mode, Options, Stop, Table};
+    /// let table = Table::with_options(Options::new(Detect::AtBlock).parts(4))?;
+    /// let db = table.add_inner(&[])?;
+    /// let group = table.group().unwrap();
+    /// let orders = group.add_file_in(2, &[db])?;
+    /// let mut session = table.begin()?;
+    /// session.lock_path(orders, Mode::X)?;
+    /// assert!(group.with_table(1, |m| m.transactions().next().is_none())?); // It needs no other part.
+    /// # Ok::<(), Stop>(())
+    /// ```
+    #[cfg(target_pointer_width = "64")]
+    pub fn group(&self) -> Option<&Group> {
+        self.shared.group()
+    }
+
+    /// What the table has been doing since it was made, as [`Manager::counters`]; with parts as
+    /// [`Group::counters`](crate::Group::counters).
+    ///
+    /// Refused with [`InUse`](Refusal::InUse).
+    pub fn counters(&self) -> Result<Counters, Refusal> {
+        #[cfg(target_pointer_width = "64")]
+        if let Some(group) = self.group() {
+            return group.counters();
+        }
+        self.try_with(Manager::counters)
+    }
+
+    /// All that there is, of one moment, as text in columns, with the waits by their length. With parts each of them, one
+    /// after the other: nodes and transactions have the names that they have there
+    /// ([`Group::name_of`](crate::Group::name_of)).
+    ///
+    /// # Panics
+    ///
+    /// While the thread holds this table ([`with`](Table::with)), or any table if this one has parts.
     pub fn dump(&self) -> String {
+        #[cfg(target_pointer_width = "64")]
+        if let Some(group) = self.group() {
+            return group.dump().expect(HOLDS);
+        }
         self.with(|m| m.listing().to_string())
     }
 
     /// A watcher, which looks without the latch.
     ///
-    /// Refused as [`Manager::watch`].
+    /// Refused as [`Manager::watch`], and with [`InParts`](Refusal::InParts).
     pub fn watch(&self) -> Result<Watcher, Refusal> {
         Watcher::made_by(|watcher| shared::bs_call_table_watch(&self.call(), watcher))
     }
@@ -377,7 +508,8 @@ impl Table {
     /// [`end_watch`](Table::end_watch) is called. The thread looks as a watcher does, settles every suspect, the
     /// youngest first, and rests for this time after each look. It sleeps while no lock has been left waiting
     /// since its last look. A table has one such thread, which watches until the table is dropped, and which
-    /// counts as a watcher: a later call waits alone.
+    /// counts as a watcher: a later call waits alone. If the table has parts, the thread is that of
+    /// [`Group::watch_over`](crate::Group::watch_over).
     ///
     /// Refused as [`Manager::watch`], and with [`NoMemory`](Refusal::NoMemory) also if no thread can be started.
     ///
@@ -407,7 +539,7 @@ impl Table {
     /// ```
     pub fn watch_over(&self, rest: Duration) -> Result<(), Refusal> {
         let start = |pace| shared::bs_table_watch_thread(&self.call(), pace);
-        let may_call = || shared::bs_call_table_shut(&self.call()) == DONE;
+        let may_call = || self.cancel(Txn::NONE) != Err(Refusal::InUse);
         self.watching.watch_over(rest, start, may_call)
     }
 
@@ -419,6 +551,31 @@ impl Table {
     /// The table for one call of the library.
     pub(crate) fn call(&self) -> Calling<'_> {
         self.shared.call()
+    }
+
+    /// The table for a call of the caller's.
+    pub(crate) fn shared(&self) -> &shared::Shared {
+        self.shared.shared()
+    }
+
+    /// A session has left this transaction.
+    pub(crate) fn left(&self, txn: Txn) {
+        self.shared.leave(txn);
+    }
+
+    /// Whether this thread may sleep in a call: one that names no transaction is refused if it may not.
+    fn may_sleep(&self) -> bool {
+        let (table, mode) = (self.shared(), Mode::S as u32);
+        shared::bs_table_await(table, Txn::NONE, Node::NONE, mode, None).status != IN_USE
+    }
+
+    /// Refused where this thread may run no list: one over several parts may leave a lock waiting, and in a waker nothing
+    /// could end that.
+    pub(crate) fn may_run(&self) -> Result<(), Refusal> {
+        if self.shared.has_parts() && !self.may_sleep() {
+            return Err(Refusal::InUse);
+        }
+        Ok(())
     }
 
     /// A time as the library takes it.
@@ -437,12 +594,17 @@ pub(crate) fn node_of(reply: Reply) -> Result<Node, Refusal> {
     accepted(reply).map(|reply| reply.node)
 }
 
-/// How deadlocks are found, and how much there is.
+/// How deadlocks are found, and how much there is; or how many parts.
 impl fmt::Debug for Table {
     fn fmt(&self, f: &mut fmt::Formatter<'_>) -> fmt::Result {
-        self.with(|manager| f.debug_struct("Table").field("manager", manager).finish())
+        let mut shown = f.debug_struct("Table");
+        let asked = self.try_with(|manager| shown.field("manager", manager).finish());
+        asked.unwrap_or_else(|_refused| shown.field("parts", &self.parts()).finish_non_exhaustive())
     }
 }
+
+/// Why a question was not answered that is refused for no other reason.
+const HOLDS: &str = "this thread holds the table";
 
 mod asks;
 mod begins;

@@ -76,7 +76,7 @@ fn tasks_and_threads_are_in_one_queue() {
     let age = holder.txn().age();
     let waiting = |count| {
         let waiting = format!("burlapslate_begins_waiting {count}\n");
-        while !table.metrics().contains(&waiting) {
+        while !table.metrics().unwrap().contains(&waiting) {
             thread::yield_now();
         }
     };
@@ -169,7 +169,10 @@ fn a_future_is_dropped_by_a_holder() {
     assert!(poll(&mut dropped.as_mut(), &waker).is_pending());
     assert!(poll(&mut dropped.as_mut(), &quiet()).is_pending());
     table.with(|_| drop(dropped));
-    assert!(table.metrics().contains("burlapslate_begins_waiting 1\n"));
+    assert!(table
+        .metrics()
+        .unwrap()
+        .contains("burlapslate_begins_waiting 1\n"));
     holder.commit().unwrap();
     assert_eq!((bell.rung(), living(&table)), (0, 0));
     table.begin().unwrap().commit().unwrap();

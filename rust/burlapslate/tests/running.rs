@@ -103,12 +103,12 @@ fn nodes_are_counted_anew_after_a_restart() {
     let mut waiter = table.begin().unwrap();
     let end = waiter.lock_timeout(db, Mode::S, 2 * MILLISECOND);
     assert_eq!(end, Err(Stop::TimedOut));
-    let first = table.restart_awaited();
+    let first = table.restart_awaited().unwrap();
     assert_eq!(first.nodes.len(), 1);
     let node = first.nodes[0];
     assert!(node.node == db && node.waits == 1 && node.error == Duration::ZERO);
     assert!(node.waited >= MILLISECOND && node.waited == first.waited);
-    let Awaited { waited, nodes, .. } = table.awaited();
+    let Awaited { waited, nodes, .. } = table.awaited().unwrap();
     assert!(waited == Duration::ZERO && nodes.is_empty());
 }
 
@@ -298,13 +298,12 @@ fn what_is_refused() {
         assert_eq!(table.on_long_wait(MILLISECOND, |_| ()), Err(Refusal::InUse));
         assert_eq!(table.forget_long_waits(), Err(Refusal::InUse));
         assert_eq!(table.waited(Txn::NONE), Err(Refusal::InUse));
-        let waits = || assert_eq!(table.waits().waiting, 0);
-        let awaited = || assert!(table.awaited().nodes.is_empty());
-        let metrics = || assert!(table.metrics().is_empty());
-        let panics: [&dyn Fn(); 3] = [&waits, &awaited, &metrics];
-        for call in panics {
-            assert!(catch_unwind(AssertUnwindSafe(call)).is_err());
-        }
+        assert_eq!(table.awaited(), Err(Refusal::InUse));
+        assert_eq!(table.restart_awaited(), Err(Refusal::InUse));
+        assert_eq!(table.metrics(), Err(Refusal::InUse));
+        let written = table.write_metrics(io::sink()).unwrap_err();
+        assert_eq!(written.to_string(), "InUse");
+        assert!(catch_unwind(AssertUnwindSafe(|| table.waits())).is_err());
     });
     assert!(hears.try_recv().is_err()); // It has its function still, and was told nothing.
     table.forget_long_waits().unwrap();
@@ -337,7 +336,7 @@ impl io::Write for Narrow {
 #[test]
 fn metrics_are_whole_or_an_error() {
     let (table, _) = table();
-    let text = table.metrics();
+    let text = table.metrics().unwrap();
     assert!(text.ends_with("\n# EOF\n"));
     assert!(text.contains("\nburlapslate_transactions_limit "));
     let mut written = Vec::new();

@@ -4,51 +4,11 @@ use super::{Group, GroupSession};
 use crate::mode::Mode;
 use crate::names::{Node, Row};
 use crate::refusal::{done, Refusal};
-use crate::session::{Ended, RowLocked, Stop};
-use crate::sys::group::{Sought, Transaction};
+use crate::session::{RowLocked, Stop};
+use crate::sys::group::Transaction;
 use crate::sys::{shared, DONE};
-use crate::table::{Asks, Locking};
-use std::task::{Poll, Waker};
+use crate::table::{Locking, Sought};
 use std::time::{Duration, Instant};
-
-/// A transaction of a group that asks.
-struct Asker<'a, 'g> {
-    transaction: &'a mut Transaction<'g>,
-    /// Its wait was cancelled because its time was over.
-    is_late: bool,
-}
-
-impl Asks for Asker<'_, '_> {
-    type Sought<'k> = Sought<'k>;
-
-    fn ask(
-        &mut self,
-        sought: Sought<'_>,
-        until: Option<Instant>,
-        waker: &Waker,
-    ) -> (Poll<Ended>, usize) {
-        let until = self.transaction.owner().time(until);
-        self.transaction.ask(sought, until, waker)
-    }
-
-    fn poll(&mut self, number: usize, waker: &Waker) -> Poll<Ended> {
-        match self.transaction.poll(number, waker) {
-            Poll::Ready(Err(Stop::Cancelled)) if self.is_late => Poll::Ready(Err(Stop::TimedOut)),
-            polled => polled,
-        }
-    }
-
-    /// The end may be told later, and may be another one.
-    fn time_out(&mut self, number: usize, waker: &Waker) -> Poll<Ended> {
-        self.is_late = true;
-        self.transaction.cancels(number);
-        self.poll(number, waker)
-    }
-
-    fn forget(&mut self, number: usize) {
-        self.transaction.forget(number);
-    }
-}
 
 /// Locks for tasks.
 impl<'g> GroupSession<'g> {
@@ -134,7 +94,7 @@ impl<'g> GroupSession<'g> {
     /// # Ok::<(), Stop>(())
     /// ```
     pub async fn lock_path_async(&mut self, node: Node, mode: Mode) -> Result<Mode, Stop> {
-        let locked = self.locking(Sought::Path(node, mode as u32)).await;
+        let locked = self.locking(Sought::path(node, mode)).await;
         locked.map(RowLocked::mode)
     }
 
@@ -173,17 +133,13 @@ impl<'g> GroupSession<'g> {
         keys: &[u64],
         mode: Mode,
     ) -> Result<RowLocked, Stop> {
-        let sought = Sought::RowPath(row, keys, mode as u32);
-        self.locking(sought).await
+        self.locking(Sought::row_path(row, keys, mode)).await
     }
 
     /// Locks what is requested, for a task.
-    fn locking<'a>(&'a mut self, sought: Sought<'a>) -> Locking<'a, Asker<'a, 'g>> {
-        let asker = Asker {
-            transaction: &mut self.transaction,
-            is_late: false,
-        };
-        Locking::new(asker, sought, self.deadline)
+    fn locking<'a>(&'a mut self, sought: Sought<'a>) -> Locking<'a, Transaction<'g>> {
+        let time = self.transaction.owner().time(self.deadline);
+        Locking::new(&mut self.transaction, sought, self.deadline, time)
     }
 }
 

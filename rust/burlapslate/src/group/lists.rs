@@ -5,7 +5,7 @@ use crate::answers::Answers;
 use crate::list::{Do, Halt};
 use crate::refusal::Refusal;
 use crate::session::{ended, try_first, RowLocked, Stop, Taken, Try};
-use crate::sys::awaited::Resumes;
+use crate::sys::awaited::{Asks, Resumes};
 
 /// # Lists
 ///

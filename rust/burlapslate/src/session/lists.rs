@@ -3,10 +3,12 @@
 use super::{Handle, Session, Stop};
 use crate::answers::Answers;
 use crate::list::{Do, Halt};
+use crate::mode::Mode;
 use crate::names::Txn;
 use crate::refusal::Refusal;
 use crate::resting::Resting;
 use crate::session::RowLocked;
+use crate::sys::awaited::Asks;
 use crate::sys::commands::{self, BEGUN, COMMIT, MARK};
 use crate::sys::shared::{self, Kept};
 use crate::table::Sought;
@@ -43,7 +45,8 @@ impl From<Unfinished<'_>> for Halt {
 /// # Lists
 ///
 /// Several commands in one critical section: no other thread's commands come between them, and the latch is acquired
-/// once.
+/// once. If the table has parts, each command is a critical section of its own, as in a
+/// [`GroupSession`](crate::GroupSession::run).
 impl<'t> Session<'t> {
     /// Makes the commands of a list in order, in one critical section, up to the first that is not done, and writes
     /// what they answered into `answers`, by their places; what these had before is gone. The answer says why the list
@@ -75,7 +78,7 @@ impl<'t> Session<'t> {
     /// # Ok::<(), burlapslate::Refusal>(())
     /// ```
     pub fn run(&mut self, list: &[Do<'_>], answers: &mut Answers) -> Result<(), Halt> {
-        answers.begin(self.txn);
+        answers.begin(self.own.txn);
         self.resume(list, answers)
     }
 
@@ -87,10 +90,13 @@ impl<'t> Session<'t> {
     /// waits, the list stops there again; and a lock for an instant that was granted meanwhile is requested anew. If
     /// the answers are those of another transaction, as of one that was a victim, the list begins anew.
     pub fn resume(&mut self, list: &[Do<'_>], answers: &mut Answers) -> Result<(), Halt> {
-        answers.resume(self.txn);
+        self.own.table.may_run()?;
+        answers.resume(self.own.txn);
         let rest = answers.rest(list, 0)?;
         let calling = self.call(); // So the panic of a waker finds the answers noted.
-        answers.run(rest, self.txn, &[], |list| commands::run(&calling, list))
+        answers.run(rest, self.own.txn, &[], |list| {
+            commands::run(&calling, list)
+        })
     }
 
     /// Sleeps until the end of the wait at which a list stopped ([`Halt::Waiting`]), or until the session's deadline
@@ -101,17 +107,29 @@ impl<'t> Session<'t> {
     /// Refused with [`NotWaiting`](Refusal::NotWaiting) if no lock waits by these answers, and with
     /// [`InUse`](Refusal::InUse) as [`lock`](Session::lock): then the lock waits on.
     pub fn await_lock(&mut self, answers: &mut Answers) -> Result<(), Stop> {
-        let wait = answers.wait(self.txn).ok_or(Refusal::NotWaiting)?;
+        let wait = answers.wait(self.own.txn).ok_or(Refusal::NotWaiting)?;
         let end = self.sought(Sought::left(wait), None);
-        answers.has_awaited(end)
+        self.has_awaited(answers, end)
     }
 
     /// As [`await_lock`](Session::await_lock), for a task, as [`lock_async`](Session::lock_async). If the future is
     /// dropped while the lock waits, the wait is cancelled, and [`resume`](Session::resume) requests the lock again.
+    ///
+    /// Refused with [`InParts`](Refusal::InParts) too: then the lock waits on, for [`await_lock`](Session::await_lock).
     pub async fn await_lock_async(&mut self, answers: &mut Answers) -> Result<(), Stop> {
-        let wait = answers.wait(self.txn).ok_or(Refusal::NotWaiting)?;
+        let wait = answers.wait(self.own.txn).ok_or(Refusal::NotWaiting)?;
         let end = self.locking(Sought::left(wait)).await;
-        answers.has_awaited(end.map(RowLocked::mode))
+        self.has_awaited(answers, end.map(RowLocked::mode))
+    }
+
+    /// The wait of a list was awaited, and was answered so. Over several parts that is the end of the command's request,
+    /// unless the call was refused.
+    fn has_awaited(&self, answers: &mut Answers, end: Result<Mode, Stop>) -> Result<(), Stop> {
+        match end {
+            Err(Stop::Refused(Refusal::InUse | Refusal::InParts)) => end.map(drop),
+            _ if self.own.has_parts() => answers.has_come_to(end),
+            _ => answers.has_awaited(end),
+        }
     }
 
     /// As [`run`](Session::run), but the call sleeps while a lock waits, and continues with the list after the grant.
@@ -119,7 +137,7 @@ impl<'t> Session<'t> {
     ///
     /// Refused with [`InUse`](Refusal::InUse) as [`lock`](Session::lock), if a lock must wait: then it waits on.
     pub fn run_to_end(&mut self, list: &[Do<'_>], answers: &mut Answers) -> Result<(), Halt> {
-        answers.begin(self.txn);
+        answers.begin(self.own.txn);
         self.resume_to_end(list, answers)
     }
 
@@ -127,7 +145,7 @@ impl<'t> Session<'t> {
     /// [`resume`](Session::resume). If that one's lock waits, the call awaits it first.
     pub fn resume_to_end(&mut self, list: &[Do<'_>], answers: &mut Answers) -> Result<(), Halt> {
         loop {
-            if answers.wait(self.txn).is_some() {
+            if answers.wait(self.own.txn).is_some() {
                 self.await_lock(answers)?;
             }
             match self.resume(list, answers) {
@@ -144,7 +162,7 @@ impl<'t> Session<'t> {
         list: &[Do<'_>],
         answers: &mut Answers,
     ) -> Result<(), Halt> {
-        answers.begin(self.txn);
+        answers.begin(self.own.txn);
         self.resume_to_end_async(list, answers).await
     }
 
@@ -155,7 +173,7 @@ impl<'t> Session<'t> {
         answers: &mut Answers,
     ) -> Result<(), Halt> {
         loop {
-            if answers.wait(self.txn).is_some() {
+            if answers.wait(self.own.txn).is_some() {
                 self.await_lock_async(answers).await?;
             }
             match self.resume(list, answers) {
@@ -207,7 +225,7 @@ impl<'t> Session<'t> {
         answers: &mut Answers,
     ) -> Result<Resting<'t>, Unfinished<'t>> {
         match self.make_and_rest(most, list, answers) {
-            Ok(kept) => Ok(Resting::of(self.table.clone(), kept)),
+            Ok(kept) => Ok(Resting::of(self.own.table.clone(), kept)),
             Err(halt) => Err(Unfinished {
                 session: self,
                 halt,
@@ -216,10 +234,11 @@ impl<'t> Session<'t> {
     }
 
     fn make_and_commit(&mut self, list: &[Do<'_>], answers: &mut Answers) -> Result<(), Halt> {
-        answers.begin(self.txn);
+        self.own.table.may_run()?;
+        answers.begin(self.own.txn);
         let rest = answers.rest(list, 1)?;
-        let calling = self.table.call();
-        answers.run(rest, self.txn, &[(COMMIT, self.txn)], |list| {
+        let calling = self.own.table.call();
+        answers.run(rest, self.own.txn, &[(COMMIT, self.own.txn)], |list| {
             commands::run(&calling, list)
         })?;
         self.has_ended = true;
@@ -234,15 +253,16 @@ impl<'t> Session<'t> {
         list: &[Do<'_>],
         answers: &mut Answers,
     ) -> Result<Kept, Halt> {
-        answers.begin(self.txn);
+        self.own.table.may_run()?;
+        answers.begin(self.own.txn);
         let rest = answers.rest(list, 2)?;
         let mut kept = self.keeping(most);
-        let calling = self.table.call();
-        let after = [(MARK, self.txn), (COMMIT, BEGUN)];
-        let end = answers.run(rest, self.txn, &after, |list| {
+        let calling = self.own.table.call();
+        let after = [(MARK, self.own.txn), (COMMIT, BEGUN)];
+        let end = answers.run(rest, self.own.txn, &after, |list| {
             commands::run_in_session(&calling, &mut kept, list)
         });
-        if end.is_err() && kept.txn != self.txn {
+        if end.is_err() && kept.txn != self.own.txn {
             shared::bs_table_abort(&calling, kept.txn, None); // Another has begun, or none could.
             return Err(Refusal::NoSuchTxn.into());
         }
@@ -260,6 +280,7 @@ pub(crate) fn run_whole<'t>(
     list: &[Do<'_>],
     answers: &mut Answers,
 ) -> Result<Result<(), Unfinished<'t>>, Refusal> {
+    table.may_run()?;
     answers.begin(Txn::NONE);
     let rest = answers.rest(list, 1)?;
     kept.txn = Txn::NONE;

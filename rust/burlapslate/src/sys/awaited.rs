@@ -4,10 +4,14 @@
 //! A slot has one ask that waits at most. So each slot of a table or a group has one place for a waker and for the end of
 //! a wait, and the word of an ask is an even number: by that a late end, of an ask that nobody awaits any more, is told
 //! from the next one's, and from that of a [`begun`].
+//!
+//! Over several parts a transaction waits until the callback was called with the end of its ask. So a thread that cancels
+//! one sleeps until another thread has told its end, if one has to. In a callback no call may sleep, since its thread may be
+//! the one which has to: there a transaction that is to be aborted is left to the call of the callback with its end.
 
 use super::begun;
-use super::shared::{Shared, Until};
-use super::{numbers, Reply, NO_MANAGER, WAITING};
+use super::shared::{bs_table_abort, Shared, Until};
+use super::{boxed, numbers, Reply, DONE, NO_MANAGER, NO_SUCH_NODE, TXN_WAITING, WAITING};
 use crate::names::{Node, Row, Txn};
 use crate::refusal::Refusal;
 use crate::session::{ended, Ended, Stop};
@@ -17,12 +21,13 @@ use std::cell::Cell;
 use std::ffi::c_void;
 use std::mem::{replace, swap};
 use std::panic::{catch_unwind, resume_unwind, AssertUnwindSafe};
+use std::ptr::NonNull;
 use std::sync::atomic::{AtomicBool, Ordering};
 use std::sync::{Mutex, MutexGuard, PoisonError};
 use std::task::{Poll, Waker};
 use std::thread;
 
-type OnEnd = unsafe extern "C" fn(*const c_void, Txn, Reply, usize);
+pub(super) type OnEnd = unsafe extern "C" fn(*const c_void, Txn, Reply, usize);
 
 // SAFETY: these are the calls of the header, and their types have the layout of its types. The word of an ask is a number.
 unsafe extern "C" {
@@ -75,9 +80,9 @@ unsafe extern "C" {
     ) -> Reply;
 }
 
-/// The waits of futures, by slot. The context of the callback points here, so this stays where it is.
+/// The waits of futures, by slot.
 #[repr(transparent)]
-pub(super) struct Waits([Mutex<Wait>; SLOTS]);
+pub(crate) struct Waits([Mutex<Wait>; SLOTS]);
 
 /// The wait of a slot's last ask.
 struct Wait {
@@ -118,7 +123,7 @@ pub(crate) enum Sought<'k> {
 
 impl Waits {
     /// A place for each slot; `None` if memory is refused.
-    pub(super) fn new() -> Option<Box<Waits>> {
+    fn new() -> Option<Box<Waits>> {
         let mut places = Vec::new();
         places.try_reserve_exact(SLOTS).ok()?;
         places.resize_with(SLOTS, || {
@@ -131,24 +136,6 @@ impl Waits {
         let places: Box<[Mutex<Wait>; SLOTS]> = places.into_boxed_slice().try_into().ok()?;
         // SAFETY: the type is transparent.
         Some(unsafe { Box::from_raw(Box::into_raw(places).cast()) })
-    }
-
-    /// Makes an ask, by a call with this word, whose end wakes this waker if it waits; answers its number too, which is
-    /// the word.
-    pub(super) fn ask(
-        &self,
-        txn: Txn,
-        waker: &Waker,
-        call: impl FnOnce(usize) -> Reply,
-    ) -> (Poll<Ended>, usize) {
-        let number = self.begin(txn, waker.clone());
-        let reply = call(number);
-        if reply.status == WAITING {
-            return (Poll::Pending, number);
-        }
-        let end = ended(&reply);
-        drop(self.end(txn, number, end)); // Without the lock, since that may call the table.
-        (Poll::Ready(end), number)
     }
 
     /// The number of a new wait. If the slot's last wait still has a waker, its transaction has ended, and the end is not
@@ -164,9 +151,19 @@ impl Waits {
         number
     }
 
+    /// The ask of a new wait was answered so: how the wait ended, if it has.
+    fn answered(&self, txn: Txn, number: usize, reply: &Reply) -> Poll<Ended> {
+        if reply.status == WAITING {
+            return Poll::Pending;
+        }
+        let end = ended(reply);
+        drop(self.end(txn, number, end)); // Without the lock, since that may call the table.
+        Poll::Ready(end)
+    }
+
     /// How the wait of this number ended; if it has not, it wakes this waker from now on. If the slot has another wait, the
     /// transaction has ended.
-    pub(super) fn poll(&self, txn: Txn, number: usize, waker: &Waker) -> Poll<Ended> {
+    fn poll(&self, txn: Txn, number: usize, waker: &Waker) -> Poll<Ended> {
         let is_woken = |own: &Waker| own.will_wake(waker);
         let wait = self.of(txn);
         if wait.number != number {
@@ -199,7 +196,7 @@ impl Waits {
     }
 
     /// From now on the wait of this number wakes nobody; whether it has not ended.
-    pub(super) fn forget_waker(&self, txn: Txn, number: usize) -> bool {
+    fn forget_waker(&self, txn: Txn, number: usize) -> bool {
         let mut wait = self.of(txn);
         if wait.number != number {
             return false;
@@ -212,16 +209,14 @@ impl Waits {
     }
 
     /// Whether the end of the wait of this number is not told yet.
-    #[cfg_attr(not(target_pointer_width = "64"), allow(dead_code))] // Only groups need this and the next.
-    pub(super) fn is_untold(&self, txn: Txn, number: usize) -> bool {
+    fn is_untold(&self, txn: Txn, number: usize) -> bool {
         let wait = self.of(txn);
         wait.number == number && !matches!(wait.state, State::Ended(_))
     }
 
     /// Nobody has the transaction of the wait of this number any more: who tells the end of the wait ends that too. False
     /// if the end was told.
-    #[cfg_attr(not(target_pointer_width = "64"), allow(dead_code))]
-    pub(super) fn leave(&self, txn: Txn, number: usize) -> bool {
+    fn leave(&self, txn: Txn, number: usize) -> bool {
         let mut wait = self.of(txn);
         let waits = wait.number == number && matches!(wait.state, State::Waits);
         if waits {
@@ -242,7 +237,7 @@ impl Waits {
 
     /// Of a callback: the wait of this number has ended so. Stores that, and wakes the task after it; whether its
     /// transaction was left.
-    pub(super) fn ends(&self, txn: Txn, number: usize, end: &Reply) -> bool {
+    fn ends(&self, txn: Txn, number: usize, end: &Reply) -> bool {
         let end = match end.status {
             NO_MANAGER => Err(Stop::Refused(Refusal::NoSuchTxn)), // All ends, and the transaction with it.
             _ => ended(end),
@@ -258,8 +253,95 @@ impl Waits {
     }
 }
 
+/// A transaction of a table or a group, which asks for locks. One thread has it at a time.
+pub(crate) trait Asks {
+    fn name(&self) -> Txn;
+
+    fn waits(&self) -> &Waits;
+
+    /// The number of its last ask; 0 before the first.
+    fn asked(&mut self) -> &mut usize;
+
+    /// Whether it may be in several parts.
+    fn has_parts(&self) -> bool;
+
+    /// Makes an ask with this word.
+    fn request(&mut self, sought: Sought<'_>, until: Until<'_>, word: usize) -> Reply;
+
+    /// Tries to lock a node of no table.
+    fn try_nowhere(&mut self, node: Node) -> Reply;
+
+    fn cancel(&mut self) -> Reply;
+
+    fn abort_now(&mut self) -> Reply;
+
+    /// Whether this thread may sleep in a call.
+    fn may_sleep(&self) -> bool;
+
+    /// Makes an ask whose end wakes this waker if it waits; answers its number too. It is a call of its caller. If the last
+    /// one still waits, since its future was leaked, that keeps its place.
+    fn ask(&mut self, sought: Sought<'_>, until: Until<'_>, waker: &Waker) -> (Poll<Ended>, usize) {
+        let (txn, last) = (self.name(), *self.asked());
+        if self.waits().is_untold(txn, last) {
+            if let Some(stop) = self.barred() {
+                return (Poll::Ready(Err(stop)), last);
+            }
+        }
+        let number = self.waits().begin(txn, waker.clone());
+        *self.asked() = number;
+        let reply = self.request(sought, until, number);
+        (self.waits().answered(txn, number, &reply), number)
+    }
+
+    /// Why it may request nothing, if so: a request of a node of no table is refused last for that.
+    fn barred(&mut self) -> Option<Stop> {
+        let nowhere = Node {
+            key: usize::MAX,
+            birth: 1,
+        };
+        let reply = self.try_nowhere(nowhere);
+        (reply.status != NO_SUCH_NODE).then(|| Stop::of(&reply))
+    }
+
+    /// How the wait of an ask ended; if it has not, it wakes this waker from now on.
+    fn poll(&mut self, number: usize, waker: &Waker) -> Poll<Ended> {
+        self.waits().poll(self.name(), number, waker)
+    }
+
+    /// Cancels the wait of an ask, which wakes nobody until the next poll. False if the transaction did not wait any more.
+    /// Otherwise the end of the wait was told, or will be. Over several parts it may be another one than that of a cancel.
+    fn cancels(&mut self, number: usize) -> bool {
+        let waits = self.waits().forget_waker(self.name(), number);
+        waits && self.cancel().status == DONE
+    }
+
+    /// Cancels the wait of an ask, whose end no task awaits, and sleeps while another thread tells that; if this thread may
+    /// not sleep, the end is told later.
+    fn forget(&mut self, number: usize) {
+        while self.cancels(number)
+            && self.waits().is_untold(self.name(), number)
+            && self.may_sleep()
+        {
+            thread::yield_now();
+        }
+    }
+
+    /// Aborts it; if it waits, and the end is told only after this callback, as soon as that is told.
+    fn abort(&mut self) -> Reply {
+        let reply = self.abort_now();
+        if reply.status != TXN_WAITING {
+            return reply;
+        }
+        let last = *self.asked();
+        if self.waits().leave(self.name(), last) {
+            return Reply::with_status(DONE);
+        }
+        self.abort_now() // By now another thread has told it.
+    }
+}
+
 /// Asks a table for this.
-pub(super) fn ask(
+pub(crate) fn ask(
     table: &Shared,
     txn: Txn,
     sought: Sought<'_>,
@@ -294,14 +376,64 @@ pub(super) fn ask(
     }
 }
 
-/// Gives a table its callback, [`on_end`].
+/// The context of the callback of a table or a group. It stays where it is.
+pub(super) struct Ends<T> {
+    /// Null before that is made.
+    of: Option<NonNull<T>>,
+    waits: Box<Waits>,
+}
+
+/// What has a callback: a table or a group.
+pub(super) trait HasEnds: Sized {
+    /// Gives it its callback.
+    ///
+    /// # Safety
+    ///
+    /// The function does what the header asks of it, and the context is there for each of its calls.
+    unsafe fn on_end(&self, function: OnEnd, context: *const c_void) -> Reply;
+
+    /// Aborts a transaction that nobody has any more.
+    fn abort_left(&self, txn: Txn);
+}
+
+impl<T: HasEnds> Ends<T> {
+    /// Of nothing yet; `None` if memory is refused.
+    pub(super) fn new() -> Option<Box<Ends<T>>> {
+        let waits = Waits::new()?;
+        boxed(Ends { of: None, waits })
+    }
+
+    /// They are those of this table or group from now on. They stay until the caller frees them.
+    pub(super) fn are_of(mut self: Box<Self>, of: NonNull<T>) -> NonNull<Ends<T>> {
+        self.of = Some(of);
+        NonNull::from(Box::leak(self))
+    }
+
+    pub(super) fn waits(&self) -> &Waits {
+        &self.waits
+    }
+}
+
+/// Has the ends of all asks told.
 ///
 /// # Safety
 ///
-/// The waits stay until the table has ended.
-pub(super) unsafe fn has_ends_told(table: &Shared, waits: *const Waits) -> Reply {
+/// The ends are those of the table or group, and stay until it has ended.
+pub(super) unsafe fn has_ends_told<T: HasEnds>(of: &T, ends: NonNull<Ends<T>>) -> Reply {
+    let context = ends.as_ptr().cast_const().cast();
     // SAFETY: the function does what the header asks of it, and its context is there for each of its calls.
-    unsafe { bs_table_on_end(table, on_end, waits.cast()) }
+    unsafe { of.on_end(on_end::<T>, context) }
+}
+
+impl HasEnds for Shared {
+    unsafe fn on_end(&self, function: OnEnd, context: *const c_void) -> Reply {
+        // SAFETY: the same.
+        unsafe { bs_table_on_end(self, function, context) }
+    }
+
+    fn abort_left(&self, txn: Txn) {
+        bs_table_abort(self, txn, None);
+    }
 }
 
 /// Whether a waker has panicked in any thread: before that no call looks for a panic of its own.
@@ -355,19 +487,24 @@ impl Drop for Resumes {
     }
 }
 
-/// The callback of all tables: stores how a wait or a begin ended, and wakes the task after that.
+/// The callback of all tables and groups: stores how a wait or a begin ended, wakes the task after that, and aborts a
+/// transaction that was left.
 ///
 /// # Safety
 ///
-/// The context is the table's [`Waits`], which are there until the table has ended.
-unsafe extern "C" fn on_end(context: *const c_void, txn: Txn, end: Reply, word: usize) {
-    // SAFETY: each ask of a table of this crate is a future's.
+/// The context is the [`Ends`] of the table or group, which are there until it has ended.
+unsafe extern "C" fn on_end<T: HasEnds>(context: *const c_void, txn: Txn, end: Reply, word: usize) {
+    // SAFETY: each ask of a table or a group of this crate is a future's.
     if unsafe { begun::ends(word, end) } {
         return;
     }
-    // SAFETY: the table has not ended.
-    let waits = unsafe { &*context.cast::<Waits>() };
-    waits.ends(txn, word, &end);
+    // SAFETY: the table or group has not ended.
+    let ends = unsafe { &*context.cast::<Ends<T>>() };
+    let is_left = ends.waits.ends(txn, word, &end);
+    if let (true, Some(of)) = (is_left, ends.of) {
+        // SAFETY: the same.
+        unsafe { of.as_ref() }.abort_left(txn);
+    }
 }
 
 #[cfg(test)]

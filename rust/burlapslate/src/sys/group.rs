@@ -6,8 +6,8 @@
 //! drops it, and no thread is in a call then, because each call borrows it. The asks are in [`asks`], and the lists in
 //! [`lists`].
 
-use super::awaited::{self, Resumes};
-use super::shared::{Calling, Time, Until};
+use super::awaited::{self, Ends, Resumes, Waits};
+use super::shared::{self, Calling, Time, Until};
 use super::{assert_fits, nodes, numbers, Options, Pinned, Place, Reply, DONE, IN_USE};
 use crate::group::Group as Owner;
 use crate::listing::Counters;
@@ -152,6 +152,7 @@ unsafe extern "C" {
     fn bs_group_split(group: &Shared, txn: Txn, interval: Node, at: u64) -> Reply;
     fn bs_group_merge(group: &Shared, txn: Txn, interval: Node) -> Reply;
     fn bs_group_held(group: &Shared, txn: Txn, node: Node) -> Reply;
+    safe fn bs_table_group_of(table: &shared::Shared) -> Option<NonNull<Shared>>;
 
     safe fn bs_group_expire(group: &Shared, next: &mut Time) -> Reply;
     safe fn bs_group_watch_thread(group: &Shared, pace: u64) -> Reply;
@@ -164,10 +165,12 @@ unsafe extern "C" {
     safe fn bs_group_name_of(group: &Shared, node: Node, table: u32) -> Reply;
 }
 
-/// A group, which ends with this.
+/// A group.
 pub(crate) struct Group {
     at: NonNull<Shared>,
-    ends: NonNull<Ends>,
+    waits: NonNull<Waits>,
+    /// The context of its callback, which ends with it; `None` if it is a table's, and ends with that.
+    own: Option<NonNull<Ends<Shared>>>,
 }
 
 // SAFETY: any thread may make any call with a group, and any thread may end it.
@@ -181,25 +184,52 @@ impl UnwindSafe for Group {}
 impl RefUnwindSafe for Group {}
 
 impl Group {
-    /// Makes a group with so many parts, whose asks have their ends told.
+    /// Makes a group with so many parts, whose asks have their ends told. It ends with this.
     pub(crate) fn new(options: &Options, parts: u32) -> Result<Group, Refusal> {
         assert_fits();
-        let mut ends = Ends::new().ok_or(Refusal::NoMemory)?;
+        let ends = Ends::new().ok_or(Refusal::NoMemory)?;
         let mut at = null_mut();
         // SAFETY: the size is that of the options.
         accepted(unsafe { bs_call_group_make(&mut at, options, size_of::<Options>(), parts) })?;
         let at = NonNull::new(at).expect("a group that was made");
-        ends.are_of(at);
-        let ends = NonNull::from(Box::leak(ends));
-        let group = Group { at, ends };
+        let ends = ends.are_of(at);
+        // SAFETY: they are there until the drop.
+        let waits = NonNull::from(unsafe { ends.as_ref() }.waits());
+        let own = Some(ends);
+        let group = Group { at, waits, own };
         // SAFETY: the ends are freed after the group has ended.
-        accepted(unsafe { asks::has_ends_told(group.shared(), ends) })?;
+        accepted(unsafe { awaited::has_ends_told(group.shared(), ends) })?;
         Ok(group)
+    }
+
+    /// The group of a table with parts; `None` if it has one.
+    ///
+    /// # Safety
+    ///
+    /// The table is there for as long as this is.
+    pub(super) unsafe fn of_table(table: &shared::Shared, waits: &Waits) -> Option<Group> {
+        let (at, waits) = (bs_table_group_of(table)?, NonNull::from(waits));
+        Some(Group {
+            at,
+            waits,
+            own: None,
+        })
+    }
+
+    pub(super) fn waits(&self) -> &Waits {
+        // SAFETY: they are there until the drop.
+        unsafe { self.waits.as_ref() }
     }
 
     fn shared(&self) -> &Shared {
         // SAFETY: the group is there until the drop.
         unsafe { self.at.as_ref() }
+    }
+
+    /// The mode in which a transaction of a table with parts holds a node.
+    pub(crate) fn held(&self, txn: Txn, node: Node) -> Reply {
+        // SAFETY: a session of the table makes this call, and no other thread is in a call of its transaction.
+        unsafe { bs_group_held(&self.call(), txn, node) }
     }
 
     /// For one call.
@@ -300,16 +330,17 @@ impl Drop for Group {
     /// The end may sleep, which a waker must not, nor a thread that holds a table: another thread ends it then. If there
     /// can be none, the group stays.
     fn drop(&mut self) {
+        let Some(ends) = self.own else { return };
         let mut at = self.at.as_ptr();
         if bs_group_end(self.shared()).status != IN_USE {
             // SAFETY: the group was ended, and no thread is in a call with it: each borrows its owner.
             unsafe { bs_group_free(&mut at) };
             // SAFETY: they are of `new`, which leaked the box, and nobody tells an end any more.
-            drop(unsafe { Box::from_raw(self.ends.as_ptr()) });
+            drop(unsafe { Box::from_raw(ends.as_ptr()) });
             return awaited::resume_panic();
         }
-        let Group { at, ends } = *self;
-        let group = ManuallyDrop::new(Group { at, ends });
+        let Group { at, waits, own } = *self;
+        let group = ManuallyDrop::new(Group { at, waits, own });
         let ends_it = move || drop(ManuallyDrop::into_inner(group));
         let _ = thread::Builder::new().spawn(ends_it);
     }
@@ -548,9 +579,6 @@ impl<'g> Transaction<'g> {
 
 mod asks;
 mod lists;
-
-use asks::Ends;
-pub(crate) use asks::Sought;
 
 /// The layouts of the header's types, by a C compiler for machines of 64 bits.
 #[cfg(test)]

@@ -4,24 +4,33 @@
 //!
 //! Any thread may make any call with a table, so these take it by `&`. A [`Table`] is freed when its owner drops it, and
 //! no thread is in a call then, because each call borrows it.
+//!
+//! If a table has parts, the calls of one transaction come from one thread at a time, as in a group. A session makes them
+//! by `&mut`, so it is in one of them at most, and nobody else makes any, except by the transaction's name: a cancel, which
+//! any thread may make; a question for how long it has waited; and a commit or an abort, of a transaction that its session
+//! has left, by the one thread that takes it from [`Left`]. The calls that a name does not fit are refused, whatever table
+//! it is of. While a transaction waits by an ask, which may be leaked, the library refuses its calls before it uses anything
+//! of it.
 
-use super::awaited::{self, Resumes, Sought, Waits};
+use super::awaited::{self, Ends, Resumes, Waits};
 use super::begun::{Asked, Begin};
-use super::running::{Listener, Telling};
-use super::{assert_fits, nodes, numbers, Notice, Notices, Options, Pinned, Place, Reply};
-use super::{WatcherPlace, DONE, IN_USE};
+use super::running::{self, Listener, Telling};
+use super::{assert_fits, nodes, numbers, zeroed, Notice, Notices, Options, Pinned, Place, Reply};
+use super::{WatcherPlace, IN_USE};
+#[cfg(target_pointer_width = "64")]
+use crate::group::Group;
 use crate::manager::Manager;
 use crate::names::{Node, Row, Txn};
-use crate::refusal::{accepted, Refusal};
-use crate::session::Ended;
+use crate::refusal::{accepted, done, Refusal};
 use crate::SLOTS;
 use std::cell::UnsafeCell;
 use std::mem::ManuallyDrop;
 use std::ops::Deref;
 use std::panic::{RefUnwindSafe, UnwindSafe};
 use std::ptr::{null_mut, NonNull};
+use std::sync::atomic::{AtomicU64, Ordering};
 use std::sync::{Arc, OnceLock};
-use std::task::{Poll, Waker};
+use std::task::Waker;
 use std::thread;
 
 /// Joined to the mode of a lock for an instant.
@@ -87,7 +96,7 @@ impl Kept {
 type Told<'a> = Option<&'a mut Notices>;
 
 /// The time up to which a call sleeps, or an ask waits; `None`: up to the end.
-pub(super) type Until<'a> = Option<&'a Time>;
+pub(crate) type Until<'a> = Option<&'a Time>;
 
 // SAFETY: these are the calls of the header, and their types have the layout of its types. Those that are safe have no
 // conditions but what their types say: an `Option` of a reference is a pointer that may be null.
@@ -343,12 +352,36 @@ impl<T> Deref for Calling<'_, T> {
     }
 }
 
+/// The transactions of a table with parts that their sessions have left, by slot: the age, or 0 if there is none. The thread
+/// that takes one has it alone.
+struct Left([AtomicU64; SLOTS]);
+
+impl Left {
+    fn put(&self, txn: Txn) {
+        self.0[txn.slot()].store(txn.age, Ordering::Release);
+    }
+
+    /// Whether it was there.
+    fn take(&self, txn: Txn) -> bool {
+        let at = &self.0[txn.slot()];
+        let taken = at.compare_exchange(txn.age, 0, Ordering::Acquire, Ordering::Relaxed);
+        txn != Txn::NONE && taken.is_ok()
+    }
+}
+
+/// A call that ends a transaction.
+type EndsIt = extern "C" fn(&Shared, Txn, Told<'_>) -> Reply;
+
 /// A table, which ends with this.
 pub(crate) struct Table {
     at: NonNull<Shared>,
-    waits: NonNull<Waits>,
+    ends: NonNull<Ends<Shared>>,
     /// Since the first listener was given.
     telling: OnceLock<NonNull<Telling>>,
+    /// Of a table with parts, as the next.
+    left: Option<Box<Left>>,
+    #[cfg(target_pointer_width = "64")]
+    group: Option<Group>,
 }
 
 // SAFETY: any thread may make any call with a table, and any thread may end it.
@@ -365,41 +398,74 @@ impl Table {
     /// Makes a table, whose asks have their ends told.
     pub(crate) fn new(options: &Options) -> Result<Table, Refusal> {
         assert_fits();
-        let waits = Waits::new().ok_or(Refusal::NoMemory)?;
+        let ends = Ends::new().ok_or(Refusal::NoMemory)?;
+        let mut left = None;
+        if options.parts > 1 {
+            // SAFETY: zero in all bytes is a value of it.
+            left = Some(unsafe { zeroed::<Left>() }.ok_or(Refusal::NoMemory)?);
+        }
         let mut at = null_mut();
         // SAFETY: the size is that of the options.
         accepted(unsafe { bs_call_table_make(&mut at, options, size_of::<Options>()) })?;
+        let at = NonNull::new(at).expect("a table that was made");
+        let ends = ends.are_of(at);
+        // SAFETY: both are there until the drop, and the group is lent by this alone.
+        #[cfg(target_pointer_width = "64")]
+        let group = unsafe { super::group::Group::of_table(at.as_ref(), ends.as_ref().waits()) };
         let table = Table {
-            at: NonNull::new(at).expect("a table that was made"),
-            waits: NonNull::from(Box::leak(waits)),
+            at,
+            ends,
             telling: OnceLock::new(),
+            left,
+            #[cfg(target_pointer_width = "64")]
+            group: group.map(|group| Group::of(group, options.parts)),
         };
-        // SAFETY: the waits are freed after the table has ended.
-        accepted(unsafe { awaited::has_ends_told(table.shared(), table.waits.as_ptr()) })?;
+        // SAFETY: the ends are freed after the table has ended.
+        accepted(unsafe { awaited::has_ends_told(table.shared(), ends) })?;
         Ok(table)
     }
 
-    /// Makes an ask whose end wakes this waker if it waits; answers its number too. It is a call of its caller.
-    pub(crate) fn ask(
-        &self,
-        txn: Txn,
-        sought: Sought<'_>,
-        until: Until<'_>,
-        waker: &Waker,
-    ) -> (Poll<Ended>, usize) {
-        let ask = |word| awaited::ask(self.shared(), txn, sought, until, word);
-        self.waits().ask(txn, waker, ask)
+    /// Its group; `None` if it has one part.
+    #[cfg(target_pointer_width = "64")]
+    pub(crate) fn group(&self) -> Option<&Group> {
+        self.group.as_ref()
     }
 
-    /// How the wait of an ask ended; if it has not, it wakes this waker from now on.
-    pub(crate) fn poll(&self, txn: Txn, number: usize, waker: &Waker) -> Poll<Ended> {
-        self.waits().poll(txn, number, waker)
+    /// Whether it has parts.
+    pub(crate) fn has_parts(&self) -> bool {
+        self.left.is_some()
     }
 
-    /// Cancels the wait of an ask, which wakes nobody then; whether it still waited.
-    pub(crate) fn cancels(&self, txn: Txn, number: usize) -> bool {
-        let waits = self.waits().forget_waker(txn, number);
-        waits && bs_table_cancel(&self.call(), txn, None).status == DONE
+    /// A session has left this transaction.
+    pub(crate) fn leave(&self, txn: Txn) {
+        if let Some(left) = &self.left {
+            left.put(txn);
+        }
+    }
+
+    /// Commits or aborts a transaction by its name. With parts it must be one that a session has left: the calls of another
+    /// are its session's.
+    pub(crate) fn end(&self, txn: Txn, call: EndsIt) -> Result<(), Refusal> {
+        let calling = self.call();
+        let Some(left) = &self.left else {
+            return done(call(&calling, txn, None));
+        };
+        if !left.take(txn) {
+            return Err(self.not_left(txn));
+        }
+        let end = done(call(&calling, txn, None));
+        if let Err(Refusal::TxnWaiting | Refusal::TxnCondemned | Refusal::InUse) = end {
+            left.put(txn);
+        }
+        end
+    }
+
+    /// Why a transaction that no session has left is not ended by its name.
+    fn not_left(&self, txn: Txn) -> Refusal {
+        match done(running::bs_table_waited(self.shared(), txn)) {
+            Err(refusal @ (Refusal::NoSuchTxn | Refusal::InUse)) => refusal,
+            _ => Refusal::InParts,
+        }
     }
 
     /// Makes the ask of a begin, whose end wakes this waker if it waits. It is a call of its caller.
@@ -419,9 +485,9 @@ impl Table {
         unsafe { telling.as_ref().give(&self.call(), milliseconds, listener) }
     }
 
-    fn waits(&self) -> &Waits {
+    pub(crate) fn waits(&self) -> &Waits {
         // SAFETY: they are there until the drop.
-        unsafe { self.waits.as_ref() }
+        unsafe { self.ends.as_ref() }.waits()
     }
 
     /// For one call.
@@ -429,7 +495,8 @@ impl Table {
         Calling::new(self.shared())
     }
 
-    fn shared(&self) -> &Shared {
+    /// For a call of the caller's.
+    pub(crate) fn shared(&self) -> &Shared {
         // SAFETY: the table is there until the drop.
         unsafe { self.at.as_ref() }
     }
@@ -444,15 +511,22 @@ impl Drop for Table {
             // SAFETY: the table was ended, and no thread is in a call with it: each borrows its owner.
             unsafe { bs_table_free(&mut at) };
             // SAFETY: they are of `new`, which leaked the box, and nobody tells an end any more.
-            drop(unsafe { Box::from_raw(self.waits.as_ptr()) });
+            drop(unsafe { Box::from_raw(self.ends.as_ptr()) });
             // SAFETY: the same.
             let telling = |at: NonNull<Telling>| unsafe { Box::from_raw(at.as_ptr()) };
             drop(self.telling.take().map(telling));
             return awaited::resume_panic();
         }
-        let Table { at, waits, .. } = *self;
+        let Table { at, ends, .. } = *self;
         let telling = std::mem::take(&mut self.telling);
-        let table = ManuallyDrop::new(Table { at, waits, telling });
+        let table = ManuallyDrop::new(Table {
+            at,
+            ends,
+            telling,
+            left: None, // Nobody makes a call with it any more.
+            #[cfg(target_pointer_width = "64")]
+            group: None,
+        });
         let ends = move || drop(ManuallyDrop::into_inner(table));
         let _ = thread::Builder::new().spawn(ends);
     }
@@ -467,17 +541,17 @@ impl Drop for Held<'_> {
     }
 }
 
-/// Asks the manager of a table, with the latch held for so long, also if that panics.
-///
-/// # Panics
-///
-/// If this thread holds the table already.
-pub(crate) fn with<T>(table: &Shared, ask: impl FnOnce(&Manager) -> T) -> T {
-    let place = bs_table_hold(table).expect("this thread holds the table already");
+/// Asks the manager of a table, with the latch held for so long, also if that panics. Refused if this thread holds the
+/// table already, and if the table lends no manager.
+pub(crate) fn with<T>(table: &Shared, ask: impl FnOnce(&Manager) -> T) -> Result<T, Refusal> {
+    let Some(place) = bs_table_hold(table) else {
+        let shut = Reply::with_status(bs_call_table_shut(table));
+        return Err(Refusal::of(&shut));
+    };
     let _held = Held(table);
     // SAFETY: the manager is there, and no other thread uses it, as long as the latch is held, which outlives this.
     let manager = Manager::lent(unsafe { Pinned::lent(place) });
-    ask(&manager)
+    Ok(ask(&manager))
 }
 
 /// Settles a transaction; answers whom this notified too.

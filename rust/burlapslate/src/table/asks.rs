@@ -4,11 +4,11 @@ use super::Table;
 use crate::manager::Wait;
 use crate::mode::Mode;
 use crate::names::{Node, Row, Txn};
-use crate::session::{ended, Ended, Stop};
-use crate::sys::awaited::Resumes;
+use crate::session::{ended, Ended, Handle, Stop};
 pub(crate) use crate::sys::awaited::Sought;
-use crate::sys::shared::{self, Time, INSTANT};
-use crate::sys::DONE;
+use crate::sys::awaited::{self, Asks, Resumes, Waits};
+use crate::sys::shared::{self, Calling, Time, Until, INSTANT, KEEP_NOTHING};
+use crate::sys::{Reply, DONE};
 use std::future::Future;
 use std::pin::Pin;
 use std::task::{Context, Poll, Waker};
@@ -44,63 +44,64 @@ impl<'k> Sought<'k> {
     }
 }
 
-/// A transaction of a table or of a group, which asks for locks.
-pub(crate) trait Asks: Unpin {
-    /// What it asks for.
-    type Sought<'k>: Copy + Unpin;
-
-    /// Makes an ask whose end wakes this waker if it waits; answers its number too. It is a call of its caller.
-    fn ask(
-        &mut self,
-        sought: Self::Sought<'_>,
-        until: Option<Instant>,
-        waker: &Waker,
-    ) -> (Poll<Ended>, usize);
-
-    /// How the wait of an ask ended; if it has not, it wakes this waker from now on.
-    fn poll(&mut self, number: usize, waker: &Waker) -> Poll<Ended>;
-
-    /// The same of an ask whose time is over: cancels its wait.
-    fn time_out(&mut self, number: usize, waker: &Waker) -> Poll<Ended>;
-
-    /// Cancels the wait of an ask, whose end no task awaits.
-    fn forget(&mut self, number: usize);
-}
-
 /// A lock that a task polls. If the future is dropped before its end, the wait is cancelled; what was granted by then
 /// stays.
 pub(crate) struct Locking<'a, A: Asks> {
-    asks: A,
-    sought: A::Sought<'a>,
+    asks: &'a mut A,
+    sought: Sought<'a>,
+    /// When its wait ends, by both clocks.
     until: Option<Instant>,
+    time: Option<Time>,
     /// The number of its ask, while that waits.
     wait: Option<usize>,
+    /// Its wait was cancelled because its time was over.
+    is_late: bool,
 }
 
 impl<'a, A: Asks> Locking<'a, A> {
-    pub(crate) fn new(asks: A, sought: A::Sought<'a>, until: Option<Instant>) -> Locking<'a, A> {
+    pub(crate) fn new(
+        asks: &'a mut A,
+        sought: Sought<'a>,
+        until: Option<Instant>,
+        time: Option<Time>,
+    ) -> Locking<'a, A> {
         Locking {
             asks,
             sought,
             until,
+            time,
             wait: None,
+            is_late: false,
         }
     }
 
     /// Makes the ask, whose end wakes this waker if it waits.
     fn ask(&mut self, waker: &Waker) -> Poll<Ended> {
         let _resumes = Resumes; // So the panic of a waker finds the wait noted.
-        let (polled, number) = self.asks.ask(self.sought, self.until, waker);
+        let (polled, number) = self.asks.ask(self.sought, self.time.as_ref(), waker);
         self.wait = Some(number);
         polled
     }
 
-    /// After a poll that found it waiting: cancels the wait if its time is over.
+    /// How its wait ended, if it has.
+    fn poll_wait(&mut self, number: usize, waker: &Waker) -> Poll<Ended> {
+        match self.asks.poll(number, waker) {
+            Poll::Ready(Err(Stop::Cancelled)) if self.is_late => Poll::Ready(Err(Stop::TimedOut)),
+            polled => polled,
+        }
+    }
+
+    /// After a poll that found it waiting: cancels the wait if its time is over. Over several parts its end may be told
+    /// later, and may be another one.
     fn time_out(&mut self, number: usize, waker: &Waker) -> Poll<Ended> {
         if self.until.is_none_or(|until| until > Instant::now()) {
             return Poll::Pending;
         }
-        self.asks.time_out(number, waker)
+        self.is_late |= self.asks.cancels(number);
+        if self.is_late && !self.asks.has_parts() {
+            return Poll::Ready(Err(Stop::TimedOut));
+        }
+        self.poll_wait(number, waker)
     }
 }
 
@@ -113,7 +114,7 @@ impl<A: Asks> Future for Locking<'_, A> {
         let waker = context.waker();
         let mut polled = match own.wait {
             None => own.ask(waker),
-            Some(number) => own.asks.poll(number, waker),
+            Some(number) => own.poll_wait(number, waker),
         };
         if let (Poll::Pending, Some(number)) = (polled, own.wait) {
             polled = own.time_out(number, waker);
@@ -133,39 +134,65 @@ impl<A: Asks> Drop for Locking<'_, A> {
     }
 }
 
-/// A transaction of a table that asks.
-pub(crate) struct Asker<'t> {
-    pub(crate) table: &'t Table,
+/// A transaction of a table, which its session has.
+pub(crate) struct Transaction<'t> {
+    pub(crate) table: Handle<'t>,
     pub(crate) txn: Txn,
+    /// The number of its last ask; 0 before the first.
+    asked: usize,
 }
 
-impl Asks for Asker<'_> {
-    type Sought<'k> = Sought<'k>;
-
-    fn ask(
-        &mut self,
-        sought: Sought<'_>,
-        until: Option<Instant>,
-        waker: &Waker,
-    ) -> (Poll<Ended>, usize) {
-        let until = self.table.time(until);
-        let shared = &self.table.shared;
-        shared.ask(self.txn, sought, until.as_ref(), waker)
-    }
-
-    fn poll(&mut self, number: usize, waker: &Waker) -> Poll<Ended> {
-        self.table.shared.poll(self.txn, number, waker)
-    }
-
-    fn time_out(&mut self, number: usize, waker: &Waker) -> Poll<Ended> {
-        if self.table.shared.cancels(self.txn, number) {
-            return Poll::Ready(Err(Stop::TimedOut));
+impl<'t> Transaction<'t> {
+    pub(crate) fn new(table: Handle<'t>, txn: Txn) -> Transaction<'t> {
+        Transaction {
+            table,
+            txn,
+            asked: 0,
         }
-        self.poll(number, waker) // It has ended, and that is told now.
     }
 
-    fn forget(&mut self, number: usize) {
-        self.table.shared.cancels(self.txn, number);
+    /// The table for one call of the library.
+    pub(crate) fn call(&self) -> Calling<'_> {
+        self.table.call()
+    }
+}
+
+impl Asks for Transaction<'_> {
+    fn name(&self) -> Txn {
+        self.txn
+    }
+
+    fn waits(&self) -> &Waits {
+        self.table.shared.waits()
+    }
+
+    fn asked(&mut self) -> &mut usize {
+        &mut self.asked
+    }
+
+    fn has_parts(&self) -> bool {
+        self.table.shared.has_parts()
+    }
+
+    fn request(&mut self, sought: Sought<'_>, until: Until<'_>, word: usize) -> Reply {
+        awaited::ask(self.table.shared(), self.txn, sought, until, word)
+    }
+
+    fn try_nowhere(&mut self, node: Node) -> Reply {
+        let (table, mode) = (self.table.shared(), Mode::S as u32);
+        shared::bs_table_try_path(table, self.txn, node, mode, KEEP_NOTHING)
+    }
+
+    fn cancel(&mut self) -> Reply {
+        shared::bs_table_cancel(&self.call(), self.txn, None)
+    }
+
+    fn abort_now(&mut self) -> Reply {
+        shared::bs_table_abort(&self.call(), self.txn, None)
+    }
+
+    fn may_sleep(&self) -> bool {
+        self.table.may_sleep()
     }
 }
 
@@ -193,9 +220,11 @@ impl Table {
     /// its grant, may make this call by a timer of its own; most have a timeout of their own, which drops the
     /// future.
     ///
+    /// If the table has parts, the call also ends deadlocks over several of them, as [`Group::expire`](crate::Group::expire).
+    ///
     /// # Panics
     ///
-    /// Within the closure of [`with`](Table::with) of this table.
+    /// While the thread holds this table ([`with`](Table::with)), or any table if this one has parts.
     ///
     /// ```
     /// # use burlapslate::{Detect, Table, SLOTS};

@@ -7,7 +7,7 @@ use crate::mode::Mode;
 use crate::names::{Node, Txn};
 use crate::refusal::{accepted, Refusal};
 use crate::sys::running::{self, Told as Heard, BUCKETS, ENDS};
-use crate::sys::{self, Reply, DONE, WAITS};
+use crate::sys::{DONE, WAITS};
 use std::io;
 use std::os::fd::{AsFd, AsRawFd};
 use std::sync::Arc;
@@ -195,22 +195,22 @@ impl Blocker {
 /// let late = waits.ended(WaitEnd::TimedOut);
 /// assert!(late.count() == 1 && late.total() >= wait / 2 && waits.waiting == 0);
 ///
-/// let awaited = table.awaited();
+/// let awaited = table.awaited()?;
 /// assert!(awaited.nodes[0].node == db && awaited.nodes[0].waited == awaited.waited);
 ///
-/// assert!(table.metrics().contains("\nburlapslate_wait_seconds_count{end=\"timed_out\"} 1\n"));
+/// assert!(table.metrics()?.contains("\nburlapslate_wait_seconds_count{end=\"timed_out\"} 1\n"));
 /// # Ok::<(), Stop>(())
 /// ```
 impl Table {
-    /// The waits of the table, all of one moment. A request whose transaction is condemned at once has not waited, and is
-    /// not in them.
+    /// The waits of the table, all of one moment; with parts those of each part are of its own moment. A request whose
+    /// transaction is condemned at once has not waited, and is not in them.
     ///
     /// # Panics
     ///
-    /// Within the closure of [`with`](Table::with) of this table.
+    /// While the thread holds this table ([`with`](Table::with)), or a part of it.
     pub fn waits(&self) -> Waits {
         let (reply, waits) = running::waits(&self.call());
-        assert_written(&reply);
+        assert_eq!(reply.status, DONE, "this thread holds the table");
         Waits {
             ended: waits.ended.map(|it| Histogram {
                 buckets: it.buckets,
@@ -238,36 +238,32 @@ impl Table {
     /// While waits were for at most so many, all is exact; else an `error` is at most a 32nd of the whole, and a node with
     /// more than a 32nd of the whole is counted.
     ///
-    /// # Panics
-    ///
-    /// Within the closure of [`with`](Table::with) of this table.
-    pub fn awaited(&self) -> Awaited {
+    /// Refused with [`InUse`](Refusal::InUse), [`InParts`](Refusal::InParts).
+    pub fn awaited(&self) -> Result<Awaited, Refusal> {
         self.awaited_so(false)
     }
 
     /// The same, and the count begins anew at this moment: no wait is lost between two such calls.
     ///
-    /// # Panics
-    ///
-    /// Within the closure of [`with`](Table::with) of this table.
-    pub fn restart_awaited(&self) -> Awaited {
+    /// Refused as that.
+    pub fn restart_awaited(&self) -> Result<Awaited, Refusal> {
         self.awaited_so(true)
     }
 
-    fn awaited_so(&self, reset: bool) -> Awaited {
+    fn awaited_so(&self, reset: bool) -> Result<Awaited, Refusal> {
         let (reply, awaited) = running::awaited(&self.call(), reset);
-        assert_written(&reply);
+        accepted(reply)?;
         let nodes = awaited.nodes().iter().map(|it| AwaitedNode {
             node: it.node,
             waited: Duration::from_nanos(it.nanoseconds),
             error: Duration::from_nanos(it.error),
             waits: it.waits,
         });
-        Awaited {
+        Ok(Awaited {
             waited: Duration::from_nanos(awaited.nanoseconds),
             since: Duration::from_nanos(awaited.since),
             nodes: nodes.collect(),
-        }
+        })
     }
 
     /// Has long waits and deadlocks told: calls the function once for each wait that lasts so long or longer, and for each
@@ -283,8 +279,8 @@ impl Table {
     /// If another thread drops the table, or gives another function, it awaits the function that is being called.
     ///
     /// Refused with [`InUse`](Refusal::InUse) while the thread holds any table and in a waker, with
-    /// [`BadNumber`](Refusal::BadNumber) if the time is zero, and with [`NoMemory`](Refusal::NoMemory) also if no thread can
-    /// be started.
+    /// [`BadNumber`](Refusal::BadNumber) if the time is zero, with [`NoMemory`](Refusal::NoMemory) also if no thread can
+    /// be started, and with [`InParts`](Refusal::InParts).
     ///
     /// ```
     /// use burlapslate::{Detect, Mode, Stop, Table, Told, SLOTS};
@@ -321,38 +317,39 @@ impl Table {
     /// Takes the function back that was given by [`on_long_wait`](Table::on_long_wait): it is not called any more after
     /// this. If it is being called, the thread sleeps until it has returned, unless the function itself makes this call.
     ///
-    /// Refused with [`InUse`](Refusal::InUse) as that.
+    /// Refused with [`InUse`](Refusal::InUse), [`InParts`](Refusal::InParts) as that.
     pub fn forget_long_waits(&self) -> Result<(), Refusal> {
         self.shared.listens(0, None)
     }
 
     /// All counters and the histogram of waits as text in the form of OpenMetrics, all of one moment.
     ///
-    /// # Panics
-    ///
-    /// Within the closure of [`with`](Table::with) of this table.
-    pub fn metrics(&self) -> String {
+    /// Refused with [`InUse`](Refusal::InUse), [`InParts`](Refusal::InParts).
+    pub fn metrics(&self) -> Result<String, Refusal> {
         let mut text = Vec::new();
-        let written = self.write_metrics(&mut text);
+        let written = self.written(&mut text)?;
         written.expect("a list takes all");
-        String::from_utf8(text).expect("the text is ASCII")
+        Ok(String::from_utf8(text).expect("the text is ASCII"))
     }
 
     /// Writes the same, in parts and without the latch. If an error comes half way, what was written lacks its last line,
-    /// `# EOF`, by which a reader knows a whole text.
-    ///
-    /// # Panics
-    ///
-    /// Within the closure of [`with`](Table::with) of this table.
-    pub fn write_metrics(&self, mut to: impl io::Write) -> io::Result<()> {
+    /// `# EOF`, by which a reader knows a whole text. A refusal is an error of the kind
+    /// [`Other`](io::ErrorKind::Other).
+    pub fn write_metrics(&self, to: impl io::Write) -> io::Result<()> {
+        self.written(to).map_err(io::Error::other)?
+    }
+
+    fn written(&self, mut to: impl io::Write) -> Result<io::Result<()>, Refusal> {
         let mut end = Ok(());
         let mut take = |part: &[u8]| {
             end = to.write_all(part);
             end.is_ok()
         };
         let reply = running::metrics(&self.call(), &mut take);
-        assert!(reply.status != sys::IN_USE, "this thread holds the table");
-        end
+        match end {
+            Ok(()) => accepted(reply).map(|_| Ok(())),
+            Err(_) => Ok(end),
+        }
     }
 
     /// Begins a trace: writes each command that the table accepts as a line of a script, and in comments after it its
@@ -362,7 +359,7 @@ impl Table {
     ///
     /// Refused with [`InUse`](Refusal::InUse) also if the table has a trace, with [`TooLate`](Refusal::TooLate) if a
     /// transaction has begun in it or a record was made, with [`BadNumber`](Refusal::BadNumber) if the file cannot be written
-    /// to, and with [`NoMemory`](Refusal::NoMemory) also if no thread can be started.
+    /// to, with [`NoMemory`](Refusal::NoMemory) also if no thread can be started, and with [`InParts`](Refusal::InParts).
     pub fn trace(&self, file: impl AsFd) -> Result<(), Refusal> {
         let file = file.as_fd().as_raw_fd();
         accepted(running::bs_table_trace(&self.call(), file)).map(drop)
@@ -371,14 +368,9 @@ impl Table {
     /// Ends the trace, after all its lines are written. Answers how many lines were dropped. A table that is dropped ends its
     /// trace too.
     ///
-    /// Refused with [`InUse`](Refusal::InUse) and [`NoTrace`](Refusal::NoTrace). [`NotWritten`](Refusal::NotWritten): the
+    /// Refused with [`InUse`](Refusal::InUse), [`NoTrace`](Refusal::NoTrace), [`InParts`](Refusal::InParts). [`NotWritten`](Refusal::NotWritten): the
     /// trace has ended, but a write has failed.
     pub fn end_trace(&self) -> Result<u64, Refusal> {
         accepted(running::bs_table_trace_end(&self.call())).map(|reply| reply.count)
     }
-}
-
-/// A question that is refused only to a thread that holds the table.
-fn assert_written(reply: &Reply) {
-    assert_eq!(reply.status, DONE, "this thread holds the table");
 }
