@@ -351,7 +351,8 @@ impl<'t> Session<'t> {
         }
     }
 
-    /// The name of its transaction, by which other threads may abort, cancel or settle it.
+    /// The name of its transaction, by which other threads may abort, cancel or settle it; with parts they may cancel its
+    /// waits.
     pub fn txn(&self) -> Txn {
         self.own.txn
     }

@@ -53,7 +53,7 @@ pub use running::{Awaited, AwaitedNode, Blocker, Histogram, LongWait, Told, Wait
 /// # Parts
 ///
 /// By [`Options::parts`] a table has several parts, with a latch each, and so serves many cores. Its calls are those of the
-/// [`Group`](crate::Group) that [`group`](Table::group) lends, and that has the rules: what is locked where, and how
+/// [`Group`] that [`group`](Table::group) lends, and that has the rules: what is locked where, and how
 /// deadlocks over several parts are detected. These differ from a table of one part:
 ///
 ///   - [`Session::lock`], [`try_lock`](Session::try_lock), those of rows and for tasks, and [`Session::insert`] also lock
@@ -539,7 +539,7 @@ impl Table {
     /// ```
     pub fn watch_over(&self, rest: Duration) -> Result<(), Refusal> {
         let start = |pace| shared::bs_table_watch_thread(&self.call(), pace);
-        let may_call = || self.cancel(Txn::NONE) != Err(Refusal::InUse);
+        let may_call = || self.asks_all().is_ok();
         self.watching.watch_over(rest, start, may_call)
     }
 
@@ -556,6 +556,15 @@ impl Table {
     /// The table for a call of the caller's.
     pub(crate) fn shared(&self) -> &shared::Shared {
         self.shared.shared()
+    }
+
+    /// Refused with `InUse` if this thread may make no call of the table: one that names no transaction is refused so. With
+    /// parts a question of all of them acquires their latches by rising number, so the thread must hold none.
+    fn asks_all(&self) -> Result<(), Refusal> {
+        match self.cancel(Txn::NONE) {
+            Err(Refusal::InUse) => Err(Refusal::InUse),
+            _ => Ok(()),
+        }
     }
 
     /// A session has left this transaction.

@@ -12,8 +12,8 @@ mod tasks;
 #[cfg(target_pointer_width = "64")]
 use burlapslate::Group;
 use burlapslate::{
-    Answers, Detect, Do, Done, Halt, Keep, Manager, Mode, Node, Notice, Refusal, Row, RowAsked,
-    RowLocked, Session, Stop, Table, Taken, Tried, Try, Txn, SLOTS,
+    Answers, Detect, Do, Done, Halt, Keep, Manager, Mode, Node, Notice, Options, Refusal, Row,
+    RowAsked, RowLocked, Session, Stop, Table, Taken, Tried, Try, Txn, SLOTS,
 };
 use common::{at_block, begin, grant, manager, store, wait};
 use std::cell::Cell;
@@ -170,20 +170,23 @@ fn managers_that_are_not_made() {
 /// Tables that are made or not leave nothing behind.
 #[test]
 fn tables_that_are_not_made() {
-    let before = BLOCKS.get();
-    let mut n = 1;
-    loop {
-        let (made, left) = refusing(Refused::Nth(n), || Table::new(Detect::AtBlock, SLOTS));
-        if left != Refused::None {
-            assert!(made.is_ok());
-            break;
+    for parts in [1, 3] {
+        let options = Options::new(Detect::AtBlock).parts(parts);
+        let before = BLOCKS.get();
+        let mut n = 1;
+        loop {
+            let (made, left) = refusing(Refused::Nth(n), || Table::with_options(options));
+            if left != Refused::None {
+                assert!(made.is_ok());
+                break;
+            }
+            assert_eq!(made.unwrap_err(), Refusal::NoMemory);
+            assert_eq!(BLOCKS.get(), before);
+            n += 1;
         }
-        assert_eq!(made.unwrap_err(), Refusal::NoMemory);
+        assert!(n > 4);
         assert_eq!(BLOCKS.get(), before);
-        n += 1;
     }
-    assert!(n > 4);
-    assert_eq!(BLOCKS.get(), before);
 }
 
 /// A list of tries for which there is no memory locks nothing.
@@ -694,6 +697,32 @@ fn ends_in_a_group_take_none() {
     let known = again(none, || group.adopt(file, &[1]));
     assert_eq!(without_memory(|| group.forget(known)), Ok(()));
     assert_eq!(without_memory(|| group.begin().map(drop)), Ok(()));
+}
+
+/// A savepoint of a table with parts takes memory; to roll back to it, to leave a transaction and to end it takes none.
+#[cfg(target_pointer_width = "64")]
+#[test]
+fn ends_in_parts_take_none() {
+    let before = BLOCKS.get();
+    let none = Refusal::NoMemory;
+    let table = Table::with_options(Options::new(Detect::AtBlock).parts(2)).unwrap();
+    let db = again(none, || table.add_inner(&[]));
+    let files = [(); 2].map(|()| again(none, || table.add_file(&[db])));
+    let mut session = again(none, || table.begin());
+    session.lock_path(files[0], Mode::X).unwrap();
+    let mark = again(none, || session.mark());
+    session.lock_path(files[1], Mode::X).unwrap();
+    assert_eq!(without_memory(|| session.release_since(mark)), Ok(2));
+    assert_eq!(without_memory(|| session.held(files[1])), Ok(Mode::NL));
+    let name = without_memory(|| session.leave());
+    let other = table.begin().unwrap();
+    let own = without_memory(|| table.abort(other.txn()));
+    assert_eq!(own, Err(Refusal::InParts));
+    assert_eq!(without_memory(|| table.commit(name)), Ok(()));
+    without_memory(|| drop(other));
+    assert_eq!(without_memory(|| table.counters().map(drop)), Ok(()));
+    drop(table);
+    assert_eq!(BLOCKS.get(), before);
 }
 
 /// A task asks a group again after it was refused memory; to drop its future, and to set a deadline and to renew a

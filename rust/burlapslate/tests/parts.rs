@@ -284,6 +284,7 @@ fn who_holds_a_table_is_refused() {
         );
         assert_eq!(s.table.run(&[Do::Mark], &mut answers).err(), Some(in_use));
         assert!(catch_unwind(AssertUnwindSafe(|| s.table.expire())).is_err());
+        assert!(catch_unwind(AssertUnwindSafe(|| s.table.waits())).is_err());
         assert!(catch_unwind(AssertUnwindSafe(|| s.table.dump())).is_err());
         assert!(catch_unwind(AssertUnwindSafe(|| s.table.row_node(s.row(1)))).is_err());
         let name = left.take().unwrap().leave();

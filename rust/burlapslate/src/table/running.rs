@@ -1,6 +1,6 @@
 //! For operators of a table: which transactions wait, for which others, for how long, and the totals until now.
 
-use super::Table;
+use super::{Table, HOLDS};
 use crate::listing::Deadlock;
 use crate::manager::Wait;
 use crate::mode::Mode;
@@ -207,10 +207,11 @@ impl Table {
     ///
     /// # Panics
     ///
-    /// While the thread holds this table ([`with`](Table::with)), or a part of it.
+    /// While the thread holds this table ([`with`](Table::with)), or any table if this one has parts.
     pub fn waits(&self) -> Waits {
+        self.asks_all().expect(HOLDS);
         let (reply, waits) = running::waits(&self.call());
-        assert_eq!(reply.status, DONE, "this thread holds the table");
+        assert_eq!(reply.status, DONE, "{HOLDS}");
         Waits {
             ended: waits.ended.map(|it| Histogram {
                 buckets: it.buckets,
