@@ -64,7 +64,8 @@ pub use running::{Awaited, AwaitedNode, Blocker, Histogram, LongWait, Told, Wait
 ///     waker a list is refused with [`InUse`](Refusal::InUse).
 ///   - [`Session::mark`] takes memory, and [`release_since`](Session::release_since) keeps what the transaction has in the
 ///     main table.
-///   - [`Session::rest`] keeps intentions as [`Group::keep`](crate::Group::keep) does, and [`Session::renew`] too.
+///   - After a [`Session::rest`] each commit keeps intentions, as by [`Group::keep`] with at least its `most`, and so does
+///     [`Session::renew`], which keeps nothing else.
 ///   - [`Table::commit`] and [`Table::abort`] end a transaction that its session has left ([`Session::leave`]). The
 ///     transaction of a session ends by that session alone: these calls are refused with [`InParts`](Refusal::InParts).
 ///   - Each call is refused with [`InUse`](Refusal::InUse) while the thread holds any table.
@@ -215,8 +216,9 @@ impl Table {
     /// A future that is dropped while it waits takes its begin back; a transaction that has begun by then is
     /// aborted. A leaked future waits on, and keeps the slot that it gets.
     ///
-    /// Refused as [`Manager::begin`], but never with [`TooManyTxns`](Refusal::TooManyTxns); and with
-    /// [`InUse`](Refusal::InUse) while the thread holds this table ([`with`](Table::with)).
+    /// Refused as [`Manager::begin`], but never with [`TooManyTxns`](Refusal::TooManyTxns); with
+    /// [`InUse`](Refusal::InUse) while the thread holds this table ([`with`](Table::with)); and with
+    /// [`InParts`](Refusal::InParts) in place of a wait.
     ///
     /// ```
     /// # use burlapslate::{Detect, Table};

@@ -1355,37 +1355,68 @@ fn threads_never_hold_what_conflicts() {
     assert!(cells.0.iter().all(|cell| cell.load(Ordering::SeqCst) == 0));
 }
 
-/// Readers of what other threads do: none of their questions is in the way, or finds a name that is not the table's.
+/// Who has only a name may cancel a wait and ask; a session's transaction is never ended by that.
 #[test]
-fn others_ask_meanwhile() {
-    let s = &Store::of(4);
+fn others_have_the_names() {
+    let s = &Store::with(4, 5);
+    let names = &Mutex::new([Txn::NONE; 4]);
     let is_over = &AtomicBool::new(false);
-    thread::scope(|scope| {
-        for place in 0..4 {
-            scope.spawn(move || {
-                for round in 0..40 {
-                    let mut session = s.table.begin().unwrap();
-                    let record = s.records[(place + round) % FILES][0];
-                    let end = session.lock_path(record, Mode::X);
-                    assert!(matches!(end, Ok(_) | Err(Stop::Victim | Stop::Cancelled)));
-                    let name = session.leave();
-                    s.table.abort(name).unwrap();
-                }
-                is_over.store(true, Ordering::SeqCst);
-            });
+    let works = |place: usize| {
+        for round in 0..100 {
+            let mut session = s.table.begin_in_turn().unwrap();
+            names.lock().unwrap()[place] = session.txn();
+            let end = session.lock_path(s.records[round % FILES][0], Mode::X);
+            assert!(matches!(end, Ok(_) | Err(Stop::Cancelled)));
+            let end = block_on(session.lock_path_async(s.records[round % FILES][1], Mode::S));
+            assert!(matches!(end, Ok(_) | Err(Stop::Cancelled)));
+            let commit = session.commit();
+            assert_eq!(commit, Ok(()));
         }
+    };
+    thread::scope(|scope| {
         scope.spawn(|| {
             while !is_over.load(Ordering::SeqCst) {
-                let name = s.begin().txn();
-                let _ = (
-                    s.table.cancel(name),
-                    s.table.abort(name),
-                    s.table.waited(name),
-                );
+                for name in *names.lock().unwrap() {
+                    let ends = [s.table.abort(name), s.table.commit(name)];
+                    assert!(ends.iter().all(Result::is_err));
+                    let _ = (s.table.cancel(name), s.table.waited(name));
+                }
                 s.table.counters().unwrap();
                 assert!(s.table.dump().contains("Part 4:"));
                 assert!(s.table.waits().waiting <= 4);
             }
         });
+        let workers: [_; 4] = std::array::from_fn(|place| scope.spawn(move || works(place)));
+        let ends = workers.map(|worker| worker.join());
+        is_over.store(true, Ordering::SeqCst);
+        assert!(ends.iter().all(Result::is_ok));
     });
+}
+
+/// Of all threads that end transactions that were left, one ends each.
+#[test]
+fn each_left_transaction_is_ended_once() {
+    let s = &Store::of(4);
+    for round in 0..50 {
+        let names: [Txn; 4] = std::array::from_fn(|place| {
+            let mut session = s.begin();
+            session.lock_path(s.files[place], Mode::X).unwrap();
+            session.leave()
+        });
+        let ended = &AtomicI32::new(0);
+        thread::scope(|scope| {
+            for thread in 0..3 {
+                scope.spawn(move || {
+                    for name in names {
+                        let end = match (thread + round) % 2 {
+                            0 => s.table.abort(name),
+                            _ => s.table.commit(name),
+                        };
+                        ended.fetch_add(i32::from(end.is_ok()), Ordering::SeqCst);
+                    }
+                });
+            }
+        });
+        assert_eq!(ended.load(Ordering::SeqCst), 4);
+    }
 }
