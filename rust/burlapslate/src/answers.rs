@@ -201,10 +201,13 @@ impl Answers {
         self.has_ended(end, false)
     }
 
-    /// In a group the wait goes on to the end of its request, which was this. A command of a row asks for that again, which
-    /// is granted at once.
+    /// Over several parts the wait goes on to the end of its request, which was this; if the call was refused, the wait
+    /// continues. A command of a row asks for that again, which is granted at once.
     pub(crate) fn has_come_to(&mut self, end: Result<Mode, Stop>) -> Result<(), Stop> {
-        self.has_ended(end, true)
+        match end {
+            Err(Stop::Refused(Refusal::InUse | Refusal::TxnWaiting)) => end.map(drop),
+            _ => self.has_ended(end, true),
+        }
     }
 
     fn has_ended(&mut self, end: Result<Mode, Stop>, goes_on: bool) -> Result<(), Stop> {

@@ -10,7 +10,8 @@ use crate::session::{deadline, ended, Handle, Keep, RowLocked, Stop, Tried};
 use crate::sys::awaited::Asks;
 use crate::sys::group::{self, Savepoint, Transaction};
 use crate::sys::shared::Time;
-use crate::table::node_of;
+use crate::sys::Reply;
+use crate::table::{node_of, Beginning};
 use crate::watching::Watching;
 use crate::MOST_PARTS;
 use std::fmt;
@@ -104,8 +105,8 @@ impl Group {
     /// Makes a group with so many parts, 1 to [`MOST_PARTS`]. Each of its tables may have as many nodes as the options
     /// say, and the group as many transactions at once.
     ///
-    /// Refused as [`Manager::with_options`]; with [`BadNumber`](Refusal::BadNumber) also for another number of parts,
-    /// and for other options than of [`Detect::AtBlock`].
+    /// Refused as [`Manager::with_options`]; with [`BadNumber`](Refusal::BadNumber) also for another number of parts.
+    /// Deadlocks are detected as said above, with each [`Detect`] alike.
     pub fn with_options(options: Options, parts: usize) -> Result<Group, Refusal> {
         let options = options.checked()?;
         let parts = within(parts, MOST_PARTS)?;
@@ -314,6 +315,22 @@ impl Group {
         GroupSession::begin_timeout(Handle::Lent(self), time)
     }
 
+    /// As [`begin_in_turn`](Group::begin_in_turn), for a task, as [`Table::begin_async`](crate::Table::begin_async): if all
+    /// slots are taken, it waits in the same queue as the threads that sleep, and no thread sleeps for it.
+    ///
+    /// Refused with [`InUse`](Refusal::InUse) while the thread holds a table, and with [`NoMemory`](Refusal::NoMemory) if it
+    /// has to wait; never with [`TooManyTxns`](Refusal::TooManyTxns).
+    pub async fn begin_async(&self) -> Result<GroupSession<'_>, Refusal> {
+        self.begin_again_async(u64::MAX).await
+    }
+
+    /// As [`begin_async`](Group::begin_async), for work that an earlier transaction began. It gives no earlier place in the
+    /// queue.
+    pub async fn begin_again_async(&self, since: u64) -> Result<GroupSession<'_>, Refusal> {
+        let begun = Beginning::new(&self.group, since).await;
+        GroupSession::begun(Handle::Lent(self), begun)
+    }
+
     /// From now on a commit keeps in each part the first locks there that are intentions, at most so many, for the next
     /// transaction of its slot; 16 is usual. The next transaction of a thread mostly has the same slot. With 0, as at
     /// first, commits keep nothing, and this call releases what they kept.
@@ -394,6 +411,20 @@ impl Group {
         GroupSession::begin_in_turn(Handle::Shared(Arc::clone(self)), since)
     }
 
+    /// As [`begin_async`](Group::begin_async), for a session that is one of the group's owners.
+    pub async fn begin_shared_async(self: &Arc<Group>) -> Result<GroupSession<'static>, Refusal> {
+        self.begin_shared_again_async(u64::MAX).await
+    }
+
+    /// As [`begin_again_async`](Group::begin_again_async), for a session that is one of the group's owners.
+    pub async fn begin_shared_again_async(
+        self: &Arc<Group>,
+        since: u64,
+    ) -> Result<GroupSession<'static>, Refusal> {
+        let begun = Beginning::new(&self.group, since).await;
+        GroupSession::begun(Handle::Shared(Arc::clone(self)), begun)
+    }
+
     /// As [`begin_timeout`](Group::begin_timeout), for a session that is one of the group's owners.
     pub fn begin_shared_timeout(
         self: &Arc<Group>,
@@ -411,6 +442,14 @@ impl Group {
     /// the lock of a task is granted at that moment, its answer may be the grant.
     pub fn cancel(&self, txn: Txn) -> Result<(), Refusal> {
         done(self.group.cancel(txn))
+    }
+
+    /// Ends all deadlocks over several tables, that of this transaction among them. Those within one table have been ended
+    /// as they arose. Costs the latches of all tables.
+    ///
+    /// Refused with [`NoSuchTxn`](Refusal::NoSuchTxn).
+    pub fn settle(&self, txn: Txn) -> Result<(), Refusal> {
+        done(self.group.settle(txn))
     }
 }
 
@@ -675,6 +714,12 @@ impl<'g> GroupSession<'g> {
         let until = group.time(deadline(time));
         let begun = Transaction::begin_in_turn(group, u64::MAX, until).map(GroupSession::of);
         begun.map_err(|reply| Stop::of(&reply))
+    }
+
+    /// With the transaction that a begin answered so.
+    fn begun(group: Handle<'g, Group>, begun: Reply) -> Result<GroupSession<'g>, Refusal> {
+        let begun = Transaction::begun(group, begun).map(GroupSession::of);
+        begun.map_err(|reply| Refusal::of(&reply))
     }
 
     fn of(transaction: Transaction<'g>) -> GroupSession<'g> {

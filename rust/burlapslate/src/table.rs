@@ -19,7 +19,7 @@ use std::sync::Arc;
 use std::time::{Duration, Instant};
 
 pub(crate) use asks::{Locking, Sought, Transaction};
-use begins::Beginning;
+pub(crate) use begins::Beginning;
 pub use running::{Awaited, AwaitedNode, Blocker, Histogram, LongWait, Told, WaitEnd, Waits};
 
 /// A table of granular locks that threads share: a [`Manager`] with one mutex, its latch, and a condition
@@ -118,8 +118,7 @@ impl Table {
 
     /// By options, also with several parts ([`Options::parts`]).
     ///
-    /// Refused with [`BadNumber`](Refusal::BadNumber), also for parts with another detection than
-    /// [`AtBlock`](Detect::AtBlock), and with [`NoMemory`](Refusal::NoMemory).
+    /// Refused with [`BadNumber`](Refusal::BadNumber), [`NoMemory`](Refusal::NoMemory).
     pub fn with_options(options: Options) -> Result<Table, Refusal> {
         Ok(Table {
             shared: shared::Table::new(&options.checked()?)?,
@@ -216,9 +215,8 @@ impl Table {
     /// A future that is dropped while it waits takes its begin back; a transaction that has begun by then is
     /// aborted. A leaked future waits on, and keeps the slot that it gets.
     ///
-    /// Refused as [`Manager::begin`], but never with [`TooManyTxns`](Refusal::TooManyTxns); with
-    /// [`InUse`](Refusal::InUse) while the thread holds this table ([`with`](Table::with)); and with
-    /// [`InParts`](Refusal::InParts) in place of a wait.
+    /// Refused as [`Manager::begin`], but never with [`TooManyTxns`](Refusal::TooManyTxns); and with
+    /// [`InUse`](Refusal::InUse) while the thread holds this table ([`with`](Table::with)).
     ///
     /// ```
     /// # use burlapslate::{Detect, Table};
@@ -248,7 +246,7 @@ impl Table {
     /// As [`begin_async`](Table::begin_async), for work that an earlier transaction began. It gives no earlier
     /// place in the queue.
     pub async fn begin_again_async(&self, since: u64) -> Result<Session<'_>, Refusal> {
-        let begun = Beginning::new(self, since).await;
+        let begun = Beginning::new(&self.shared, since).await;
         self.begun(begun)
     }
 
@@ -387,9 +385,10 @@ impl Table {
         done(shared::bs_table_cancel(&self.call(), txn, None))
     }
 
-    /// Condemns victims until a transaction is on no cycle of waits, and wakes them; how many.
+    /// Condemns victims until a transaction is on no cycle of waits, and wakes them; how many. If the table has parts, it
+    /// ends all deadlocks over several of them, and answers 0: how many victims there were is not told.
     ///
-    /// Refused as [`Manager::settle`], and with [`InParts`](Refusal::InParts).
+    /// Refused as [`Manager::settle`].
     pub fn settle(&self, txn: Txn) -> Result<usize, Refusal> {
         let (reply, told) = shared::settle(&self.call(), txn);
         accepted(reply)?;

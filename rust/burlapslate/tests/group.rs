@@ -35,13 +35,13 @@ fn groups_are_made_by_options() {
         assert_eq!(no_group(options, parts), Some(Refusal::BadNumber));
     }
     for wrong in [
-        Options::new(Detect::ByWatcher),
         options.transactions(0),
         options.transactions(SLOTS + 1),
         options.nodes(0),
     ] {
         assert_eq!(no_group(wrong, 1), Some(Refusal::BadNumber));
     }
+    assert_eq!(no_group(Options::new(Detect::ByWatcher), 1), None);
     for parts in [1, MOST_PARTS] {
         let group = Group::with_options(options.transactions(1).nodes(2), parts).unwrap();
         assert_eq!(group.parts(), parts);

@@ -137,7 +137,7 @@ impl<'g> GroupSession<'g> {
     }
 
     /// Locks what is requested, for a task.
-    fn locking<'a>(&'a mut self, sought: Sought<'a>) -> Locking<'a, Transaction<'g>> {
+    pub(super) fn locking<'a>(&'a mut self, sought: Sought<'a>) -> Locking<'a, Transaction<'g>> {
         let time = self.transaction.owner().time(self.deadline);
         Locking::new(&mut self.transaction, sought, self.deadline, time)
     }

@@ -6,6 +6,7 @@ use crate::list::{Do, Halt};
 use crate::refusal::Refusal;
 use crate::session::{ended, try_first, RowLocked, Stop, Taken, Try};
 use crate::sys::awaited::{Asks, Resumes};
+use crate::table::Sought;
 
 /// # Lists
 ///
@@ -71,10 +72,17 @@ impl GroupSession<'_> {
     pub fn await_lock(&mut self, answers: &mut Answers) -> Result<(), Stop> {
         answers.wait(self.txn()).ok_or(Refusal::NotWaiting)?;
         let until = self.transaction.owner().time(self.deadline);
-        match ended(&self.transaction.await_left(until)) {
-            Err(Stop::Refused(Refusal::InUse)) => Err(Refusal::InUse.into()),
-            end => answers.has_come_to(end.map(RowLocked::mode)),
-        }
+        let end = ended(&self.transaction.await_left(until));
+        answers.has_come_to(end.map(RowLocked::mode))
+    }
+
+    /// As [`await_lock`](GroupSession::await_lock), for a task, as [`lock_path_async`](GroupSession::lock_path_async). If the
+    /// future is dropped while the lock waits, the wait is cancelled, and [`resume`](GroupSession::resume) requests the lock
+    /// again.
+    pub async fn await_lock_async(&mut self, answers: &mut Answers) -> Result<(), Stop> {
+        let wait = answers.wait(self.txn()).ok_or(Refusal::NotWaiting)?;
+        let end = self.locking(Sought::left(wait)).await;
+        answers.has_come_to(end.map(RowLocked::mode))
     }
 
     /// As [`run`](GroupSession::run), but the call sleeps while a lock waits, and continues with the list after the grant.
@@ -90,6 +98,34 @@ impl GroupSession<'_> {
         loop {
             if answers.wait(self.txn()).is_some() {
                 self.await_lock(answers)?;
+            }
+            match self.resume(list, answers) {
+                Err(Halt::Waiting(_)) => {}
+                end => return end,
+            }
+        }
+    }
+
+    /// As [`run_to_end`](GroupSession::run_to_end), for a task, as [`lock_path_async`](GroupSession::lock_path_async). A
+    /// future that is dropped cancels its wait, and leaves what the list has done by then.
+    pub async fn run_to_end_async(
+        &mut self,
+        list: &[Do<'_>],
+        answers: &mut Answers,
+    ) -> Result<(), Halt> {
+        answers.begin(self.txn());
+        self.resume_to_end_async(list, answers).await
+    }
+
+    /// As [`resume_to_end`](GroupSession::resume_to_end), for a task.
+    pub async fn resume_to_end_async(
+        &mut self,
+        list: &[Do<'_>],
+        answers: &mut Answers,
+    ) -> Result<(), Halt> {
+        loop {
+            if answers.wait(self.txn()).is_some() {
+                self.await_lock_async(answers).await?;
             }
             match self.resume(list, answers) {
                 Err(Halt::Waiting(_)) => {}

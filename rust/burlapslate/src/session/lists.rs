@@ -114,21 +114,17 @@ impl<'t> Session<'t> {
 
     /// As [`await_lock`](Session::await_lock), for a task, as [`lock_async`](Session::lock_async). If the future is
     /// dropped while the lock waits, the wait is cancelled, and [`resume`](Session::resume) requests the lock again.
-    ///
-    /// Refused with [`InParts`](Refusal::InParts) too: then the lock waits on, for [`await_lock`](Session::await_lock).
     pub async fn await_lock_async(&mut self, answers: &mut Answers) -> Result<(), Stop> {
         let wait = answers.wait(self.own.txn).ok_or(Refusal::NotWaiting)?;
         let end = self.locking(Sought::left(wait)).await;
         self.has_awaited(answers, end.map(RowLocked::mode))
     }
 
-    /// The wait of a list was awaited, and was answered so. Over several parts that is the end of the command's request,
-    /// unless the call was refused.
+    /// The wait of a list was awaited, and was answered so.
     fn has_awaited(&self, answers: &mut Answers, end: Result<Mode, Stop>) -> Result<(), Stop> {
-        match end {
-            Err(Stop::Refused(Refusal::InUse | Refusal::InParts)) => end.map(drop),
-            _ if self.own.has_parts() => answers.has_come_to(end),
-            _ => answers.has_awaited(end),
+        match self.own.has_parts() {
+            true => answers.has_come_to(end),
+            false => answers.has_awaited(end),
         }
     }
 

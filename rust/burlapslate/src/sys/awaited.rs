@@ -9,8 +9,8 @@
 //! one sleeps until another thread has told its end, if one has to. In a callback no call may sleep, since its thread may be
 //! the one which has to: there a transaction that is to be aborted is left to the call of the callback with its end.
 
-use super::begun;
-use super::shared::{bs_table_abort, Shared, Until};
+use super::begun::{self, Begins};
+use super::shared::{Shared, Until};
 use super::{boxed, numbers, Reply, DONE, NO_MANAGER, NO_SUCH_NODE, TXN_WAITING, WAITING};
 use crate::names::{Node, Row, Txn};
 use crate::refusal::Refusal;
@@ -384,16 +384,13 @@ pub(super) struct Ends<T> {
 }
 
 /// What has a callback: a table or a group.
-pub(super) trait HasEnds: Sized {
+pub(super) trait HasEnds: Begins + Sized {
     /// Gives it its callback.
     ///
     /// # Safety
     ///
     /// The function does what the header asks of it, and the context is there for each of its calls.
     unsafe fn on_end(&self, function: OnEnd, context: *const c_void) -> Reply;
-
-    /// Aborts a transaction that nobody has any more.
-    fn abort_left(&self, txn: Txn);
 }
 
 impl<T: HasEnds> Ends<T> {
@@ -429,10 +426,6 @@ impl HasEnds for Shared {
     unsafe fn on_end(&self, function: OnEnd, context: *const c_void) -> Reply {
         // SAFETY: the same.
         unsafe { bs_table_on_end(self, function, context) }
-    }
-
-    fn abort_left(&self, txn: Txn) {
-        bs_table_abort(self, txn, None);
     }
 }
 
@@ -503,7 +496,7 @@ unsafe extern "C" fn on_end<T: HasEnds>(context: *const c_void, txn: Txn, end: R
     let is_left = ends.waits.ends(txn, word, &end);
     if let (true, Some(of)) = (is_left, ends.of) {
         // SAFETY: the same.
-        unsafe { of.as_ref() }.abort_left(txn);
+        unsafe { of.as_ref() }.abort(txn);
     }
 }
 

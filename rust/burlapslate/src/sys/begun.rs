@@ -1,4 +1,4 @@
-//! Begins of futures that wait for a slot, and their ends, as `include/burlapslate_session.h` declares the calls.
+//! Begins of futures that wait for a slot, and their ends, as `include/burlapslate_session.h` declares the calls of a table.
 //!
 //! Task and callback share what such a begin has come to. Its address is the word of the ask, with the lowest bit set: so
 //! it is told from the ask of a lock, whose word is an even number.
@@ -6,6 +6,7 @@
 use super::awaited::wake;
 use super::shared::{bs_table_abort, Shared, Until};
 use super::{Reply, DONE, WAITING};
+use crate::names::Txn;
 use std::mem::{align_of, replace, swap};
 use std::sync::{Arc, Mutex, MutexGuard, PoisonError};
 use std::task::{Poll, Waker};
@@ -21,12 +22,51 @@ unsafe extern "C" {
     safe fn bs_table_cancel_begin(table: &Shared, word: usize) -> Reply;
 }
 
+/// What begins for tasks: a table or a group.
+pub(crate) trait BeginsAtOnce {
+    /// Begins a transaction if a slot is free. It is a call of its caller, as the next.
+    fn begin_now(&self, since: u64) -> Reply;
+
+    fn begins(&self) -> &dyn Begins;
+
+    /// Makes the ask of a begin, whose end wakes this waker if it waits.
+    fn ask_begin(&self, since: u64, waker: &Waker) -> Asked<'_> {
+        Begin::ask(self.begins(), since, waker)
+    }
+}
+
 /// Set in the words of begins alone.
 const IS_BEGIN: usize = 1;
 
+/// What is asked for begins: a table or a group.
+pub(crate) trait Begins: Sync {
+    /// Makes an ask with this word.
+    fn ask_begin(&self, since: u64, word: usize) -> Reply;
+
+    /// Takes the begin of this word back.
+    fn cancel_begin(&self, word: usize) -> Reply;
+
+    /// Aborts a transaction that nobody has.
+    fn abort(&self, txn: Txn);
+}
+
+impl Begins for Shared {
+    fn ask_begin(&self, since: u64, word: usize) -> Reply {
+        bs_table_ask_begin_again(self, since, None, word)
+    }
+
+    fn cancel_begin(&self, word: usize) -> Reply {
+        bs_table_cancel_begin(self, word)
+    }
+
+    fn abort(&self, txn: Txn) {
+        bs_table_abort(self, txn, None);
+    }
+}
+
 /// A begin that waits for a slot, or did.
 pub(crate) struct Begin<'t> {
-    table: &'t Shared,
+    of: &'t dyn Begins,
     state: Mutex<State>,
 }
 
@@ -49,13 +89,13 @@ const _: () = assert!(align_of::<Begin<'_>>() > IS_BEGIN);
 
 impl<'t> Begin<'t> {
     /// Makes an ask whose end wakes this waker if it waits.
-    pub(super) fn ask(table: &'t Shared, since: u64, waker: &Waker) -> Asked<'t> {
+    fn ask(of: &'t dyn Begins, since: u64, waker: &Waker) -> Asked<'t> {
         let begin = Arc::new(Begin {
-            table,
+            of,
             state: Mutex::new(State::Waits(waker.clone())),
         });
         let told = Arc::into_raw(Arc::clone(&begin)); // The callback's own.
-        let reply = bs_table_ask_begin_again(table, since, None, word_of(told));
+        let reply = of.ask_begin(since, word_of(told));
         if reply.status == WAITING {
             return Asked::Waits(begin);
         }
@@ -86,7 +126,7 @@ impl<'t> Begin<'t> {
         match self.becomes(State::Dropped) {
             // If that is refused, it has begun, or this thread holds the table: its callback ends what it begins.
             State::Waits(waker) => {
-                bs_table_cancel_begin(self.table, word_of(self));
+                self.of.cancel_begin(word_of(self));
                 drop(waker);
             }
             State::Ended(reply) => self.abort(&reply),
@@ -111,7 +151,7 @@ impl<'t> Begin<'t> {
     /// Ends the transaction that was begun, if one was.
     fn abort(&self, begun: &Reply) {
         if begun.status == DONE {
-            bs_table_abort(self.table, begun.txn, None);
+            self.of.abort(begun.txn);
         }
     }
 
@@ -138,7 +178,7 @@ pub(super) unsafe fn ends(word: usize, end: Reply) -> bool {
     if word & IS_BEGIN == 0 {
         return false;
     }
-    // SAFETY: the word is the address of what `ask` gave to this call. The table is there until all ends are told.
+    // SAFETY: the word is the address of what `ask` gave to this call. What it is of is there until all ends are told.
     let begin = unsafe { Arc::from_raw((word & !IS_BEGIN) as *const Begin<'_>) };
     begin.end(end);
     true

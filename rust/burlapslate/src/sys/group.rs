@@ -7,6 +7,7 @@
 //! [`lists`].
 
 use super::awaited::{self, Ends, Resumes, Waits};
+use super::begun::{Begins, BeginsAtOnce};
 use super::shared::{self, Calling, Time, Until};
 use super::{assert_fits, nodes, numbers, Options, Pinned, Place, Reply, DONE, IN_USE};
 use crate::group::Group as Owner;
@@ -28,6 +29,9 @@ use std::thread;
 struct Shared {
     _own: UnsafeCell<[u8; 0]>,
 }
+
+// SAFETY: any thread may make any call with a group, as the header says; those of one transaction are unsafe here.
+unsafe impl Sync for Shared {}
 
 /// `bs_group_savepoint`: a savepoint in each table, by the table's number.
 #[repr(C)]
@@ -77,6 +81,7 @@ unsafe extern "C" {
     fn bs_group_abort(group: &Shared, txn: Txn) -> Reply;
     fn bs_group_renew(group: &Shared, txn: Txn, since: u64) -> Reply;
     safe fn bs_group_cancel(group: &Shared, txn: Txn) -> Reply;
+    safe fn bs_group_settle(group: &Shared, txn: Txn) -> Reply;
     fn bs_group_lock_path(
         group: &Shared,
         txn: Txn,
@@ -282,6 +287,11 @@ impl Group {
         bs_group_cancel(&self.call(), txn)
     }
 
+    /// Ends all deadlocks over several tables, for a transaction that may be any thread's.
+    pub(crate) fn settle(&self, txn: Txn) -> Reply {
+        bs_group_settle(&self.call(), txn)
+    }
+
     /// Cancels the waits of asks whose time is over; the next of these times is written.
     pub(crate) fn expire(&self, next: &mut Time) -> Reply {
         bs_group_expire(&self.call(), next)
@@ -323,6 +333,16 @@ impl Group {
         // SAFETY: the manager is there, and no other thread uses it, as long as the latch is held, which outlives this.
         let manager = Manager::lent(unsafe { Pinned::lent(place) });
         Some(ask(&manager))
+    }
+}
+
+impl BeginsAtOnce for Group {
+    fn begin_now(&self, since: u64) -> Reply {
+        bs_group_begin_again(self.shared(), since)
+    }
+
+    fn begins(&self) -> &dyn Begins {
+        self.shared()
     }
 }
 
@@ -390,7 +410,7 @@ impl<'g> Transaction<'g> {
     }
 
     /// The transaction that a begin answered so.
-    fn begun(owner: Handle<'g, Owner>, begun: Reply) -> Result<Transaction<'g>, Reply> {
+    pub(crate) fn begun(owner: Handle<'g, Owner>, begun: Reply) -> Result<Transaction<'g>, Reply> {
         if begun.status != DONE {
             return Err(begun);
         }

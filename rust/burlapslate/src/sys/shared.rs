@@ -13,7 +13,7 @@
 //! of it.
 
 use super::awaited::{self, Ends, Resumes, Waits};
-use super::begun::{Asked, Begin};
+use super::begun::{Begins, BeginsAtOnce};
 use super::running::{self, Listener, Telling};
 use super::{assert_fits, nodes, numbers, zeroed, Notice, Notices, Options, Pinned, Place, Reply};
 use super::{WatcherPlace, IN_USE};
@@ -30,7 +30,6 @@ use std::panic::{RefUnwindSafe, UnwindSafe};
 use std::ptr::{null_mut, NonNull};
 use std::sync::atomic::{AtomicU64, Ordering};
 use std::sync::{Arc, OnceLock};
-use std::task::Waker;
 use std::thread;
 
 /// Joined to the mode of a lock for an instant.
@@ -468,11 +467,6 @@ impl Table {
         }
     }
 
-    /// Makes the ask of a begin, whose end wakes this waker if it waits. It is a call of its caller.
-    pub(crate) fn ask_begin(&self, since: u64, waker: &Waker) -> Asked<'_> {
-        Begin::ask(self.shared(), since, waker)
-    }
-
     /// Gives a listener of long waits and deadlocks, or takes it back.
     pub(crate) fn listens(
         &self,
@@ -499,6 +493,16 @@ impl Table {
     pub(crate) fn shared(&self) -> &Shared {
         // SAFETY: the table is there until the drop.
         unsafe { self.at.as_ref() }
+    }
+}
+
+impl BeginsAtOnce for Table {
+    fn begin_now(&self, since: u64) -> Reply {
+        bs_table_begin_again(self.shared(), since)
+    }
+
+    fn begins(&self) -> &dyn Begins {
+        self.shared()
     }
 }
 

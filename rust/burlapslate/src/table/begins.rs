@@ -1,27 +1,27 @@
 //! Begins that may wait for a slot, of tasks.
 
-use super::Table;
-use crate::sys::begun::{Asked, Begin};
-use crate::sys::shared;
+use crate::sys::awaited::Resumes;
+use crate::sys::begun::{Asked, Begin, BeginsAtOnce};
 use crate::sys::{Reply, TOO_MANY_TXNS};
 use std::future::Future;
 use std::pin::Pin;
 use std::sync::Arc;
 use std::task::{Context, Poll, Waker};
 
-/// A begin that a task polls. If the future is dropped before its end, the begin is taken back, or ended.
-pub(super) struct Beginning<'t> {
-    table: &'t Table,
+/// A begin of a table or a group that a task polls. If the future is dropped before its end, the begin is taken back, or
+/// ended.
+pub(crate) struct Beginning<'t, T> {
+    of: &'t T,
     since: u64,
     /// Its ask, while that waits.
     wait: Option<Arc<Begin<'t>>>,
 }
 
-impl<'t> Beginning<'t> {
+impl<'t, T: BeginsAtOnce> Beginning<'t, T> {
     /// `since` is the greatest number for new work.
-    pub(super) fn new(table: &'t Table, since: u64) -> Beginning<'t> {
+    pub(crate) fn new(of: &'t T, since: u64) -> Beginning<'t, T> {
         Beginning {
-            table,
+            of,
             since,
             wait: None,
         }
@@ -29,12 +29,12 @@ impl<'t> Beginning<'t> {
 
     /// Begins if a slot is free, without memory for an ask; or makes the ask.
     fn ask(&mut self, waker: &Waker) -> Poll<Reply> {
-        let calling = self.table.call(); // So the panic of a waker finds the wait noted.
-        let begun = shared::bs_table_begin_again(&calling, self.since);
+        let _resumes = Resumes; // So the panic of a waker finds the wait noted.
+        let begun = self.of.begin_now(self.since);
         if begun.status != TOO_MANY_TXNS {
             return Poll::Ready(begun);
         }
-        match self.table.shared.ask_begin(self.since, waker) {
+        match self.of.ask_begin(self.since, waker) {
             Asked::AtOnce(reply) => Poll::Ready(reply),
             Asked::Waits(begin) => {
                 self.wait = Some(begin);
@@ -44,7 +44,7 @@ impl<'t> Beginning<'t> {
     }
 }
 
-impl Future for Beginning<'_> {
+impl<T: BeginsAtOnce> Future for Beginning<'_, T> {
     type Output = Reply;
 
     fn poll(self: Pin<&mut Self>, context: &mut Context<'_>) -> Poll<Reply> {
@@ -60,10 +60,10 @@ impl Future for Beginning<'_> {
     }
 }
 
-impl Drop for Beginning<'_> {
+impl<T> Drop for Beginning<'_, T> {
     fn drop(&mut self) {
         if let Some(begin) = self.wait.take() {
-            let _calling = self.table.call();
+            let _resumes = Resumes;
             begin.forget();
         }
     }

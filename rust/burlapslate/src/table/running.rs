@@ -235,11 +235,11 @@ impl Table {
     }
 
     /// The nodes that were waited for longest, since the table was made or the last
-    /// [`restart_awaited`](Table::restart_awaited). Waits that have not ended count up to now. The table counts 32 nodes.
+    /// [`restart_awaited`](Table::restart_awaited); with parts each of these is of its own moment. Waits that have not ended count up to now. The table counts 32 nodes.
     /// While waits were for at most so many, all is exact; else an `error` is at most a 32nd of the whole, and a node with
     /// more than a 32nd of the whole is counted.
     ///
-    /// Refused with [`InUse`](Refusal::InUse), [`InParts`](Refusal::InParts).
+    /// Refused with [`InUse`](Refusal::InUse).
     pub fn awaited(&self) -> Result<Awaited, Refusal> {
         self.awaited_so(false)
     }
@@ -252,6 +252,7 @@ impl Table {
     }
 
     fn awaited_so(&self, reset: bool) -> Result<Awaited, Refusal> {
+        self.asks_all()?;
         let (reply, awaited) = running::awaited(&self.call(), reset);
         accepted(reply)?;
         let nodes = awaited.nodes().iter().map(|it| AwaitedNode {
@@ -323,9 +324,10 @@ impl Table {
         self.shared.listens(0, None)
     }
 
-    /// All counters and the histogram of waits as text in the form of OpenMetrics, all of one moment.
+    /// All counters and the histogram of waits as text in the form of OpenMetrics, all of one moment; with parts each of
+    /// these is of its own moment, and inner nodes count in each.
     ///
-    /// Refused with [`InUse`](Refusal::InUse), [`InParts`](Refusal::InParts).
+    /// Refused with [`InUse`](Refusal::InUse).
     pub fn metrics(&self) -> Result<String, Refusal> {
         let mut text = Vec::new();
         let written = self.written(&mut text)?;

@@ -4,8 +4,9 @@ use super::{bs_group_abort, bs_group_cancel, bs_group_try_path, Shared, Transact
 use crate::mode::Mode;
 use crate::names::{Node, Row, Txn};
 use crate::sys::awaited::{Asks, HasEnds, OnEnd, Sought, Waits};
+use crate::sys::begun::Begins;
 use crate::sys::shared::{Until, KEEP_NOTHING};
-use crate::sys::{numbers, Reply, IN_PARTS, IN_USE};
+use crate::sys::{numbers, Reply, IN_USE};
 use std::ffi::c_void;
 
 // SAFETY: these are the calls of the header, and their types have the layout of its types. The word of an ask is a number.
@@ -32,6 +33,14 @@ unsafe extern "C" {
         word: usize,
     ) -> Reply;
     pub(super) fn bs_group_await(group: &Shared, txn: Txn, until: Until<'_>) -> Reply;
+    fn bs_group_ask_await(group: &Shared, txn: Txn, until: Until<'_>, word: usize) -> Reply;
+    safe fn bs_group_ask_begin_again(
+        group: &Shared,
+        since: u64,
+        until: Until<'_>,
+        word: usize,
+    ) -> Reply;
+    safe fn bs_group_cancel_begin(group: &Shared, word: usize) -> Reply;
 }
 
 impl HasEnds for Shared {
@@ -39,8 +48,18 @@ impl HasEnds for Shared {
         // SAFETY: the function does what the header asks of it, and its context is there for each of its calls.
         unsafe { bs_group_on_end(self, function, context) }
     }
+}
 
-    fn abort_left(&self, txn: Txn) {
+impl Begins for Shared {
+    fn ask_begin(&self, since: u64, word: usize) -> Reply {
+        bs_group_ask_begin_again(self, since, None, word)
+    }
+
+    fn cancel_begin(&self, word: usize) -> Reply {
+        bs_group_cancel_begin(self, word)
+    }
+
+    fn abort(&self, txn: Txn) {
         // SAFETY: nobody else has the transaction.
         unsafe { bs_group_abort(self, txn) };
     }
@@ -78,7 +97,8 @@ impl Asks for Transaction<'_> {
                     bs_group_ask_row_path(group, txn, file, number, start, count, mode, until, word)
                 }
             }
-            Sought::Left(..) => Reply::with_status(IN_PARTS),
+            // SAFETY: no other thread is in a call of this transaction.
+            Sought::Left(..) => unsafe { bs_group_ask_await(group, txn, until, word) },
         }
     }
 
