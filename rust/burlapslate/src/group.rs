@@ -639,9 +639,9 @@ impl fmt::Debug for GroupMark {
 /// A transaction of a [`Group`], which one thread drives. A lock call sleeps until the lock is granted, or a task awaits it
 /// ([`lock_path_async`](GroupSession::lock_path_async)). A session that is dropped without a commit is aborted, so that its
 /// locks never outlive it: undo what it wrote first. Within a closure of [`Group::with_table`] or
-/// [`Table::with`](crate::Table::with) it cannot be aborted: a drop panics there; so it does in a waker while a lock waits
-/// that a list has left ([`run`](GroupSession::run)). If it is dropped in a waker after a future of it, whose end is told
-/// after the waker, it is aborted then. It borrows its group, or is one of its owners ([`Group::begin_shared`]).
+/// [`Table::with`](crate::Table::with) it cannot be aborted: a drop panics there. If it is dropped in a waker while it
+/// waits by a list or a leaked future, whose end is told after the waker, it is aborted then. It borrows its group, or is one
+/// of its owners ([`Group::begin_shared`]).
 ///
 /// ```
 /// use burlapslate::{Group, Mode};
@@ -1147,21 +1147,14 @@ impl<'g> GroupSession<'g> {
 
 impl Drop for GroupSession<'_> {
     fn drop(&mut self) {
-        if self.has_ended {
-            return;
+        if !self.has_ended {
+            let end = done(self.transaction.abort());
+            let is_lost = end == Err(Refusal::InUse) && !thread::panicking();
+            assert!(
+                !is_lost,
+                "a session was dropped while its thread held a table"
+            );
         }
-        let end = done(self.transaction.abort());
-        if thread::panicking() {
-            return;
-        }
-        assert!(
-            end != Err(Refusal::InUse),
-            "a session was dropped while its thread held a table"
-        );
-        assert!(
-            end != Err(Refusal::TxnWaiting),
-            "a session whose list waited was dropped in a waker"
-        );
     }
 }
 

@@ -274,9 +274,8 @@ pub(crate) fn try_first(
 
 /// A transaction of a [`Table`], which one thread drives. A lock call sleeps until the lock is granted.
 /// A session that is dropped without a commit is aborted, so that its locks never outlive it: undo what
-/// it wrote first. Within the closure of [`Table::with`] it cannot be aborted: a drop panics there. If its table has
-/// parts, a drop panics while the thread holds any table, and in a waker while a lock waits that a list has left. It
-/// borrows its table, or is one of its owners ([`Table::begin_shared`]).
+/// it wrote first. Within the closure of [`Table::with`] it cannot be aborted: a drop panics there, and, if its table has
+/// parts, while the thread holds any table. It borrows its table, or is one of its owners ([`Table::begin_shared`]).
 ///
 /// ```
 /// use burlapslate::{Detect, Mode, Table, SLOTS};
@@ -1117,21 +1116,14 @@ impl<'t> Session<'t> {
 
 impl Drop for Session<'_> {
     fn drop(&mut self) {
-        if self.has_ended {
-            return;
+        if !self.has_ended {
+            let end = done(self.own.abort()); // Refused if another thread has ended it.
+            let is_lost = end == Err(Refusal::InUse) && !thread::panicking();
+            assert!(
+                !is_lost,
+                "a session was dropped while its thread held the table"
+            );
         }
-        let end = done(self.own.abort()); // Refused if another thread has ended it.
-        if thread::panicking() {
-            return;
-        }
-        assert!(
-            end != Err(Refusal::InUse),
-            "a session was dropped while its thread held the table"
-        );
-        assert!(
-            end != Err(Refusal::TxnWaiting),
-            "a session whose list waited was dropped in a waker"
-        );
     }
 }
 

@@ -60,8 +60,7 @@ pub use running::{Awaited, AwaitedNode, Blocker, Histogram, LongWait, Told, Wait
 ///     what must be held above. An insert and a new index acquire what they lack by tries, and are refused with
 ///     [`WouldBlock`](Refusal::WouldBlock) if that cannot be granted at once.
 ///   - An intention on an inner node is no precondition. [`Session::held`] says what a transaction holds in all parts.
-///   - Each command of a list is a critical section of its own. A lock that a list left waiting goes on by itself. In a
-///     waker a list is refused with [`InUse`](Refusal::InUse).
+///   - Each command of a list is a critical section of its own. A lock that a list left waiting goes on by itself.
 ///   - [`Session::mark`] takes memory, and [`release_since`](Session::release_since) keeps what the transaction has in the
 ///     main table.
 ///   - After a [`Session::rest`] each commit keeps intentions, as by [`Group::keep`] with at least its `most`, and so does
@@ -577,15 +576,6 @@ impl Table {
     fn may_sleep(&self) -> bool {
         let (table, mode) = (self.shared(), Mode::S as u32);
         shared::bs_table_await(table, Txn::NONE, Node::NONE, mode, None).status != IN_USE
-    }
-
-    /// Refused where this thread may run no list: one over several parts may leave a lock waiting, and in a waker nothing
-    /// could end that.
-    pub(crate) fn may_run(&self) -> Result<(), Refusal> {
-        if self.shared.has_parts() && !self.may_sleep() {
-            return Err(Refusal::InUse);
-        }
-        Ok(())
     }
 
     /// A time as the library takes it.

@@ -618,9 +618,9 @@ fn calls_the_group(group: &Arc<Group>, mut session: GroupSession<'static>, w: &N
     assert_eq!(begun.map(drop), Err(Stop::Refused(Refusal::InUse)));
     let list = [Do::LockPath(w.record.into(), Mode::S)];
     let mut answers = Answers::new();
-    assert_eq!(s.run(&list, &mut answers), Err(Refusal::InUse.into()));
-    let ran = s.run_to_end(&list, &mut answers);
-    assert_eq!(ran, Err(Refusal::InUse.into()));
+    assert_eq!(s.run(&list, &mut answers), Ok(()));
+    assert_eq!(s.await_lock(&mut answers), Err(Refusal::NotWaiting.into()));
+    s.unlock(w.record).unwrap();
 
     let tried = s.try_lock_path(w.record, Mode::X, Keep::Nothing);
     assert_eq!(tried, Ok(Tried::Locked(Mode::X)));
@@ -1052,6 +1052,17 @@ fn a_deadlock_of_tasks_is_ended_by_an_expiry() {
 
 /// The thread that watches returns at the end of the watch; a group has one such thread.
 #[test]
+fn a_deadlock_of_tasks_is_settled() {
+    cross(|w, bell| {
+        let name = w.begin().txn();
+        assert_eq!(w.group.settle(name), Err(Refusal::NoSuchTxn));
+        let own = w.begin();
+        assert_eq!(w.group.settle(own.txn()), Ok(()));
+        assert_eq!(bell.rung(), 1);
+    });
+}
+
+#[test]
 fn a_deadlock_of_tasks_is_ended_by_a_watch() {
     cross(|w, bell| {
         let rest = Duration::from_micros(500);
@@ -1276,6 +1287,62 @@ mod turns {
         drop(living);
         w.group.begin_in_turn().unwrap().commit().unwrap();
     }
+}
+
+/// Tasks and threads that wait for a slot are in one queue; a begin whose future is dropped is taken back, or ended.
+#[test]
+fn tasks_begin_in_turn() {
+    let w = World::with(1);
+    let only = w.begin();
+    let (bell, waker) = bell(&w);
+    let mut first = pin!(w.group.begin_async());
+    let mut second = pin!(w.group.begin_shared_async());
+    {
+        let mut dropped = pin!(w.group.begin_again_async(1));
+        assert!(poll(&mut first, &waker).is_pending());
+        assert!(poll(&mut dropped, &waker).is_pending());
+        assert!(poll(&mut second, &waker).is_pending());
+    }
+    assert_eq!(w.group.begin().err(), Some(Refusal::TooManyTxns));
+    only.commit().unwrap();
+    assert_eq!(bell.rung(), 1);
+    assert!(poll(&mut second, &waker).is_pending());
+    let Poll::Ready(begun) = poll(&mut first, &waker) else {
+        panic!("it is its turn");
+    };
+    {
+        let mut third = pin!(w.group.begin_shared_again_async(1));
+        assert!(poll(&mut third, &waker).is_pending());
+        begun.unwrap().commit().unwrap();
+        let Poll::Ready(begun) = poll(&mut second, &waker) else {
+            panic!("it is its turn");
+        };
+        drop(begun.unwrap());
+        assert_eq!(bell.rung(), 3); // The third has begun, and is dropped so.
+    }
+    is_ready(w.group.begin_async()).unwrap().commit().unwrap();
+}
+
+/// A begin ends with the group, or with the waker of another that drops its future.
+#[test]
+fn a_begin_is_dropped_in_a_waker() {
+    let w = World::with(1);
+    let mut only = Some(w.begin_shared());
+    let group = Arc::clone(&w.group);
+    let waits = Arc::new(Mutex::new(None::<Task>));
+    let drops = Arc::clone(&waits);
+    let waker = Does::waker(move || drop(drops.lock().unwrap().take()));
+    let mut first = pin!(w.group.begin_async());
+    assert!(poll(&mut first, &waker).is_pending());
+    let mut begin: Task = Box::pin(async move { drop(group.begin_async().await) });
+    assert!(poll(&mut begin.as_mut(), &quiet()).is_pending());
+    *waits.lock().unwrap() = Some(begin);
+    drop(only.take());
+    let Poll::Ready(begun) = poll(&mut first, &quiet()) else {
+        panic!("it is its turn");
+    };
+    begun.unwrap().commit().unwrap();
+    is_ready(w.group.begin_async()).unwrap().commit().unwrap();
 }
 
 /// Work that begins again in its turn counts as old as its first transaction.

@@ -2,6 +2,7 @@
 
 #![cfg(target_pointer_width = "64")]
 
+mod tasks;
 mod world;
 
 use burlapslate::{
@@ -9,12 +10,13 @@ use burlapslate::{
     RowLocked, Stop, Taken, Try,
 };
 use std::future::Future;
-use std::panic::{catch_unwind, AssertUnwindSafe};
+use std::mem::forget;
 use std::pin::pin;
 use std::sync::{Arc, Mutex};
 use std::task::{Context, Poll, Wake, Waker};
 use std::thread;
 use std::time::{Duration, Instant};
+use tasks::quiet;
 use world::World;
 
 const KEY: [u64; 1] = [50];
@@ -223,8 +225,8 @@ fn waits_of_lists_end() {
     assert_eq!(cancelled, Err(Stop::Cancelled));
     let halt = session.resume(&list, &mut answers);
     assert!(matches!(halt, Err(Halt::Waiting(_))));
-    holder.commit().unwrap();
-    assert_eq!(session.resume_to_end(&list, &mut answers), Ok(()));
+    holder.commit().unwrap(); // It is told to the future that was leaked.
+    assert_eq!(session.resume(&list, &mut answers), Ok(()));
     assert_eq!(*answers, [Done::Locked(Mode::S)]);
     session.commit().unwrap();
 }
@@ -343,24 +345,92 @@ fn a_session_whose_list_waits_is_dropped() {
     holder.commit().unwrap();
 }
 
-/// In a waker, where nobody can await the end of that wait, the drop panics.
+/// In a waker the end of that wait is told only after it: then the transaction is aborted.
 #[test]
 fn a_session_whose_list_waits_is_dropped_in_a_waker() {
-    let group = Arc::new(Group::new(2).unwrap());
-    let base = group.add_inner(&[]).unwrap();
-    let [one, two] = [1, 2].map(|part| group.add_file_in(part, &[base]).unwrap());
-    let [mut first, mut second, mut waiter] = [(); 3].map(|()| group.begin().unwrap());
+    let w = World::new();
+    let [one, two] = [w.files[0], w.files[1]];
+    let [mut first, mut second, mut waiter] = [(); 3].map(|()| w.begin());
     first.lock_path(one, Mode::X).unwrap();
     second.lock_path(two, Mode::X).unwrap();
-    let lost = waits(&group, two);
-    let act = Does(Mutex::new(Some(Box::new(move || drop(lost)))));
+    let before = w.living(2);
+    let left = waits(&w.group, two);
+    let group = Arc::clone(&w.group);
+    let act = Does(Mutex::new(Some(Box::new(move || {
+        drop(left);
+        drop(waits(&group, two)); // Its list is made in the waker, too.
+    }))));
     let waker = Waker::from(Arc::new(act));
-    let mut lock = pin!(waiter.lock_path_async(one, Mode::S));
-    let mut context = Context::from_waker(&waker);
-    assert!(lock.as_mut().poll(&mut context).is_pending());
-    let died = catch_unwind(AssertUnwindSafe(|| first.commit())).unwrap_err();
-    let said = died.downcast_ref::<&str>().unwrap();
-    assert_eq!(*said, "a session whose list waited was dropped in a waker");
-    assert_eq!(lock.as_mut().poll(&mut context), Poll::Ready(Ok(Mode::S)));
+    {
+        let mut lock = pin!(waiter.lock_path_async(one, Mode::S));
+        let mut context = Context::from_waker(&waker);
+        assert!(lock.as_mut().poll(&mut context).is_pending());
+        first.commit().unwrap();
+        assert_eq!(w.living(2), before);
+        assert_eq!(lock.as_mut().poll(&mut context), Poll::Ready(Ok(Mode::S)));
+    }
     second.commit().unwrap();
+    waiter.commit().unwrap();
+}
+
+/// The task of a list is woken at each end, and continues.
+#[test]
+fn a_task_makes_a_list() {
+    let w = World::new();
+    let (mut holder, mut session) = (w.begin(), w.begin());
+    let [first, second] = [w.records[0][0], w.records[1][0]];
+    let mut answers = Answers::new();
+    let list = [
+        Do::LockPath(first.into(), Mode::S),
+        Do::LockPathInstant(second.into(), Mode::X),
+        Do::LockPath(w.files[2].into(), Mode::IX),
+    ];
+    holder.lock_path(first, Mode::X).unwrap();
+    holder.lock_path(second, Mode::S).unwrap();
+    let waker = quiet();
+    let mut context = Context::from_waker(&waker);
+    {
+        let mut run = pin!(session.run_to_end_async(&list, &mut answers));
+        assert!(run.as_mut().poll(&mut context).is_pending());
+        holder.unlock(first).unwrap();
+        assert!(run.as_mut().poll(&mut context).is_pending());
+    }
+    assert_eq!(*answers, [Done::Locked(Mode::S)]); // The future was dropped, and its wait was cancelled.
+    let halt = session.resume(&list, &mut answers);
+    assert!(matches!(halt, Err(Halt::Waiting(wait)) if wait.node == second));
+    {
+        let mut rest = pin!(session.resume_to_end_async(&list, &mut answers));
+        assert!(rest.as_mut().poll(&mut context).is_pending());
+        holder.commit().unwrap();
+        assert_eq!(rest.as_mut().poll(&mut context), Poll::Ready(Ok(())));
+    }
+    assert_eq!(answers.len(), 3);
+    assert_eq!(session.held(second), Ok(Mode::NL));
+    session.commit().unwrap();
+}
+
+/// A task that awaits the end of a list's lock leaks its future: the lock waits on, and nobody else can await it.
+#[test]
+fn a_future_of_a_list_is_leaked() {
+    let w = World::new();
+    let (mut holder, record) = (w.begin(), w.records[0][0]);
+    holder.lock_path(record, Mode::X).unwrap();
+    let list = [Do::LockPath(record.into(), Mode::S)];
+    let mut answers = Answers::new();
+    let mut session = w.begin();
+    assert!(session.run(&list, &mut answers).is_err());
+    let waker = quiet();
+    let mut context = Context::from_waker(&waker);
+    let mut leaked = Box::pin(session.await_lock_async(&mut answers));
+    assert!(leaked.as_mut().poll(&mut context).is_pending());
+    forget(leaked);
+    let mut again = Box::pin(session.await_lock_async(&mut answers));
+    let end = again.as_mut().poll(&mut context);
+    let waiting = Err(Stop::Refused(Refusal::TxnWaiting));
+    assert_eq!(end, Poll::Ready(waiting));
+    drop(again);
+    holder.commit().unwrap(); // It is told to the future that was leaked.
+    assert_eq!(session.resume(&list, &mut answers), Ok(()));
+    assert_eq!(*answers, [Done::Locked(Mode::S)]);
+    session.commit().unwrap();
 }

@@ -567,13 +567,6 @@ fn records_and_the_schema_change() {
         assert_eq!(c.lock_path(s.days, Mode::S), refused(Refusal::NoSuchNode));
         assert_eq!(c.lock_row_path(s.row(1), &[1], Mode::X), OWN);
         assert_eq!(c.held(index), Ok(Mode::IX));
-        offered(
-            c.move_node(s.files[0], &[s.base])
-                .or_else(|refusal| match refusal {
-                    Refusal::NeedExclusive => Ok(()),
-                    other => Err(other),
-                }),
-        );
     });
 }
 
@@ -745,7 +738,6 @@ fn a_wait_of_a_list_ends_otherwise() {
     });
 }
 
-/// A task runs a list: what parts do not offer is refused, and then a thread can await it.
 #[test]
 fn a_task_awaits_a_list() {
     each(|s| {
@@ -756,14 +748,10 @@ fn a_task_awaits_a_list() {
         let mut answers = Answers::new();
         {
             let mut run = pin!(session.run_to_end_async(&list, &mut answers));
-            let polled = poll(&mut run, &quiet());
+            assert_eq!(poll(&mut run, &quiet()), Poll::Pending);
             holder.commit().unwrap();
-            match polled {
-                Poll::Pending => assert_eq!(poll(&mut run, &quiet()), Poll::Ready(Ok(()))),
-                Poll::Ready(end) => assert_eq!(end, Err(Halt::from(Refusal::InParts))),
-            }
+            assert_eq!(poll(&mut run, &quiet()), Poll::Ready(Ok(())));
         }
-        assert_eq!(session.resume_to_end(&list, &mut answers), Ok(()));
         assert_eq!(*answers, [Done::Locked(Mode::S)]);
         session.commit().unwrap();
     });
@@ -909,13 +897,21 @@ fn a_deadlock_of_tasks() {
 fn begins_wait_for_a_slot() {
     for parts in [1, 4] {
         let s = &Store::with(parts, 1);
-        let only = s.begin();
+        let mut only = s.table.begin().unwrap();
         assert_eq!(s.table.begin().err(), Some(Refusal::TooManyTxns));
         let late = s.table.begin_timeout(MILLISECOND).map(drop);
         assert_eq!(late, Err(Stop::TimedOut));
-        let polled = poll(&mut pin!(s.table.begin_async()), &quiet());
-        if let Poll::Ready(answer) = polled {
-            assert!(offered(answer).is_none());
+        assert!(poll(&mut pin!(s.table.begin_async()), &quiet()).is_pending()); // It is taken back.
+        let (bell, waker) = tasks::Bell::that(|| ());
+        {
+            let mut begin = pin!(s.table.begin_async());
+            assert!(poll(&mut begin, &waker).is_pending());
+            only.commit().unwrap();
+            assert_eq!(bell.rung(), 1);
+            let Poll::Ready(begun) = poll(&mut begin, &waker) else {
+                panic!("it is its turn");
+            };
+            only = begun.unwrap();
         }
         thread::scope(|scope| {
             let begins = [(); 3].map(|()| {
@@ -1019,7 +1015,6 @@ fn a_name_of_another_table() {
 fn a_waker_calls_the_table() {
     each(|s| {
         let (table, base, record) = (Arc::clone(&s.table), s.base, s.records[0][0]);
-        let has_parts = s.has_parts();
         let mut session = s.begin();
         in_a_waker(s, move || {
             let in_use = refused(Refusal::InUse);
@@ -1032,15 +1027,10 @@ fn a_waker_calls_the_table() {
             assert_eq!(session.held(base), Ok(Mode::IX));
             let mut answers = Answers::new();
             let list = [Do::LockPath(record.into(), Mode::X)];
-            let run = session.run(&list, &mut answers);
-            assert_eq!(
-                run,
-                if has_parts {
-                    Err(Refusal::InUse.into())
-                } else {
-                    Ok(())
-                }
-            );
+            assert_eq!(session.run(&list, &mut answers), Ok(()));
+            let nothing = session.await_lock(&mut answers);
+            assert_eq!(nothing, refused(Refusal::NotWaiting));
+            table.run(&[], &mut answers).unwrap().unwrap();
             table.begin().unwrap().commit().unwrap();
             session.commit().unwrap();
         });
@@ -1060,6 +1050,32 @@ fn a_session_is_dropped_in_a_waker() {
         in_a_waker(s, move || drop(session));
         holder.commit().unwrap();
         assert_eq!(s.begin().lock_path(record, Mode::X), Ok(Mode::X));
+    });
+}
+
+/// The same while a lock waits that a list has left.
+#[test]
+fn a_session_whose_list_waits_is_dropped_in_a_waker() {
+    each(|s| {
+        let record = s.records[0][0];
+        let mut holder = s.begin();
+        holder.lock_path(record, Mode::X).unwrap();
+        let table = Arc::clone(&s.table);
+        let before = s.living();
+        in_a_waker(s, move || {
+            let mut answers = Answers::new();
+            let list = [Do::LockPath(record.into(), Mode::S)];
+            let mut session = table.begin_shared().unwrap();
+            let halt = session.run(&list, &mut answers);
+            assert!(matches!(halt, Err(Halt::Waiting(_))));
+            let awaited = session.await_lock(&mut answers);
+            assert_eq!(awaited, refused(Refusal::InUse));
+            drop(session);
+            let ran = table.run_shared(&list, &mut answers).unwrap();
+            drop(ran.unwrap_err());
+        });
+        assert_eq!(s.living(), before);
+        holder.commit().unwrap();
     });
 }
 
@@ -1160,27 +1176,43 @@ fn what_there_is_to_see() {
     });
 }
 
-/// What only a table of one part has is refused by name, until parts have it too.
+/// What only a table of one part has is refused by name.
 #[test]
 fn what_parts_may_not_offer() {
     each(|s| {
-        let session = s.begin();
+        let mut session = s.begin();
         let all = [
-            offered(s.table.settle(session.txn())).map(drop),
             offered(s.table.watch()).map(drop),
-            offered(s.table.awaited()).map(drop),
-            offered(s.table.restart_awaited()).map(drop),
-            offered(s.table.metrics()).map(drop),
             offered(s.table.on_long_wait(MILLISECOND, |_| ())),
             offered(s.table.forget_long_waits()),
         ];
         assert!(s.has_parts() || all.iter().all(Option::is_some));
-        let written = s.table.write_metrics(std::io::sink());
-        assert!(written.is_ok() || written.unwrap_err().to_string() == "InParts");
+        session.lock_path(s.files[0], Mode::X).unwrap();
+        let moved = offered(session.move_node(s.files[0], &[s.base]));
+        assert!(s.has_parts() || moved.is_some());
         let traced = s.table.trace(std::fs::File::open("/dev/null").unwrap());
         assert!(matches!(traced, Err(Refusal::TooLate | Refusal::InParts)));
         let ended = s.table.end_trace();
         assert!(matches!(ended, Err(Refusal::NoTrace | Refusal::InParts)));
+    });
+}
+
+/// Waits by their nodes, metrics, and deadlocks that are settled.
+#[test]
+fn what_operators_ask() {
+    each(|s| {
+        let (mut holder, mut session) = (s.begin(), s.begin());
+        holder.lock_path(s.records[1][0], Mode::X).unwrap();
+        let end = session.lock_path_timeout(s.records[1][0], Mode::S, MILLISECOND);
+        assert_eq!(end, Err(Stop::TimedOut));
+        let awaited = s.table.restart_awaited().unwrap();
+        assert_eq!(awaited.nodes[0].node, s.records[1][0]);
+        assert!(s.table.awaited().unwrap().nodes.is_empty());
+        let text = s.table.metrics().unwrap();
+        assert!(text.contains("wait_seconds_count{end=\"timed_out\"} 1\n"));
+        assert!(s.table.write_metrics(std::io::sink()).is_ok());
+        assert_eq!(s.table.settle(session.txn()), Ok(0));
+        assert_eq!(s.table.settle(Txn::NONE), Err(Refusal::NoSuchTxn));
     });
 }
 

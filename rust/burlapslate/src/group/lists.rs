@@ -5,13 +5,13 @@ use crate::answers::Answers;
 use crate::list::{Do, Halt};
 use crate::refusal::Refusal;
 use crate::session::{ended, try_first, RowLocked, Stop, Taken, Try};
-use crate::sys::awaited::{Asks, Resumes};
+use crate::sys::awaited::Resumes;
 use crate::table::Sought;
 
 /// # Lists
 ///
 /// Several commands by one call, as those of a [`Session`](crate::Session) and for engines that have these; but in a group
-/// each command is a critical section of its own. They are for threads.
+/// each command is a critical section of its own.
 impl GroupSession<'_> {
     /// Makes the commands of a list in order, up to the first that is not done, as
     /// [`Session::run`](crate::Session::run). The call never sleeps. A lock that must wait stops the list, and goes on by
@@ -24,8 +24,8 @@ impl GroupSession<'_> {
     /// one of all parts, and takes memory. There is no [`Do::MoveNode`]: it is refused with
     /// [`BadNumber`](Refusal::BadNumber).
     ///
-    /// Each command is refused as its call. The list is refused with [`InUse`](Refusal::InUse) in a waker, and with
-    /// [`NoMemory`](Refusal::NoMemory) if there is none for it.
+    /// Each command is refused as its call. The list is refused with [`NoMemory`](Refusal::NoMemory) if there is none for
+    /// it.
     ///
     /// ```
     /// # use burlapslate::{Answers, Do, Done, Group, Halt, Mode, Stop};
@@ -53,9 +53,6 @@ impl GroupSession<'_> {
     /// As [`run`](GroupSession::run), but from the first command on that has no answer, as
     /// [`Session::resume`](crate::Session::resume). If its lock waits, await that first.
     pub fn resume(&mut self, list: &[Do<'_>], answers: &mut Answers) -> Result<(), Halt> {
-        if !self.transaction.may_sleep() {
-            return Err(Refusal::InUse.into());
-        }
         let txn = self.txn();
         answers.resume(txn);
         let rest = answers.rest(list, 0)?;

@@ -90,7 +90,6 @@ impl<'t> Session<'t> {
     /// waits, the list stops there again; and a lock for an instant that was granted meanwhile is requested anew. If
     /// the answers are those of another transaction, as of one that was a victim, the list begins anew.
     pub fn resume(&mut self, list: &[Do<'_>], answers: &mut Answers) -> Result<(), Halt> {
-        self.own.table.may_run()?;
         answers.resume(self.own.txn);
         let rest = answers.rest(list, 0)?;
         let calling = self.call(); // So the panic of a waker finds the answers noted.
@@ -230,7 +229,6 @@ impl<'t> Session<'t> {
     }
 
     fn make_and_commit(&mut self, list: &[Do<'_>], answers: &mut Answers) -> Result<(), Halt> {
-        self.own.table.may_run()?;
         answers.begin(self.own.txn);
         let rest = answers.rest(list, 1)?;
         let calling = self.own.table.call();
@@ -249,7 +247,6 @@ impl<'t> Session<'t> {
         list: &[Do<'_>],
         answers: &mut Answers,
     ) -> Result<Kept, Halt> {
-        self.own.table.may_run()?;
         answers.begin(self.own.txn);
         let rest = answers.rest(list, 2)?;
         let mut kept = self.keeping(most);
@@ -276,7 +273,6 @@ pub(crate) fn run_whole<'t>(
     list: &[Do<'_>],
     answers: &mut Answers,
 ) -> Result<Result<(), Unfinished<'t>>, Refusal> {
-    table.may_run()?;
     answers.begin(Txn::NONE);
     let rest = answers.rest(list, 1)?;
     kept.txn = Txn::NONE;

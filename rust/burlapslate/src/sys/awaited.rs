@@ -12,6 +12,7 @@
 use super::begun::{self, Begins};
 use super::shared::{Shared, Until};
 use super::{boxed, numbers, Reply, DONE, NO_MANAGER, NO_SUCH_NODE, TXN_WAITING, WAITING};
+use crate::mode::Mode;
 use crate::names::{Node, Row, Txn};
 use crate::refusal::Refusal;
 use crate::session::{ended, Ended, Stop};
@@ -140,11 +141,11 @@ impl Waits {
 
     /// The number of a new wait. If the slot's last wait still has a waker, its transaction has ended, and the end is not
     /// told yet: then that task is woken here, since its end finds another number.
-    fn begin(&self, txn: Txn, waker: Waker) -> usize {
+    fn begin(&self, txn: Txn, waker: Option<Waker>) -> usize {
         let mut wait = self.of(txn);
         wait.number = wait.number.wrapping_add(2);
         wait.state = State::Waits;
-        let before = wait.waker.replace(waker);
+        let before = replace(&mut wait.waker, waker);
         let number = wait.number;
         drop(wait);
         before.into_iter().for_each(wake);
@@ -287,7 +288,7 @@ pub(crate) trait Asks {
                 return (Poll::Ready(Err(stop)), last);
             }
         }
-        let number = self.waits().begin(txn, waker.clone());
+        let number = self.waits().begin(txn, Some(waker.clone()));
         *self.asked() = number;
         let reply = self.request(sought, until, number);
         (self.waits().answered(txn, number, &reply), number)
@@ -333,10 +334,20 @@ pub(crate) trait Asks {
             return reply;
         }
         let last = *self.asked();
-        if self.waits().leave(self.name(), last) {
+        if self.waits().leave(self.name(), last) || self.leave_list() {
             return Reply::with_status(DONE);
         }
         self.abort_now() // By now another thread has told it.
+    }
+
+    /// Leaves it to the call of the callback with the end of a lock that a list has left waiting. False if there is none.
+    fn leave_list(&mut self) -> bool {
+        let txn = self.name();
+        let number = self.waits().begin(txn, None);
+        *self.asked() = number;
+        self.waits().leave(txn, number); // Another thread may tell the end as soon as it is asked for.
+        let left = Sought::Left(Node::NONE, Mode::NL as u32);
+        self.request(left, None, number).status == WAITING
     }
 }
 
