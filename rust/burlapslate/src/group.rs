@@ -315,17 +315,17 @@ impl Group {
         GroupSession::begin_timeout(Handle::Lent(self), time)
     }
 
-    /// As [`begin_in_turn`](Group::begin_in_turn), for a task, as [`Table::begin_async`](crate::Table::begin_async): if all
-    /// slots are taken, it waits in the same queue as the threads that sleep, and no thread sleeps for it.
+    /// As [`begin_in_turn`](Group::begin_in_turn), for a task, as [`Table::begin_async`](crate::Table::begin_async): if
+    /// all slots are taken, it waits in the same queue as the threads that sleep, and no thread sleeps for it.
     ///
-    /// Refused with [`InUse`](Refusal::InUse) while the thread holds a table, and with [`NoMemory`](Refusal::NoMemory) if it
-    /// has to wait; never with [`TooManyTxns`](Refusal::TooManyTxns).
+    /// Refused with [`InUse`](Refusal::InUse) while the thread holds a table, and with [`NoMemory`](Refusal::NoMemory)
+    /// if it has to wait; never with [`TooManyTxns`](Refusal::TooManyTxns).
     pub async fn begin_async(&self) -> Result<GroupSession<'_>, Refusal> {
         self.begin_again_async(u64::MAX).await
     }
 
-    /// As [`begin_async`](Group::begin_async), for work that an earlier transaction began. It gives no earlier place in the
-    /// queue.
+    /// As [`begin_async`](Group::begin_async), for work that an earlier transaction began. It gives no earlier place in
+    /// the queue.
     pub async fn begin_again_async(&self, since: u64) -> Result<GroupSession<'_>, Refusal> {
         let begun = Beginning::new(&self.group, since).await;
         GroupSession::begun(Handle::Lent(self), begun)
@@ -444,8 +444,8 @@ impl Group {
         done(self.group.cancel(txn))
     }
 
-    /// Ends all deadlocks over several tables, that of this transaction among them. Those within one table have been ended
-    /// as they arose. Costs the latches of all tables.
+    /// Ends all deadlocks over several tables, that of this transaction among them. Those within one table have been
+    /// ended as they arose. Costs the latches of all tables.
     ///
     /// Refused with [`NoSuchTxn`](Refusal::NoSuchTxn).
     pub fn settle(&self, txn: Txn) -> Result<(), Refusal> {
@@ -563,8 +563,8 @@ impl Group {
         Ok(asked.and_then(|node| self.name_of(node, table).ok()))
     }
 
-    /// What each of its tables has, each of its own moment, as text in columns, by their numbers; refused while the thread
-    /// holds a table.
+    /// What each of its tables has, each of its own moment, as text in columns, by their numbers; refused while the
+    /// thread holds a table.
     pub(crate) fn dump(&self) -> Result<String, Refusal> {
         let mut text = String::new();
         for table in 0..=self.parts() {
@@ -640,8 +640,8 @@ impl fmt::Debug for GroupMark {
 /// ([`lock_path_async`](GroupSession::lock_path_async)). A session that is dropped without a commit is aborted, so that its
 /// locks never outlive it: undo what it wrote first. Within a closure of [`Group::with_table`] or
 /// [`Table::with`](crate::Table::with) it cannot be aborted: a drop panics there. If it is dropped in a waker while it
-/// waits by a list or a leaked future, whose end is told after the waker, it is aborted then. It borrows its group, or is one
-/// of its owners ([`Group::begin_shared`]).
+/// waits by a list or a leaked future, whose end is told after the waker, it is aborted then. It borrows its group, or
+/// is one of its owners ([`Group::begin_shared`]).
 ///
 /// ```
 /// use burlapslate::{Group, Mode};

@@ -30,11 +30,12 @@
 //! granted, and which is aborted if it is dropped without a commit. One call locks a node or a row with all that
 //! must be held above it ([`Session::lock_path`], [`Session::lock_row_path`]). If there are more threads than slots
 //! they [begin in turn](Table::begin_in_turn). A thread keeps its intentions from one transaction to the next
-//! ([`Session::rest`]). If threads wait for each other's calls, make the table with several parts, which have a latch each
-//! ([`Options::parts`]). Such a table is a [`Group`] of tables that work as one. A task of a runtime awaits its begin and its locks, and no thread sleeps
-//! ([`Table::begin_async`], [`Session::lock_async`], [`GroupSession::lock_path_async`]). A [`Watcher`] reads who waits for whom without the mutex. A
-//! table says how long waits last and where ([`Table::waits`], [`Table::awaited`], [`Table::metrics`]), and tells of
-//! long ones ([`Table::on_long_wait`]). What it does can be written as a script ([`Table::trace`]).
+//! ([`Session::rest`]). If threads wait for each other's calls, make the table with several parts, which have a latch
+//! each ([`Options::parts`]). Such a table is a [`Group`] of tables that work as one. A task of a runtime awaits its
+//! begin and its locks, and no thread sleeps ([`Table::begin_async`], [`Session::lock_async`],
+//! [`GroupSession::lock_path_async`]). A [`Watcher`] reads who waits for whom without the mutex. A table says how long
+//! waits last and where ([`Table::waits`], [`Table::awaited`], [`Table::metrics`]), and tells of long ones
+//! ([`Table::on_long_wait`]). What it does can be written as a script ([`Table::trace`]).
 //!
 //! ```
 //! use burlapslate::{Detect, Mode, Node, Stop, Table, SLOTS};
@@ -81,9 +82,10 @@
 //! [`delete`](Manager::delete), [`rekey`](Manager::rekey), [`escalate`](Manager::escalate), of nodes and of rows. The
 //! others are refused with [`Refusal::NoMemory`] if the allocator refuses, and can be made again. Beside the library's
 //! memory a manager takes 40 bytes for each slot when it is made, for the notices, and a table or a group 56, for the waits
-//! of futures, and a table with parts 8 more; and none afterwards. But a list of tries takes some for the list, [`Answers`] for a list of commands that
-//! is longer than those before it, a begin of a future that waits for itself, a function of [`Table::on_long_wait`]
-//! for itself and its thread, and a try of a path that keeps nothing for the nodes that it acquires.
+//! of futures, and a table with parts 8 more; and none afterwards. But a list of tries takes some for the list,
+//! [`Answers`] for a list of commands that is longer than those before it, a begin of a future that waits for itself, a
+//! function of [`Table::on_long_wait`] for itself and its thread, and a try of a path that keeps nothing for the nodes
+//! that it acquires.
 //!
 //! With 1,024 slots, making a manager takes three megabytes of stack, and reading a board 0.7: more than a thread has
 //! by default ([`std::thread::Builder::stack_size`]).

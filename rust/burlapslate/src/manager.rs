@@ -209,8 +209,8 @@ impl Options {
     }
 
     /// For a [`Table`](crate::Table) with so many parts, 1 to [`MOST_PARTS`], each with a latch of its own. With more
-    /// than one, the number of nodes is that of each part. A [`Manager`] has one part. A [`Group`](crate::Group) is told
-    /// how many it has when it is made, and does not look at this.
+    /// than one, the number of nodes is that of each part. A [`Manager`] has one part. A [`Group`](crate::Group) is
+    /// told how many it has when it is made, and does not look at this.
     ///
     /// ```
     /// use burlapslate::{Detect, Mode, Options, Stop, Table};

@@ -274,8 +274,9 @@ pub(crate) fn try_first(
 
 /// A transaction of a [`Table`], which one thread drives. A lock call sleeps until the lock is granted.
 /// A session that is dropped without a commit is aborted, so that its locks never outlive it: undo what
-/// it wrote first. Within the closure of [`Table::with`] it cannot be aborted: a drop panics there, and, if its table has
-/// parts, while the thread holds any table. It borrows its table, or is one of its owners ([`Table::begin_shared`]).
+/// it wrote first. Within the closure of [`Table::with`] it cannot be aborted: a drop panics there, and, if its table
+/// has parts, while the thread holds any table. It borrows its table, or is one of its owners
+/// ([`Table::begin_shared`]).
 ///
 /// ```
 /// use burlapslate::{Detect, Mode, Table, SLOTS};
@@ -350,8 +351,8 @@ impl<'t> Session<'t> {
         }
     }
 
-    /// The name of its transaction, by which other threads may abort, cancel or settle it; with parts they may cancel its
-    /// waits.
+    /// The name of its transaction, by which other threads may abort, cancel or settle it; with parts they may cancel
+    /// its waits.
     pub fn txn(&self) -> Txn {
         self.own.txn
     }

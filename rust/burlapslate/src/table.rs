@@ -52,19 +52,19 @@ pub use running::{Awaited, AwaitedNode, Blocker, Histogram, LongWait, Told, Wait
 ///
 /// # Parts
 ///
-/// By [`Options::parts`] a table has several parts, with a latch each, and so serves many cores. Its calls are those of the
-/// [`Group`] that [`group`](Table::group) lends, and that has the rules: what is locked where, and how
+/// By [`Options::parts`] a table has several parts, with a latch each, and so serves many cores. Its calls are those of
+/// the [`Group`] that [`group`](Table::group) lends, and that has the rules: what is locked where, and how
 /// deadlocks over several parts are detected. These differ from a table of one part:
 ///
-///   - [`Session::lock`], [`try_lock`](Session::try_lock), those of rows and for tasks, and [`Session::insert`] also lock
-///     what must be held above. An insert and a new index acquire what they lack by tries, and are refused with
+///   - [`Session::lock`], [`try_lock`](Session::try_lock), those of rows and for tasks, and [`Session::insert`] also
+///     lock what must be held above. An insert and a new index acquire what they lack by tries, and are refused with
 ///     [`WouldBlock`](Refusal::WouldBlock) if that cannot be granted at once.
 ///   - An intention on an inner node is no precondition. [`Session::held`] says what a transaction holds in all parts.
 ///   - Each command of a list is a critical section of its own. A lock that a list left waiting goes on by itself.
-///   - [`Session::mark`] takes memory, and [`release_since`](Session::release_since) keeps what the transaction has in the
-///     main table.
-///   - After a [`Session::rest`] each commit keeps intentions, as by [`Group::keep`] with at least its `most`, and so does
-///     [`Session::renew`], which keeps nothing else.
+///   - [`Session::mark`] takes memory, and [`release_since`](Session::release_since) keeps what the transaction has in
+///     the main table.
+///   - After a [`Session::rest`] each commit keeps intentions, as by [`Group::keep`] with at least its `most`, and so
+///     does [`Session::renew`], which keeps nothing else.
 ///   - [`Table::commit`] and [`Table::abort`] end a transaction that its session has left ([`Session::leave`]). The
 ///     transaction of a session ends by that session alone: these calls are refused with [`InParts`](Refusal::InParts).
 ///   - Each call is refused with [`InUse`](Refusal::InUse) while the thread holds any table.
@@ -357,8 +357,8 @@ impl Table {
     }
 
     /// Ends a transaction whatever it is doing, from any thread, and lets its rows go. A thread or task that
-    /// waits for it is woken and answered [`Refusal::NoSuchTxn`]. If the table has parts, it must be one that its session
-    /// has left ([`Session::leave`]), and in a waker it must not wait.
+    /// waits for it is woken and answered [`Refusal::NoSuchTxn`]. If the table has parts, it must be one that its
+    /// session has left ([`Session::leave`]), and in a waker it must not wait.
     ///
     /// Refused as [`Manager::abort`]; with parts also with [`InParts`](Refusal::InParts) if a session has the
     /// transaction, and with [`TxnWaiting`](Refusal::TxnWaiting) in a waker.
@@ -384,8 +384,8 @@ impl Table {
         done(shared::bs_table_cancel(&self.call(), txn, None))
     }
 
-    /// Condemns victims until a transaction is on no cycle of waits, and wakes them; how many. If the table has parts, it
-    /// ends all deadlocks over several of them, and answers 0: how many victims there were is not told.
+    /// Condemns victims until a transaction is on no cycle of waits, and wakes them; how many. If the table has parts,
+    /// it ends all deadlocks over several of them, and answers 0: how many victims there were is not told.
     ///
     /// Refused as [`Manager::settle`].
     pub fn settle(&self, txn: Txn) -> Result<usize, Refusal> {
@@ -415,8 +415,8 @@ impl Table {
     ///
     /// # Panics
     ///
-    /// Within the closure of another such call of this table, and if the table has parts, which have a manager each: ask
-    /// those by [`Group::with_table`](crate::Group::with_table) of its [`group`](Table::group).
+    /// Within the closure of another such call of this table, and if the table has parts, which have a manager each:
+    /// ask those by [`Group::with_table`](crate::Group::with_table) of its [`group`](Table::group).
     /// [`try_with`](Table::try_with) is refused in place of that.
     pub fn with<T>(&self, ask: impl FnOnce(&Manager) -> T) -> T {
         match self.try_with(ask) {
@@ -451,8 +451,9 @@ impl Table {
         1
     }
 
-    /// The group that a table with parts is; `None` if it has one part. It has the calls that a table has not, as those that
-    /// make a file in a part or a spread file, and questions of one part. A transaction that it begins is one of the table.
+    /// The group that a table with parts is; `None` if it has one part. It has the calls that a table has not, as those
+    /// that make a file in a part or a spread file, and questions of one part. A transaction that it begins is one of
+    /// the table.
     ///
     /// ```
     /// # use burlapslate::{Detect, Mode, Options, Stop, Table};
@@ -482,8 +483,8 @@ impl Table {
         self.try_with(Manager::counters)
     }
 
-    /// All that there is, of one moment, as text in columns, with the waits by their length. With parts each of them, one
-    /// after the other: nodes and transactions have the names that they have there
+    /// All that there is, of one moment, as text in columns, with the waits by their length. With parts each of them,
+    /// one after the other: nodes and transactions have the names that they have there
     /// ([`Group::name_of`](crate::Group::name_of)).
     ///
     /// # Panics
@@ -558,8 +559,8 @@ impl Table {
         self.shared.shared()
     }
 
-    /// Refused with `InUse` if this thread may make no call of the table: one that names no transaction is refused so. With
-    /// parts a question of all of them acquires their latches by rising number, so the thread must hold none.
+    /// Refused with `InUse` if this thread may make no call of the table: one that names no transaction is refused so.
+    /// With parts a question of all of them acquires their latches by rising number, so the thread must hold none.
     fn asks_all(&self) -> Result<(), Refusal> {
         match self.cancel(Txn::NONE) {
             Err(Refusal::InUse) => Err(Refusal::InUse),

@@ -24,8 +24,8 @@ const FILES: usize = 4;
 const MILLISECOND: Duration = Duration::from_millis(1);
 const OWN: Result<RowLocked, Stop> = Ok(RowLocked::Own(Mode::X));
 
-/// A data base with files, by turns in each part, each with an index of two intervals, parted at 100, and a record in each
-/// of them; and a file of rows with such an index.
+/// A data base with files, by turns in each part, each with an index of two intervals, parted at 100, and a record in
+/// each of them; and a file of rows with such an index.
 struct Store {
     table: Arc<Table>,
     base: Node,
@@ -99,8 +99,8 @@ impl Store {
         await_that(|| self.table.waited(txn).is_ok());
     }
 
-    /// Has a session request something in a thread of its own, and come to sleep; then this is done, and this is how the
-    /// request ends.
+    /// Has a session request something in a thread of its own, and come to sleep; then this is done, and this is how
+    /// the request ends.
     fn woken_by<T: Send>(
         &self,
         mut session: Session<'_>,
@@ -255,8 +255,8 @@ fn a_table_with_parts_lends_no_manager() {
     });
 }
 
-/// A thread that holds any table is refused by one with parts, also by what could otherwise wait for a latch in the wrong
-/// order.
+/// A thread that holds any table is refused by one with parts, also by what could otherwise wait for a latch in the
+/// wrong order.
 #[test]
 fn who_holds_a_table_is_refused() {
     let (s, other) = (Store::of(4), Store::of(1));
@@ -1037,7 +1037,8 @@ fn a_waker_calls_the_table() {
     });
 }
 
-/// A session is dropped in a waker, while the end of its leaked future is to be told by this thread: it is aborted then.
+/// A session is dropped in a waker, while the end of its leaked future is to be told by this thread: it is aborted
+/// then.
 #[test]
 fn a_session_is_dropped_in_a_waker() {
     each(|s| {

@@ -24,8 +24,8 @@ impl GroupSession<'_> {
     /// one of all parts, and takes memory. There is no [`Do::MoveNode`]: it is refused with
     /// [`BadNumber`](Refusal::BadNumber).
     ///
-    /// Each command is refused as its call. The list is refused with [`NoMemory`](Refusal::NoMemory) if there is none for
-    /// it.
+    /// Each command is refused as its call. The list is refused with [`NoMemory`](Refusal::NoMemory) if there is none
+    /// for it.
     ///
     /// ```
     /// # use burlapslate::{Answers, Do, Done, Group, Halt, Mode, Stop};
@@ -73,9 +73,9 @@ impl GroupSession<'_> {
         answers.has_come_to(end.map(RowLocked::mode))
     }
 
-    /// As [`await_lock`](GroupSession::await_lock), for a task, as [`lock_path_async`](GroupSession::lock_path_async). If the
-    /// future is dropped while the lock waits, the wait is cancelled, and [`resume`](GroupSession::resume) requests the lock
-    /// again.
+    /// As [`await_lock`](GroupSession::await_lock), for a task, as [`lock_path_async`](GroupSession::lock_path_async).
+    /// If the future is dropped while the lock waits, the wait is cancelled, and [`resume`](GroupSession::resume)
+    /// requests the lock again.
     pub async fn await_lock_async(&mut self, answers: &mut Answers) -> Result<(), Stop> {
         let wait = answers.wait(self.txn()).ok_or(Refusal::NotWaiting)?;
         let end = self.locking(Sought::left(wait)).await;
@@ -103,8 +103,8 @@ impl GroupSession<'_> {
         }
     }
 
-    /// As [`run_to_end`](GroupSession::run_to_end), for a task, as [`lock_path_async`](GroupSession::lock_path_async). A
-    /// future that is dropped cancels its wait, and leaves what the list has done by then.
+    /// As [`run_to_end`](GroupSession::run_to_end), for a task, as [`lock_path_async`](GroupSession::lock_path_async).
+    /// A future that is dropped cancels its wait, and leaves what the list has done by then.
     pub async fn run_to_end_async(
         &mut self,
         list: &[Do<'_>],

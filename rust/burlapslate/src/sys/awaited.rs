@@ -5,9 +5,10 @@
 //! a wait, and the word of an ask is an even number: by that a late end, of an ask that nobody awaits any more, is told
 //! from the next one's, and from that of a [`begun`].
 //!
-//! Over several parts a transaction waits until the callback was called with the end of its ask. So a thread that cancels
-//! one sleeps until another thread has told its end, if one has to. In a callback no call may sleep, since its thread may be
-//! the one which has to: there a transaction that is to be aborted is left to the call of the callback with its end.
+//! Over several parts a transaction waits until the callback was called with the end of its ask. So a thread that
+//! cancels one sleeps until another thread has told its end, if one has to. In a callback no call may sleep, since its
+//! thread may be the one which has to: there a transaction that is to be aborted is left to the call of the callback
+//! with its end.
 
 use super::begun::{self, Begins};
 use super::shared::{Shared, Until};
@@ -279,8 +280,8 @@ pub(crate) trait Asks {
     /// Whether this thread may sleep in a call.
     fn may_sleep(&self) -> bool;
 
-    /// Makes an ask whose end wakes this waker if it waits; answers its number too. It is a call of its caller. If the last
-    /// one still waits, since its future was leaked, that keeps its place.
+    /// Makes an ask whose end wakes this waker if it waits; answers its number too. It is a call of its caller. If the
+    /// last one still waits, since its future was leaked, that keeps its place.
     fn ask(&mut self, sought: Sought<'_>, until: Until<'_>, waker: &Waker) -> (Poll<Ended>, usize) {
         let (txn, last) = (self.name(), *self.asked());
         if self.waits().is_untold(txn, last) {
@@ -309,15 +310,16 @@ pub(crate) trait Asks {
         self.waits().poll(self.name(), number, waker)
     }
 
-    /// Cancels the wait of an ask, which wakes nobody until the next poll. False if the transaction did not wait any more.
-    /// Otherwise the end of the wait was told, or will be. Over several parts it may be another one than that of a cancel.
+    /// Cancels the wait of an ask, which wakes nobody until the next poll. False if the transaction did not wait any
+    /// more. Otherwise the end of the wait was told, or will be. Over several parts it may be another one than that of
+    /// a cancel.
     fn cancels(&mut self, number: usize) -> bool {
         let waits = self.waits().forget_waker(self.name(), number);
         waits && self.cancel().status == DONE
     }
 
-    /// Cancels the wait of an ask, whose end no task awaits, and sleeps while another thread tells that; if this thread may
-    /// not sleep, the end is told later.
+    /// Cancels the wait of an ask, whose end no task awaits, and sleeps while another thread tells that; if this thread
+    /// may not sleep, the end is told later.
     fn forget(&mut self, number: usize) {
         while self.cancels(number)
             && self.waits().is_untold(self.name(), number)
@@ -340,7 +342,8 @@ pub(crate) trait Asks {
         self.abort_now() // By now another thread has told it.
     }
 
-    /// Leaves it to the call of the callback with the end of a lock that a list has left waiting. False if there is none.
+    /// Leaves it to the call of the callback with the end of a lock that a list has left waiting. False if there is
+    /// none.
     fn leave_list(&mut self) -> bool {
         let txn = self.name();
         let number = self.waits().begin(txn, None);

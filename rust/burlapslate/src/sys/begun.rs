@@ -1,4 +1,5 @@
-//! Begins of futures that wait for a slot, and their ends, as `include/burlapslate_session.h` declares the calls of a table.
+//! Begins of futures that wait for a slot, and their ends, as `include/burlapslate_session.h` declares the calls of a
+//! table.
 //!
 //! Task and callback share what such a begin has come to. Its address is the word of the ask, with the lowest bit set: so
 //! it is told from the ask of a lock, whose word is an even number.

@@ -5,12 +5,12 @@
 //! Any thread may make any call with a table, so these take it by `&`. A [`Table`] is freed when its owner drops it, and
 //! no thread is in a call then, because each call borrows it.
 //!
-//! If a table has parts, the calls of one transaction come from one thread at a time, as in a group. A session makes them
-//! by `&mut`, so it is in one of them at most, and nobody else makes any, except by the transaction's name: a cancel, which
-//! any thread may make; a question for how long it has waited; and a commit or an abort, of a transaction that its session
-//! has left, by the one thread that takes it from [`Left`]. The calls that a name does not fit are refused, whatever table
-//! it is of. While a transaction waits by an ask, which may be leaked, the library refuses its calls before it uses anything
-//! of it.
+//! If a table has parts, the calls of one transaction come from one thread at a time, as in a group. A session makes
+//! them by `&mut`, so it is in one of them at most, and nobody else makes any, except by the transaction's name: a
+//! cancel, which any thread may make; a question for how long it has waited; and a commit or an abort, of a transaction
+//! that its session has left, by the one thread that takes it from [`Left`]. The calls that a name does not fit are
+//! refused, whatever table it is of. While a transaction waits by an ask, which may be leaked, the library refuses its
+//! calls before it uses anything of it.
 
 use super::awaited::{self, Ends, Resumes, Waits};
 use super::begun::{Begins, BeginsAtOnce};
@@ -351,8 +351,8 @@ impl<T> Deref for Calling<'_, T> {
     }
 }
 
-/// The transactions of a table with parts that their sessions have left, by slot: the age, or 0 if there is none. The thread
-/// that takes one has it alone.
+/// The transactions of a table with parts that their sessions have left, by slot: the age, or 0 if there is none. The
+/// thread that takes one has it alone.
 struct Left([AtomicU64; SLOTS]);
 
 impl Left {
@@ -442,8 +442,8 @@ impl Table {
         }
     }
 
-    /// Commits or aborts a transaction by its name. With parts it must be one that a session has left: the calls of another
-    /// are its session's.
+    /// Commits or aborts a transaction by its name. With parts it must be one that a session has left: the calls of
+    /// another are its session's.
     pub(crate) fn end(&self, txn: Txn, call: EndsIt) -> Result<(), Refusal> {
         let calling = self.call();
         let Some(left) = &self.left else {

@@ -220,7 +220,8 @@ impl Table {
     /// its grant, may make this call by a timer of its own; most have a timeout of their own, which drops the
     /// future.
     ///
-    /// If the table has parts, the call also ends deadlocks over several of them, as [`Group::expire`](crate::Group::expire).
+    /// If the table has parts, the call also ends deadlocks over several of them, as
+    /// [`Group::expire`](crate::Group::expire).
     ///
     /// # Panics
     ///

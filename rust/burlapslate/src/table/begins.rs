@@ -8,8 +8,8 @@ use std::pin::Pin;
 use std::sync::Arc;
 use std::task::{Context, Poll, Waker};
 
-/// A begin of a table or a group that a task polls. If the future is dropped before its end, the begin is taken back, or
-/// ended.
+/// A begin of a table or a group that a task polls. If the future is dropped before its end, the begin is taken back,
+/// or ended.
 pub(crate) struct Beginning<'t, T> {
     of: &'t T,
     since: u64,

@@ -235,9 +235,9 @@ impl Table {
     }
 
     /// The nodes that were waited for longest, since the table was made or the last
-    /// [`restart_awaited`](Table::restart_awaited); with parts each of these is of its own moment. Waits that have not ended count up to now. The table counts 32 nodes.
-    /// While waits were for at most so many, all is exact; else an `error` is at most a 32nd of the whole, and a node with
-    /// more than a 32nd of the whole is counted.
+    /// [`restart_awaited`](Table::restart_awaited); with parts each of these is of its own moment. Waits that have not
+    /// ended count up to now. The table counts 32 nodes. While waits were for at most so many, all is exact; else an
+    /// `error` is at most a 32nd of the whole, and a node with more than a 32nd of the whole is counted.
     ///
     /// Refused with [`InUse`](Refusal::InUse).
     pub fn awaited(&self) -> Result<Awaited, Refusal> {
@@ -281,8 +281,8 @@ impl Table {
     /// If another thread drops the table, or gives another function, it awaits the function that is being called.
     ///
     /// Refused with [`InUse`](Refusal::InUse) while the thread holds any table and in a waker, with
-    /// [`BadNumber`](Refusal::BadNumber) if the time is zero, with [`NoMemory`](Refusal::NoMemory) also if no thread can
-    /// be started, and with [`InParts`](Refusal::InParts).
+    /// [`BadNumber`](Refusal::BadNumber) if the time is zero, with [`NoMemory`](Refusal::NoMemory) also if no thread
+    /// can be started, and with [`InParts`](Refusal::InParts).
     ///
     /// ```
     /// use burlapslate::{Detect, Mode, Stop, Table, Told, SLOTS};
@@ -324,8 +324,8 @@ impl Table {
         self.shared.listens(0, None)
     }
 
-    /// All counters and the histogram of waits as text in the form of OpenMetrics, all of one moment; with parts each of
-    /// these is of its own moment, and inner nodes count in each.
+    /// All counters and the histogram of waits as text in the form of OpenMetrics, all of one moment; with parts each
+    /// of these is of its own moment, and inner nodes count in each.
     ///
     /// Refused with [`InUse`](Refusal::InUse).
     pub fn metrics(&self) -> Result<String, Refusal> {
@@ -362,7 +362,8 @@ impl Table {
     ///
     /// Refused with [`InUse`](Refusal::InUse) also if the table has a trace, with [`TooLate`](Refusal::TooLate) if a
     /// transaction has begun in it or a record was made, with [`BadNumber`](Refusal::BadNumber) if the file cannot be written
-    /// to, with [`NoMemory`](Refusal::NoMemory) also if no thread can be started, and with [`InParts`](Refusal::InParts).
+    /// to, with [`NoMemory`](Refusal::NoMemory) also if no thread can be started, and with
+    /// [`InParts`](Refusal::InParts).
     pub fn trace(&self, file: impl AsFd) -> Result<(), Refusal> {
         let file = file.as_fd().as_raw_fd();
         accepted(running::bs_table_trace(&self.call(), file)).map(drop)
@@ -371,8 +372,8 @@ impl Table {
     /// Ends the trace, after all its lines are written. Answers how many lines were dropped. A table that is dropped ends its
     /// trace too.
     ///
-    /// Refused with [`InUse`](Refusal::InUse), [`NoTrace`](Refusal::NoTrace), [`InParts`](Refusal::InParts). [`NotWritten`](Refusal::NotWritten): the
-    /// trace has ended, but a write has failed.
+    /// Refused with [`InUse`](Refusal::InUse), [`NoTrace`](Refusal::NoTrace), [`InParts`](Refusal::InParts).
+    /// [`NotWritten`](Refusal::NotWritten): the trace has ended, but a write has failed.
     pub fn end_trace(&self) -> Result<u64, Refusal> {
         accepted(running::bs_table_trace_end(&self.call())).map(|reply| reply.count)
     }
