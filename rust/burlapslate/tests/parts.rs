@@ -932,6 +932,42 @@ fn begins_wait_for_a_slot() {
     }
 }
 
+/// Threads and tasks wait for slots, some in vain: in the end each slot is free.
+#[test]
+fn no_slot_is_lost() {
+    const SLOTS: usize = 3;
+    for parts in [1, 4] {
+        let s = &Store::with(parts, SLOTS);
+        let works = |place: usize| {
+            for round in 0..40 {
+                let mut session = match (place + round) % 3 {
+                    0 => s.table.begin_in_turn().unwrap(),
+                    1 => block_on(s.table.begin_async()).unwrap(),
+                    _ => {
+                        let mut begin = Box::pin(s.table.begin_again_async(round as u64));
+                        match poll(&mut begin.as_mut(), &quiet()) {
+                            Poll::Ready(begun) => begun.unwrap(),
+                            Poll::Pending if round % 2 == 0 => continue,
+                            Poll::Pending => block_on(begin).unwrap(),
+                        }
+                    }
+                };
+                let record = s.records[(place + round) % FILES][0];
+                session.lock_path(record, Mode::X).unwrap();
+                session.commit().unwrap();
+            }
+        };
+        thread::scope(|scope| {
+            for place in 0..8 {
+                scope.spawn(move || works(place));
+            }
+        });
+        let all = [(); SLOTS].map(|()| s.begin());
+        assert_eq!(s.table.begin().err(), Some(Refusal::TooManyTxns));
+        drop(all);
+    }
+}
+
 // ------------------------------------------------------------------------------------------------
 // Transactions without a session.
 
