@@ -8,8 +8,8 @@ mod tasks;
 mod world;
 
 use burlapslate::{
-    Answers, Detect, Do, Group, GroupSession, Keep, Mode, Node, Refusal, Row, RowLocked, Stop,
-    Table, Tried, Txn,
+    Answers, Detect, Do, Group, GroupSession, Keep, Mode, Node, Options, Refusal, Row, RowLocked,
+    Stop, Table, Tried, Txn,
 };
 use std::future::Future;
 use std::panic::{catch_unwind, AssertUnwindSafe};
@@ -1345,6 +1345,22 @@ fn a_begin_is_dropped_in_a_waker() {
     is_ready(w.group.begin_async()).unwrap().commit().unwrap();
 }
 
+/// A begin whose future is leaked ends with its group.
+#[test]
+fn a_leaked_begin_ends_with_its_group() {
+    let options = Options::new(Detect::AtBlock).transactions(1);
+    let group = Group::with_options(options, 2).unwrap();
+    let (bell, waker) = Bell::that(|| ());
+    let only = group.begin().unwrap();
+    let mut leaked = Box::pin(group.begin_async());
+    assert!(poll(&mut leaked.as_mut(), &waker).is_pending());
+    std::mem::forget(leaked);
+    std::mem::forget(only);
+    drop(waker);
+    drop(group);
+    assert_eq!(bell.rung(), 1);
+}
+
 /// Work that begins again in its turn counts as old as its first transaction.
 #[test]
 fn work_begins_again_in_turn() {
@@ -1426,7 +1442,13 @@ fn futures_are_sent() {
         Mode::X,
     )));
     assert_eq!(own, OWN);
-    let record = w.records[0][0];
+    let mut answers = Answers::new();
+    drop(is_send(session.await_lock_async(&mut answers)));
+    drop(is_send(session.run_to_end_async(&[], &mut answers)));
+    drop(is_send(w.group.begin_async()));
+    let (record, group) = (w.records[0][0], Arc::clone(&w.group));
+    let begun = thread::spawn(move || block_on(is_send(group.begin_shared_async())));
+    begun.join().unwrap().unwrap().commit().unwrap();
     let task = is_send(async move {
         let end = session.lock_path_async(record, Mode::X).await;
         (end, session.commit())

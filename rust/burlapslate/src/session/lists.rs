@@ -121,9 +121,10 @@ impl<'t> Session<'t> {
 
     /// The wait of a list was awaited, and was answered so.
     fn has_awaited(&self, answers: &mut Answers, end: Result<Mode, Stop>) -> Result<(), Stop> {
-        match self.own.has_parts() {
-            true => answers.has_come_to(end),
-            false => answers.has_awaited(end),
+        if self.own.has_parts() {
+            answers.has_come_to(end)
+        } else {
+            answers.has_awaited(end)
         }
     }
 
