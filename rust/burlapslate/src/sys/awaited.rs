@@ -284,7 +284,7 @@ pub(crate) trait Asks {
     /// last one still waits, since its future was leaked, that keeps its place.
     fn ask(&mut self, sought: Sought<'_>, until: Until<'_>, waker: &Waker) -> (Poll<Ended>, usize) {
         let (txn, last) = (self.name(), *self.asked());
-        if self.waits().is_untold(txn, last) {
+        if self.has_parts() && self.waits().is_untold(txn, last) {
             if let Some(stop) = self.barred() {
                 return (Poll::Ready(Err(stop)), last);
             }
