@@ -15,8 +15,7 @@ use std::fmt;
 /// that finds no slot. If this is dropped, what it keeps is released; in a waker or while the thread holds the
 /// table ([`Table::with`](crate::Table::with)), it rests on.
 ///
-/// If the table has parts, it has no slot: what is kept rests in the parts, as [`Group::keep`](crate::Group::keep)
-/// says, also after this is dropped.
+/// If the table has parts, it has no slot: what is kept rests in the parts, as [`Group::keep`](crate::Group::keep) says.
 #[must_use = "what is kept is released if this is dropped"]
 pub struct Resting<'t> {
     table: Handle<'t>,

@@ -636,6 +636,18 @@ fn intentions_rest() {
     });
 }
 
+#[test]
+fn what_rests_is_released() {
+    each(|s| {
+        let mut session = s.begin().rest(16).unwrap().begin().unwrap();
+        session.lock_path(s.records[0][0], Mode::X).unwrap();
+        let resting = session.rest(16).unwrap();
+        assert_eq!(s.living(), 1);
+        drop(resting);
+        assert_eq!(s.living(), 0);
+    });
+}
+
 // ------------------------------------------------------------------------------------------------
 // Lists.
 
