@@ -365,6 +365,10 @@ a-session-s-list-takes-nothing-up	/ table_session_goes_on(/,/^}/s/^  if (table_s
 a-session-s-list-begins-another	/ table_session_goes_on(/,/^}/s/  if (!table_lives(table, session->txn)) return/  return/
 a-session-s-list-wakes-nobody	/ table_session_commit(/,/^}/s/^  table_wake(.*//
 group-unmarks-under-a-request	s/, at->inner->in_progress).count/, 0).count/
+group-visits-miss-a-part	/ group_visit_all(/,/^}/s/part <= group->parts/part < group->parts/
+group-joins-as-new	/ group_join(/,/^}/s/own->number, own->since)/own->number, own->age)/
+group-lets-a-phantom-fall	/ group_settle_one(/,/^}/s/bs_suspects(&group->joined).slots/group_any_slot/;s/^static bool group_settle_one(/static const bs_slots group_any_slot = { { UINT64_MAX, UINT64_MAX } };\n&/
+group-takes-latches-downward	/ group_take_all(/,/^}/s/number = 0; number <= group->parts; number++/number = group->parts; number <= group->parts; number--/
 group-visits-no-sleepers	s/^    if (!bs_inside_sleeps(t->table, slot)) continue;/    continue;/
 group-visits-no-parents	s/^    if (!group_is_marked(t, inner->above\[above\])) status = .*/    ;/
 group-copies-nothing-before-a-sleep	s/^  if (status == BS_DONE \&\& way->manner.may_wait) status = group_copy_own(.*//
