@@ -1,15 +1,17 @@
 /*
  * What threads do a second with a table and with a group of tables, by turns in one program: each transaction locks a
  * record of the thread's own in BS_X, in a file of the thread's own, by its path from the data base, and commits; or it
- * locks in BS_X four of 10,000 rows of a file that all threads use.
+ * locks in BS_X four of 10,000 rows, of a file of the thread's own or of one that all threads use; or one of a hundred
+ * transactions, or of twenty, locks the data base in BS_S in place of a record.
  *
  *   groups [SECONDS [PARTS]]    for 1, 2, 4 and 16 threads prints a row for each side, the median of five turns, each as
  *                               long as this (0.3): transactions a second, and how many times those of the table by calls
  *
  * The sides are a table by calls, the same with each transaction in one list, a group, the group when it keeps intentions
  * (bs_group_keep), and the group while a transaction that only reads has BS_S on an area where none of the threads
- * works; and with the rows of one file a table by calls, the group with a spread file, and that when it keeps
- * intentions. The rows are drawn, and locked by rising number, so that no transaction is a victim. PARTS is 16 if it is
+ * works; with rows in files of their own a table and the group that keeps intentions; with the rows of one file a table
+ * by calls, the group with a spread file, and that when it keeps intentions; and with locks of the data base a table and
+ * the group. The rows are drawn, and locked by rising number, so that no transaction is a victim. PARTS is 16 if it is
  * not named.
  */
 #include "burlapslate_group.h"
@@ -20,13 +22,14 @@
 #include <stdlib.h>
 #include <string.h>
 
-enum { MOST_THREADS = 16, TURNS = 5, SIDES = 8, COUNTS = 4, KEPT = 16, ROWS = 10000, DRAWN = 4 };
+enum { MOST_THREADS = 16, TURNS = 5, SIDES = 14, COUNTS = 4, KEPT = 16, ROWS = 10000, DRAWN = 4 };
 
 static const size_t counts[COUNTS] = { 1, 2, 4, 16 };
 
 static bs_table *table;
 static bs_table_group *group;
 static bs_node in_table[MOST_THREADS], in_group[MOST_THREADS], idle_area, file_in_table, file_in_group;
+static bs_node rows_in_table[MOST_THREADS], rows_in_own_part[MOST_THREADS], base_of_table, base_of_group;
 static volatile bool is_over;
 
 static struct worker {
@@ -67,31 +70,88 @@ static void in_a_group(struct worker *own) {
   DONE(bs_group_commit(group, txn));
 }
 
+static uint64_t drawn(struct worker *own, uint64_t below) {
+  own->dice = own->dice * UINT64_C(6364136223846793005) + UINT64_C(1442695040888963407);
+  return (own->dice >> 33) % below;
+}
+
 /* Draws four rows, by rising number: one of each quarter. */
 static void draw(struct worker *own, uint64_t *rows) {
   size_t i;
-  for (i = 0; i < DRAWN; i++) {
-    own->dice = own->dice * UINT64_C(6364136223846793005) + UINT64_C(1442695040888963407);
-    rows[i] = ROWS / DRAWN * i + (own->dice >> 33) % (ROWS / DRAWN);
-  }
+  for (i = 0; i < DRAWN; i++) rows[i] = ROWS / DRAWN * i + drawn(own, ROWS / DRAWN);
 }
 
-static void rows_by_calls(struct worker *own) {
+static void rows_of_table(struct worker *own, bs_node file) {
   uint64_t rows[DRAWN];
   bs_txn txn = DONE(bs_table_begin(table)).txn;
   size_t i;
   draw(own, rows);
-  for (i = 0; i < DRAWN; i++) DONE(bs_table_lock_row_path(table, txn, file_in_table, rows[i], NULL, 0, BS_X, NULL));
+  for (i = 0; i < DRAWN; i++) DONE(bs_table_lock_row_path(table, txn, file, rows[i], NULL, 0, BS_X, NULL));
   DONE(bs_table_commit(table, txn, NULL));
 }
 
-static void rows_in_a_group(struct worker *own) {
+static void rows_of_group(struct worker *own, bs_node file) {
   uint64_t rows[DRAWN];
   bs_txn txn = DONE(bs_group_begin(group)).txn;
   size_t i;
   draw(own, rows);
-  for (i = 0; i < DRAWN; i++) DONE(bs_group_lock_row_path(group, txn, file_in_group, rows[i], NULL, 0, BS_X, NULL));
+  for (i = 0; i < DRAWN; i++) DONE(bs_group_lock_row_path(group, txn, file, rows[i], NULL, 0, BS_X, NULL));
   DONE(bs_group_commit(group, txn));
+}
+
+static void rows_by_calls(struct worker *own) {
+  rows_of_table(own, file_in_table);
+}
+
+static void rows_in_a_group(struct worker *own) {
+  rows_of_group(own, file_in_group);
+}
+
+static void own_rows_by_calls(struct worker *own) {
+  rows_of_table(own, rows_in_table[own->number]);
+}
+
+static void own_rows_in_a_group(struct worker *own) {
+  rows_of_group(own, rows_in_own_part[own->number]);
+}
+
+/* Locks the data base, one time in so many. */
+static void table_or_all(struct worker *own, uint64_t times) {
+  bs_txn txn;
+  if (drawn(own, times) != 0) {
+    by_calls(own);
+    return;
+  }
+  txn = DONE(bs_table_begin(table)).txn;
+  DONE(bs_table_lock_path(table, txn, base_of_table, BS_S, NULL));
+  DONE(bs_table_commit(table, txn, NULL));
+}
+
+static void group_or_all(struct worker *own, uint64_t times) {
+  bs_txn txn;
+  if (drawn(own, times) != 0) {
+    in_a_group(own);
+    return;
+  }
+  txn = DONE(bs_group_begin(group)).txn;
+  DONE(bs_group_lock_path(group, txn, base_of_group, BS_S, NULL));
+  DONE(bs_group_commit(group, txn));
+}
+
+static void table_reads_of_100(struct worker *own) {
+  table_or_all(own, 100);
+}
+
+static void group_reads_of_100(struct worker *own) {
+  group_or_all(own, 100);
+}
+
+static void table_reads_of_20(struct worker *own) {
+  table_or_all(own, 20);
+}
+
+static void group_reads_of_20(struct worker *own) {
+  group_or_all(own, 20);
 }
 
 /* The sides. */
@@ -107,9 +167,15 @@ static const struct {
   { "group", in_a_group, 0, 0, false },
   { "group, intentions kept", in_a_group, 0, KEPT, false },
   { "group, one area in S", in_a_group, 0, 0, true },
-  { "table, rows of a file", rows_by_calls, 5, 0, false },
-  { "group, spread file", rows_in_a_group, 5, 0, false },
-  { "spread file, kept", rows_in_a_group, 5, KEPT, false },
+  { "table, own rows", own_rows_by_calls, 5, 0, false },
+  { "group, own rows, kept", own_rows_in_a_group, 5, KEPT, false },
+  { "table, rows of a file", rows_by_calls, 7, 0, false },
+  { "group, spread file", rows_in_a_group, 7, 0, false },
+  { "spread file, kept", rows_in_a_group, 7, KEPT, false },
+  { "table, 1 in 100 in S", table_reads_of_100, 10, 0, false },
+  { "group, 1 in 100 in S", group_reads_of_100, 10, KEPT, false },
+  { "table, 1 in 20 in S", table_reads_of_20, 12, 0, false },
+  { "group, 1 in 20 in S", group_reads_of_20, 12, KEPT, false },
 };
 
 static void *work(void *place) {
@@ -121,29 +187,37 @@ static void *work(void *place) {
   return NULL;
 }
 
-static void make_scene(uint32_t parts) {
-  bs_node base, area;
+static void make_table(void) {
+  bs_node area;
   bs_txn txn;
   size_t i;
   DONE(bs_table_make(&table, NULL));
-  base = DONE(bs_table_add_inner(table, NULL, 0)).node;
-  area = DONE(bs_table_add_inner(table, &base, 1)).node;
+  base_of_table = DONE(bs_table_add_inner(table, NULL, 0)).node;
+  area = DONE(bs_table_add_inner(table, &base_of_table, 1)).node;
   txn = DONE(bs_table_begin(table)).txn;
   for (i = 0; i < MOST_THREADS; i++) {
     bs_node file = DONE(bs_table_add_file(table, &area, 1)).node;
     DONE(bs_table_lock_path(table, txn, file, BS_IX, NULL));
     in_table[i] = DONE(bs_table_insert(table, txn, file, NULL, 0)).node;
+    rows_in_table[i] = DONE(bs_table_add_row_file(table, &area, 1)).node;
   }
   DONE(bs_table_commit(table, txn, NULL));
   file_in_table = DONE(bs_table_add_row_file(table, &area, 1)).node;
+}
+
+static void make_group(uint32_t parts) {
+  bs_node area;
+  bs_txn txn;
+  uint32_t i;
   DONE(bs_group_make(&group, NULL, parts));
-  base = DONE(bs_group_add_inner(group, NULL, 0)).node;
-  area = DONE(bs_group_add_inner(group, &base, 1)).node;
-  idle_area = DONE(bs_group_add_inner(group, &base, 1)).node;
+  base_of_group = DONE(bs_group_add_inner(group, NULL, 0)).node;
+  area = DONE(bs_group_add_inner(group, &base_of_group, 1)).node;
+  idle_area = DONE(bs_group_add_inner(group, &base_of_group, 1)).node;
   txn = DONE(bs_group_begin(group)).txn;
   for (i = 0; i < MOST_THREADS; i++) {
-    bs_node file = DONE(bs_group_add_file(group, 0, &area, 1)).node;
+    bs_node file = DONE(bs_group_add_file(group, 1 + i % parts, &area, 1)).node;
     in_group[i] = DONE(bs_group_insert(group, txn, file, NULL, 0)).node;
+    rows_in_own_part[i] = DONE(bs_group_add_row_file(group, 1 + i % parts, &area, 1)).node;
   }
   DONE(bs_group_commit(group, txn));
   file_in_group = DONE(bs_group_add_spread_file(group, &area, 1)).node;
@@ -188,7 +262,8 @@ int main(int count, char **words) {
   double seconds = count > 1 ? atof(words[1]) : 0.3, figures[SIDES][TURNS];
   size_t i;
   int side, at;
-  make_scene(count > 2 ? (uint32_t)atoi(words[2]) : 16);
+  make_table();
+  make_group(count > 2 ? (uint32_t)atoi(words[2]) : 16);
   for (i = 0; i < COUNTS; i++) {
     for (at = 0; at < TURNS; at++) {
       for (side = 0; side < SIDES; side++) figures[side][at] = turn(side, counts[i], seconds);
