@@ -512,7 +512,7 @@ says() {
   local there=$1 program=$2 status with=()
   [ "$program" = running ] || with+=("$there/burlapslate_running.c")
   [ "$program" = traces ] || with+=("$there/burlapslate_trace.c")
-  [[ $program != group* && $program != parts ]] || with+=("$there/burlapslate_shared.c")
+  [[ ( $program != group* || $program == group_replay ) && $program != parts ]] || with+=("$there/burlapslate_shared.c")
   [[ $program == group* ]] || with+=("$there/burlapslate_group.c")
   [ "$program" != parts ] || with+=("$there/burlapslate_dump.c")
   [ "$program" = crowd ] || with+=("-Wl,--wrap=malloc,--wrap=realloc,--wrap=free")

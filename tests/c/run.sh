@@ -34,6 +34,7 @@ compile() {
     running) with=(-I"$top/c" "$top"/c/burlapslate_{group,trace}.c "${libraries[@]:1}") ;;
     traces) with=(-I"$top/c" "$top"/c/burlapslate_{group,running}.c "${libraries[@]:1}") ;;
     groups | group_asks) with=(-I"$top/c" "${libraries[@]}") ;;
+    group_replay) with=(-I"$top/c" "$top"/c/burlapslate_{running,trace}.c "${libraries[@]:1}") ;;
     schemas | twins | scenarios) with=("$top/tests/c/naive.c" "${libraries[@]}") ;;
   esac
   # shellcheck disable=SC2086 # CC may have words after the name.
@@ -118,6 +119,8 @@ compile parts -Wl,--wrap=malloc,--wrap=realloc,--wrap=free || exit 1
 timeout 60 "$work/parts" || exit 1
 compile group_asks -Wl,--wrap=malloc,--wrap=realloc,--wrap=free || exit 1
 timeout 60 "$work/group_asks" || exit 1
+compile group_replay -Wl,--wrap=malloc,--wrap=realloc,--wrap=free || exit 1
+timeout 60 "$work/group_replay" 2>"$work/log" || { cat "$work/log" >&2; exit 1; }
 compile crowd || exit 1
 # A thousand threads begin one transaction each, and may take a minute.
 few=()
