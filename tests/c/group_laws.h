@@ -11,6 +11,7 @@
  *     if it has BS_X on all. So an intention in a part and a strong mode of another in the main table never conflict.
  *   - THE RULE OF THE GRAPH. Who holds a node to write holds all parents in BS_IX at least, and who holds it to read
  *     one in BS_IS at least.
+ *   - ONE TRANSACTION. As a transaction begins, nobody is in its slot in any table but those who rest there.
  *   - ONE AGE. All joins of a transaction name the `since` with which it began in the group. What rests for a slot is
  *     younger than each transaction of the slot before, and no younger than the one that takes it up, which is new
  *     work.
@@ -379,6 +380,17 @@ static uint64_t began_age[BS_SLOTS], began_since[BS_SLOTS];  /* in the group */
 static uint64_t rests_since[MOST_TABLES][BS_SLOTS];
 static bs_txn woken[MOST_TABLES]; /* by the last call of a table; age 0 if that was no such call */
 
+/* A transaction begins in the group. */
+static void note_began(const struct call *call) {
+  uint32_t slot = call->txn.slot, table;
+  for (table = 0; table <= group->parts; table++) {
+    if (bs_living(&managers[table], slot).status != BS_DONE) continue;
+    WANT(bs_has(bs_call_resting(&managers[table]).slots, slot));
+  }
+  began_age[slot] = call->txn.age;
+  began_since[slot] = call->key;
+}
+
 /* Who was woken is ended at once, or taken up by a transaction that is as old or younger, and did not begin again. */
 static void want_taken_up(const struct call *call, uint32_t table) {
   bs_txn txn = woken[table];
@@ -502,8 +514,8 @@ static void wait_for(uint32_t slot, uint32_t other) {
   if (slot != other) waits.rows[slot].words[other / 64] |= (uint64_t)1 << other % 64;
 }
 
-/* A request waits for those that hold its node in a mode that is not compatible, and for those in its queue; who holds
- * the node already waits for those alone that do so too. */
+/* A request waits for those that hold its node in a mode that is not compatible, and for those in its queue. Who holds
+ * the node already waits there for those alone that do so too, and all others wait for it. */
 static void add_request(const bs_manager *m, bs_txn txn, bs_node node, bs_mode mode) {
   bs_mode own = bs_held(m, txn, node).mode;
   bs_slots holders = bs_holders(m, node).slots;
@@ -517,6 +529,7 @@ static void add_request(const bs_manager *m, bs_txn txn, bs_node node, bs_mode m
   }
   for (place = 0; (other = bs_queue_at(m, node, place)).status == BS_DONE; place++) {
     if (own == BS_NL || bs_held(m, other.txn, node).mode != BS_NL) wait_for(txn.slot, other.txn.slot);
+    else wait_for(other.txn.slot, txn.slot);
   }
 }
 

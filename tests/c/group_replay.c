@@ -206,15 +206,18 @@ static bs_reply lock_node(struct session *s, bs_node node, bs_mode mode) {
   bs_command list = bs_do_at(BS_DO_LOCK_PATH, s->txn, node, mode);
   struct timespec time;
   const struct timespec *until = some_time(s, &time);
-  bool is_instant = bs_group_table(node) != 0 && pick(s, 6) == 0;
-  if (is_instant) list.mode |= BS_INSTANT;
   __atomic_store_n(&s->is_told, false, __ATOMIC_RELAXED);
   switch (pick(s, 6)) {
-    case 0: return bs_group_try_path(group, s->txn, node, mode, (uint32_t)pick(s, 2));
-    case 1: return hear_of_ask(s, bs_group_ask_path(group, s->txn, node, list.mode, until, s));
+    case 0: return bs_group_try_path(group, s->txn, node, mode & ~(bs_mode)BS_INSTANT, (uint32_t)pick(s, 2));
+    case 1: return hear_of_ask(s, bs_group_ask_path(group, s->txn, node, mode, until, s));
     case 2: return run_list(s, &list, 1);
-    default: return bs_group_lock_path(group, s->txn, node, list.mode, until);
+    default: return bs_group_lock_path(group, s->txn, node, mode, until);
   }
+}
+
+/* The same of a node that is no inner one, sometimes for an instant. */
+static bs_reply touch_node(struct session *s, bs_node node, bs_mode mode) {
+  return lock_node(s, node, pick(s, 6) == 0 ? mode | BS_INSTANT : mode);
 }
 
 static bs_command row_command(struct session *s, uint32_t kind, bs_node file, const uint64_t *key, bs_mode mode) {
@@ -289,10 +292,14 @@ static bs_reply insert(struct session *s) {
   return reply;
 }
 
-static bs_reply remove_record(struct session *s) {
-  bs_node record = named(&few_records[PLAIN][pick(s, EACH)]);
+/* Puts another record in the place of one. */
+static bs_reply replace_record(struct session *s) {
+  bs_node *place = &few_records[PLAIN][pick(s, EACH)], record = named(place);
   bs_reply reply = lock_node(s, record, BS_X);
-  return reply.status == BS_DONE ? bs_group_delete(group, s->txn, record) : reply;
+  if (reply.status == BS_DONE) reply = bs_group_delete(group, s->txn, record);
+  if (reply.status == BS_DONE) reply = bs_group_insert(group, s->txn, few_files[PLAIN], NULL, 0);
+  if (reply.status == BS_DONE) rename_to(place, reply.node);
+  return reply;
 }
 
 static bs_reply rekey(struct session *s) {
@@ -364,6 +371,11 @@ static bs_reply make_node(struct session *s) {
   return reply.status == BS_DONE ? bs_group_drop(group, s->txn, file) : reply;
 }
 
+static bs_reply escalate(struct session *s) {
+  size_t file = pick(s, FILES);
+  return bs_group_escalate(group, s->txn, file == SPREAD ? any_part_of_spread(s) : few_files[file]);
+}
+
 static bs_reply use_savepoint(struct session *s) {
   if (!s->has_savepoint || pick(s, 2) == 0) {
     s->has_savepoint = true;
@@ -394,12 +406,12 @@ static bs_reply adopt_and_forget(void) {
 
 static bs_reply any_command(struct session *s) {
   switch (pick(s, 40)) {
-    case 0: case 1: s->inner++; return lock_node(s, any_inner(s), any_mode(s));
-    case 2: return bs_group_unlock(group, s->txn, any_below(s));
+    case 0: s->inner++; return lock_node(s, any_inner(s), any_mode(s));
+    case 1: case 2: return bs_group_unlock(group, s->txn, any_below(s));
     case 3: return bs_group_unlock_row(group, s->txn, few_files[pick(s, FILES)], pick(s, EACH));
-    case 4: return bs_group_escalate(group, s->txn, any_below(s));
+    case 4: return escalate(s);
     case 5: case 6: return insert(s);
-    case 7: return remove_record(s);
+    case 7: return replace_record(s);
     case 8: return rekey(s);
     case 9: return change_index(s);
     case 10: return index_records(s);
@@ -411,8 +423,8 @@ static bs_reply any_command(struct session *s) {
     case 17: case 18: case 19: return use_savepoint(s);
     case 20: return adopt_and_forget();
     case 21: return pick(s, 4) == 0 ? bs_group_keep(group, 4 * (uint32_t)pick(s, 4)) : limit(s);
-    case 22: case 23: case 24: case 25: return lock_node(s, any_below(s), any_mode(s));
-    case 26: case 27: case 28: case 29: return lock_node(s, any_record(s), pick(s, 2) == 0 ? BS_S : BS_X);
+    case 22: case 23: case 24: case 25: return touch_node(s, any_below(s), any_mode(s));
+    case 26: case 27: case 28: case 29: return touch_node(s, any_record(s), pick(s, 2) == 0 ? BS_S : BS_X);
     default: return lock_row(s);
   }
 }
@@ -426,7 +438,8 @@ static void begin_work(struct session *s) {
   bs_reply reply = bs_group_begin_again(group, s->since);
   struct timespec time;
   while (reply.status == BS_TOO_MANY_TXNS || reply.status == BS_TIMED_OUT) {
-    reply = bs_group_begin_again_in_turn(group, s->since, some_time(s, &time));
+    time = moment_in(100 + (long)pick(s, 4000));
+    reply = bs_group_begin_again_in_turn(group, s->since, pick(s, 4) == 0 ? &time : NULL);
   }
   s->txn = note_begin(DONE(reply).txn, s->since);
 }
@@ -499,8 +512,7 @@ static void replay_one(const struct served *s, bs_notices *told) {
   bs_manager *m;
   bs_reply reply;
   if (s->call.kind == (enum kind)BEGAN) {
-    began_age[s->call.txn.slot] = s->call.txn.age;
-    began_since[s->call.txn.slot] = s->call.key;
+    note_began(&s->call);
     return;
   }
   m = &managers[s->table];
