@@ -365,10 +365,13 @@ a-session-s-list-takes-nothing-up	/ table_session_goes_on(/,/^}/s/^  if (table_s
 a-session-s-list-begins-another	/ table_session_goes_on(/,/^}/s/  if (!table_lives(table, session->txn)) return/  return/
 a-session-s-list-wakes-nobody	/ table_session_commit(/,/^}/s/^  table_wake(.*//
 group-unmarks-under-a-request	s/, at->inner->in_progress).count/, 0).count/
-group-visits-miss-a-part	/ group_visit_all(/,/^}/s/part <= group->parts/part < group->parts/
-group-joins-as-new	/ group_join(/,/^}/s/own->number, own->since)/own->number, own->age)/
-group-lets-a-phantom-fall	/ group_settle_one(/,/^}/s/bs_suspects(&group->joined).slots/group_any_slot/;s/^static bool group_settle_one(/static const bs_slots group_any_slot = { { UINT64_MAX, UINT64_MAX } };\n&/
 group-takes-latches-downward	/ group_take_all(/,/^}/s/number = 0; number <= group->parts; number++/number = group->parts; number <= group->parts; number--/
+group-visits-all-parts-but-one	/ group_visit_all(/,/^}/s/part <= group->parts/part < group->parts/
+group-joins-as-old-as-it-is	/ group_join(/,/^}/s/own->number, own->since/own->number, own->age/
+group-joins-the-main-table-as-old-as-it-is	/ group_join_main(/,/^}/s/own->number, own->since/own->number, own->age/
+group-lets-any-sleeper-fall	/ group_settle_one(/,/^}/s/bs_suspects(&group->joined).slots/(bs_slots){ { UINT64_MAX, UINT64_MAX } }/
+group-looks-at-ages-of-tables	/ group_add_board(/,/^}/s/^    group->joined.ages\[slot\] = .*/    group->joined.ages[slot] = group->one.ages[slot];/
+group-frees-the-part-before-it-requests	/ group_reach(/,/^}/s/^  way->own->target = \*way->target;/&\n  bs_inside_release(t->table), sched_yield(), bs_inside_take(t->table);/
 group-visits-no-sleepers	s/^    if (!bs_inside_sleeps(t->table, slot)) continue;/    continue;/
 group-visits-no-parents	s/^    if (!group_is_marked(t, inner->above\[above\])) status = .*/    ;/
 group-copies-nothing-before-a-sleep	s/^  if (status == BS_DONE \&\& way->manner.may_wait) status = group_copy_own(.*//
@@ -531,7 +534,7 @@ found() {
   mkdir -p "$there" && cp "$top"/c/*.[ch] "$there/" && sed -i "$2" "$there"/*.[ch] || return 1
   ! diff -q "$top/c" "$there" -x out >/dev/null || { echo "faults.sh: $1 changes nothing"; return 1; }
   if ! cmp -s "$top/c/burlapslate_group.c" "$there/burlapslate_group.c"; then
-    says "$there" group_asks && says "$there" parts && says "$there" groups
+    says "$there" group_asks && says "$there" parts && says "$there" groups && says "$there" group_replay
   else
     says "$there" shared 5 && says "$there" asks 5 100 && says "$there" begins 5 && says "$there" waits 5 && says "$there" sessions 5 &&
       says "$there" own_ends 20 && says "$there" row_paths 5 && says "$there" running 5 && says "$there" traces 5 &&

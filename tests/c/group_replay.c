@@ -149,7 +149,7 @@ static bs_node any_part_of_spread(struct session *s) {
 
 static bs_node any_below(struct session *s) {
   switch (pick(s, 6)) {
-    case 0: return few_files[pick(s, SPREAD)];
+    case 0: return few_files[pick(s, 2) == 0 ? ROWS_BY_KEY : pick(s, SPREAD)];
     case 1: return any_part_of_spread(s);
     case 2: return pick(s, 2) == 0 ? named(&row_index) : any_interval(s);
     default: return any_record(s);
@@ -220,12 +220,18 @@ static bs_reply touch_node(struct session *s, bs_node node, bs_mode mode) {
   return lock_node(s, node, pick(s, 6) == 0 ? mode | BS_INSTANT : mode);
 }
 
+/* A file of rows; or the spread file's file in a part, which names no row. */
+static bs_node any_row_file(struct session *s) {
+  if (pick(s, 12) == 0) return any_part_of_spread(s);
+  return few_files[pick(s, 2) == 0 ? SPREAD : ROWS_BY_KEY];
+}
+
 static bs_command row_command(struct session *s, uint32_t kind, bs_node file, const uint64_t *key, bs_mode mode) {
   bs_command c = bs_do(kind, s->txn);
   c.file = file;
   c.number = pick(s, EACH);
   c.keys = key;
-  c.key_count = bs_group_table(file) == 0 ? 0 : 1; /* a spread file has no index */
+  c.key_count = same_node(file, few_files[ROWS_BY_KEY]) ? 1 : 0;
   c.mode = mode;
   c.keep = (uint32_t)pick(s, 2);
   return c;
@@ -233,7 +239,7 @@ static bs_command row_command(struct session *s, uint32_t kind, bs_node file, co
 
 /* Locks a row in one of these ways. If it has another key, it is rekeyed, or released if it is held to read. */
 static bs_reply lock_row(struct session *s) {
-  bs_node file = few_files[pick(s, 2) == 0 ? SPREAD : ROWS_BY_KEY];
+  bs_node file = any_row_file(s);
   uint64_t key = pick(s, 300);
   bs_mode mode = pick(s, 2) == 0 ? BS_S : BS_X;
   bs_command c = row_command(s, BS_DO_LOCK_ROW_PATH, file, &key, mode);
@@ -249,6 +255,7 @@ static bs_reply lock_row(struct session *s) {
     case 2: reply = run_list(s, &c, 1); break;
     default: reply = bs_group_lock_row_path(group, s->txn, file, c.number, &key, c.key_count, mode, until);
   }
+  if (same_node(file, few_files[SPREAD])) WANT(reply.status != BS_NOT_ROWS && reply.status != BS_NO_SUCH_NODE);
   if (reply.status != BS_OTHER_KEYS) return reply;
   if (reply.mode == BS_S) return bs_group_unlock_row(group, s->txn, file, c.number);
   return bs_group_rekey_row(group, s->txn, file, c.number, named(&row_index), key);
@@ -260,8 +267,7 @@ static bs_reply skip_rows(struct session *s) {
   bs_command list[3];
   size_t i;
   for (i = 0; i < 3; i++) {
-    bs_node file = few_files[pick(s, 2) == 0 ? SPREAD : ROWS_BY_KEY];
-    list[i] = row_command(s, pick(s, 2) == 0 ? BS_DO_TRY_ROW : BS_DO_TRY_ROW_PATH, file, &keys[i], BS_X);
+    list[i] = row_command(s, pick(s, 2) == 0 ? BS_DO_TRY_ROW : BS_DO_TRY_ROW_PATH, any_row_file(s), &keys[i], BS_X);
   }
   i = bs_group_try_first(group, list, 3);
   return list[i < 3 ? i : 2].reply;
@@ -457,7 +463,7 @@ static bool work(struct session *s) {
   size_t left = 1 + pick(s, 6);
   while (left-- > 0 && status != BS_VICTIM) {
     status = any_command(s).status;
-    WANT(status != BS_NO_SUCH_TXN);
+    WANT(status != BS_NO_SUCH_TXN && status != BS_MOVED && status != BS_ON_THE_WAY && status != BS_WAITING);
     if (status == BS_TIMED_OUT) s->late++;
     if (pick(s, 30) == 0) sched_yield();
   }

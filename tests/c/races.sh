@@ -19,7 +19,7 @@ compile() {
   local with=("${@:3}") compiler=${CC:-cc}
   [ "$2" = running ] || with+=("$top/c/burlapslate_running.c")
   [ "$2" = traces ] || with+=("$top/c/burlapslate_trace.c")
-  [[ $2 != group* && $2 != parts ]] || with+=("$top/c/burlapslate_shared.c")
+  [[ ( $2 != group* || $2 == group_replay ) && $2 != parts ]] || with+=("$top/c/burlapslate_shared.c")
   [[ $2 == group* ]] || with+=("$top/c/burlapslate_group.c")
   [ "$2" != parts ] || with+=("$top/c/burlapslate_dump.c")
   # shellcheck disable=SC2054 # The commas are of one word.
@@ -91,7 +91,7 @@ for tool in "$@"; do
         ! compile running-tsan running -fsanitize=thread ||
         ! compile traces-tsan traces -fsanitize=thread || ! compile groups-tsan groups -fsanitize=thread ||
         ! compile group_asks-tsan group_asks -fsanitize=thread || ! compile parts-tsan parts -fsanitize=thread ||
-        ! compile crowd-tsan crowd -fsanitize=thread; then
+        ! compile group_replay-tsan group_replay -fsanitize=thread || ! compile crowd-tsan crowd -fsanitize=thread; then
         echo "tsan: this compiler has none, so nothing was tried"
         continue
       fi
@@ -107,6 +107,7 @@ for tool in "$@"; do
       quiet "tsan, the asks of a group" "$work/group_asks-tsan" || status=1
       quiet "tsan, a table with parts" "$work/parts-tsan" || status=1
       quiet "tsan, a crowd in a group" "$work/groups-tsan" 20 || status=1
+      quiet "tsan, a crowd in a group, replayed" "$work/group_replay-tsan" 4 300 || status=1
       quiet "tsan, the crowd" "$work/crowd-tsan" 4 300 || status=1
       ;;
     helgrind | drd)
