@@ -534,11 +534,11 @@ found() {
   mkdir -p "$there" && cp "$top"/c/*.[ch] "$there/" && sed -i "$2" "$there"/*.[ch] || return 1
   ! diff -q "$top/c" "$there" -x out >/dev/null || { echo "faults.sh: $1 changes nothing"; return 1; }
   if ! cmp -s "$top/c/burlapslate_group.c" "$there/burlapslate_group.c"; then
-    says "$there" group_asks && says "$there" parts && says "$there" groups && says "$there" group_replay
+    says "$there" group_asks && says "$there" parts && says "$there" group_replay 15 10 && says "$there" groups
   else
     says "$there" shared 5 && says "$there" asks 5 100 && says "$there" begins 5 && says "$there" waits 5 && says "$there" sessions 5 &&
       says "$there" own_ends 20 && says "$there" row_paths 5 && says "$there" running 5 && says "$there" traces 5 &&
-      says "$there" crowd 4 4 && says "$there" parts && says "$there" group_asks && says "$there" groups
+      says "$there" crowd 4 4 && says "$there" parts && says "$there" group_asks && says "$there" groups && says "$there" group_replay 15 10
   fi
   [ $? -eq 1 ] || { echo "faults.sh: $1 was not found"; return 1; }
   echo "$1: found: $(grep -E ': (hangs|not so|[a-z_]*: not so)' "$there/said" | tail -n 1 | sed 's/^[^ ]*\.[ch]:[0-9]*: //')"

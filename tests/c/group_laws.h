@@ -9,6 +9,9 @@
  *   - NO CONFLICT. The effective modes of two slots on a node are compatible. A slot's effective mode is the least that
  *     covers what it holds there and what that above implies: BS_S if it has BS_S, BS_SIX or BS_X on a parent, and BS_X
  *     if it has BS_X on all. So an intention in a part and a strong mode of another in the main table never conflict.
+ *   - COPIES. While a slot holds an inner node in the main table in more than an intention, or waits there for that, each
+ *     slot holds there at least what it holds of the node in the parts. So does, of each inner node, who waits in the
+ *     main table.
  *   - THE RULE OF THE GRAPH. Who holds a node to write holds all parents in BS_IX at least, and who holds it to read
  *     one in BS_IS at least.
  *   - ONE TRANSACTION. As a transaction begins, nobody is in its slot in any table but those who rest there.
@@ -25,7 +28,7 @@
 
 #include "group_served.h"
 
-enum { MOST_INNER = 8, MOST_HELD = 128, MOST_BUCKETS = 4096, CHECK_ALL = 16 };
+enum { SLOTS = 120, MOST_INNER = 8, MOST_HELD = 128, MOST_BUCKETS = 4096, CHECK_ALL = 16 };
 
 static bs_manager managers[MOST_TABLES + 1];
 
@@ -38,9 +41,9 @@ struct place {
   uint32_t at;     /* in the list of those that are held */
   uint32_t holders;
   bool is_record, is_gone;
-  uint8_t held[BS_SLOTS];
+  uint8_t held[SLOTS];
   uint64_t known;  /* the check for which these are known */
-  uint8_t effective[BS_SLOTS];
+  uint8_t effective[SLOTS];
   uint64_t graph;  /* the graph of its table of which these are its parents */
   size_t parent_count;
   uint32_t parents[BS_MOST_PARENTS];
@@ -58,8 +61,8 @@ struct holding {
   struct { uint32_t place; bs_mode mode; } at[MOST_HELD];
 };
 
-static struct holding holdings[MOST_TABLES][BS_SLOTS];
-static uint8_t held_inner[MOST_INNER][BS_SLOTS][MOST_TABLES];
+static struct holding holdings[MOST_TABLES][SLOTS];
+static uint8_t held_inner[MOST_INNER][SLOTS][MOST_TABLES];
 static uint64_t graphs[MOST_TABLES]; /* counted up as the parents of nodes change */
 static uint64_t checks;
 
@@ -229,7 +232,7 @@ static bool read_slot(uint32_t table, uint32_t slot) {
 
 static void imply(const struct place *above, uint8_t *some, uint8_t *all) {
   uint32_t slot;
-  for (slot = 0; slot < BS_SLOTS; slot++) {
+  for (slot = 0; slot < SLOTS; slot++) {
     some[slot] |= above->effective[slot] >= BS_S;
     all[slot] &= above->effective[slot] == BS_X;
   }
@@ -237,7 +240,7 @@ static void imply(const struct place *above, uint8_t *some, uint8_t *all) {
 
 /* Finds the effective modes of all slots on a place. */
 static void find_effective(uint32_t at) {
-  uint8_t some[BS_SLOTS], all[BS_SLOTS];
+  uint8_t some[SLOTS], all[SLOTS];
   uint32_t slot;
   size_t i;
   if (places[at].known == checks) return;
@@ -249,7 +252,7 @@ static void find_effective(uint32_t at) {
     imply(&places[places[at].parents[i]], some, all);
   }
   places[at].known = checks;
-  for (slot = 0; slot < BS_SLOTS; slot++) {
+  for (slot = 0; slot < SLOTS; slot++) {
     bs_mode implied = all[slot] ? BS_X : some[slot] ? BS_S : BS_NL;
     places[at].effective[slot] = (uint8_t)supremum(places[at].held[slot], implied);
   }
@@ -260,7 +263,7 @@ static void want_no_conflict(uint32_t at) {
   uint32_t count[BS_X + 1] = { 0 }, slot;
   bs_mode one, other;
   find_effective(at);
-  for (slot = 0; slot < BS_SLOTS; slot++) count[places[at].effective[slot]]++;
+  for (slot = 0; slot < SLOTS; slot++) count[places[at].effective[slot]]++;
   for (one = BS_IS; one <= BS_X; one++) {
     for (other = one; other <= BS_X && count[one] > 0; other++) {
       bool are_two = one == other ? count[one] > 1 : count[other] > 0;
@@ -296,6 +299,48 @@ static bool want_slot(uint32_t table, uint32_t slot) {
   return is_strong;
 }
 
+/* A slot holds an inner node in the main table at least as in the parts. */
+static void want_copied(uint32_t inner, uint32_t slot) {
+  const uint8_t *held = held_inner[inner][slot];
+  uint32_t table;
+  for (table = 1; table <= group->parts; table++) WANT(supremum(held[0], held[table]) == held[0]);
+}
+
+/* Whether an inner node is held in the main table in more than an intention, or requested so. */
+static bool is_strong_in_main(uint32_t inner) {
+  bs_node node = group->tables[0].at[inner].node;
+  bs_reply waits = bs_call_only(BS_DONE);
+  uint32_t slot;
+  size_t place;
+  for (slot = 0; slot < SLOTS; slot++) {
+    if (held_inner[inner][slot][0] > BS_IX) return true;
+  }
+  for (place = 0; waits.status == BS_DONE; place++) {
+    waits = bs_queue_at(&managers[0], node, place);
+    if (waits.status == BS_DONE && waits.mode > BS_IX) return true;
+  }
+  return false;
+}
+
+/* The copies of an inner node that a call in a table may have made wrong, of these slots. */
+static void want_copies_of(uint32_t inner, uint32_t table, bs_slots slots) {
+  uint32_t slot;
+  if (!is_strong_in_main(inner)) return;
+  for (slot = 0; slot < SLOTS; slot++) {
+    if (table == 0 || bs_has(slots, slot)) want_copied(inner, slot);
+  }
+}
+
+/* After a call that has changed what these slots hold, or left its transaction waiting. */
+static void want_copies(const struct served *s, bs_reply reply, bs_slots slots) {
+  bool waits = s->table == 0 && s->call.kind == LOCK_PATH && reply.status == BS_WAITING;
+  uint32_t inner;
+  for (inner = 0; inner < group->tables[0].count; inner++) {
+    want_copies_of(inner, s->table, slots);
+    if (waits) want_copied(inner, s->call.txn.slot);
+  }
+}
+
 static void want_no_conflicts(void) {
   uint32_t i;
   for (i = 0; i < held_count; i++) want_no_conflict(held_places[i]);
@@ -324,7 +369,7 @@ static bool changes_graph(const struct call *call) {
 static void want_map(void) {
   uint32_t table, slot;
   for (table = 0; table <= group->parts; table++) {
-    for (slot = 0; slot < BS_SLOTS; slot++) WANT(!read_slot(table, slot));
+    for (slot = 0; slot < SLOTS; slot++) WANT(!read_slot(table, slot));
   }
 }
 
@@ -347,7 +392,7 @@ static bs_slots touched_by(const struct served *s, bs_reply reply, const bs_noti
 static bool read_slots(uint32_t table, bs_slots *slots) {
   bool any = false;
   uint32_t slot;
-  for (slot = 0; slot < BS_SLOTS; slot++) {
+  for (slot = 0; slot < SLOTS; slot++) {
     if (!bs_has(*slots, slot)) continue;
     if (read_slot(table, slot)) any = true;
     else slots->words[slot / 64] &= ~((uint64_t)1 << slot % 64);
@@ -363,10 +408,11 @@ static void want_laws(const struct served *s, bs_reply reply, const bs_notices *
   if (is_changed) graphs[s->table]++;
   checks++;
   is_changed |= read_slots(s->table, &touched);
-  for (slot = 0; slot < BS_SLOTS; slot++) {
+  for (slot = 0; slot < SLOTS; slot++) {
     if (bs_has(touched, slot)) is_strong |= want_slot(s->table, slot);
   }
   if (is_strong) want_no_conflicts();
+  if (is_changed || reply.status == BS_WAITING) want_copies(s, reply, touched);
   if (!is_changed || checks % CHECK_ALL != 0) return;
   want_map();
   want_no_conflict_anywhere();
@@ -376,8 +422,8 @@ static void want_laws(const struct served *s, bs_reply reply, const bs_notices *
  * Ages.
  */
 
-static uint64_t began_age[BS_SLOTS], began_since[BS_SLOTS];  /* in the group */
-static uint64_t rests_since[MOST_TABLES][BS_SLOTS];
+static uint64_t began_age[SLOTS], began_since[SLOTS]; /* in the group */
+static uint64_t rests_since[MOST_TABLES][SLOTS];
 static bs_txn woken[MOST_TABLES]; /* by the last call of a table; age 0 if that was no such call */
 
 /* A transaction begins in the group. */
@@ -448,7 +494,7 @@ static void want_one_part(const struct served *s) {
  */
 
 static bs_board waits; /* who waits for whom, before the present call */
-static struct { bs_node node; bs_mode mode; } awaited[BS_SLOTS]; /* in its table, before it */
+static struct { bs_node node; bs_mode mode; } awaited[SLOTS]; /* in its table, before it */
 static bool has_fallen;  /* the request of the present call is of one that was condemned before */
 static uint64_t condemned, fallen; /* how many were so within a table, and over several */
 
@@ -457,7 +503,7 @@ static void read_waits(uint32_t table) {
   const bs_manager *m = &managers[table];
   uint32_t slot;
   DONE(bs_read_board(m, &waits));
-  for (slot = 0; slot < BS_SLOTS; slot++) {
+  for (slot = 0; slot < SLOTS; slot++) {
     bs_reply doing = bs_doing(m, bs_living(m, slot).txn);
     bool is_waiting = doing.status == BS_DONE && doing.count == BS_WAITS;
     awaited[slot].mode = is_waiting ? doing.mode : BS_NL;
@@ -472,7 +518,7 @@ static void read_all_waits(void) {
   memset(&waits, 0, sizeof waits);
   for (table = 0; table <= group->parts; table++) {
     DONE(bs_read_board(&managers[table], &one));
-    for (slot = 0; slot < BS_SLOTS; slot++) {
+    for (slot = 0; slot < SLOTS; slot++) {
       for (word = 0; word < BS_SLOTS / 64; word++) waits.rows[slot].words[word] |= one.rows[slot].words[word];
     }
   }
@@ -482,8 +528,8 @@ static void read_all_waits(void) {
 static bool reach_more(bool *reached) {
   bool more = false;
   uint32_t slot, other;
-  for (slot = 0; slot < BS_SLOTS; slot++) {
-    for (other = 0; reached[slot] && other < BS_SLOTS; other++) {
+  for (slot = 0; slot < SLOTS; slot++) {
+    for (other = 0; reached[slot] && other < SLOTS; other++) {
       if (reached[other] || !bs_has(waits.rows[slot], other)) continue;
       more = reached[other] = true;
     }
@@ -493,9 +539,9 @@ static bool reach_more(bool *reached) {
 
 /* Whether a slot waits for itself, over others. */
 static bool is_on_cycle(uint32_t slot) {
-  bool reached[BS_SLOTS];
+  bool reached[SLOTS];
   uint32_t other;
-  for (other = 0; other < BS_SLOTS; other++) reached[other] = bs_has(waits.rows[slot], other);
+  for (other = 0; other < SLOTS; other++) reached[other] = bs_has(waits.rows[slot], other);
   while (reach_more(reached)) continue;
   return reached[slot];
 }
@@ -505,7 +551,7 @@ static void want_youngest_on_cycles(uint32_t victim) {
   uint32_t slot;
   fallen++;
   WANT(is_on_cycle(victim));
-  for (slot = 0; slot < BS_SLOTS; slot++) {
+  for (slot = 0; slot < SLOTS; slot++) {
     if (began_since[slot] > began_since[victim]) WANT(!is_on_cycle(slot));
   }
 }
@@ -523,7 +569,7 @@ static void add_request(const bs_manager *m, bs_txn txn, bs_node node, bs_mode m
   size_t place;
   uint32_t slot;
   mode = supremum(own, mode);
-  for (slot = 0; slot < BS_SLOTS; slot++) {
+  for (slot = 0; slot < SLOTS; slot++) {
     if (!bs_has(holders, slot) || compatible(mode, bs_held(m, bs_living(m, slot).txn, node).mode)) continue;
     wait_for(txn.slot, slot);
   }
@@ -537,7 +583,7 @@ static void add_request(const bs_manager *m, bs_txn txn, bs_node node, bs_mode m
 static void add_waits_for(const bs_manager *m, uint32_t own) {
   bs_txn txn = bs_living(m, own).txn;
   uint32_t slot;
-  for (slot = 0; slot < BS_SLOTS; slot++) {
+  for (slot = 0; slot < SLOTS; slot++) {
     if (awaited[slot].mode == BS_NL) continue;
     if (!compatible(awaited[slot].mode, bs_held(m, txn, awaited[slot].node).mode)) wait_for(slot, own);
   }
@@ -551,7 +597,7 @@ struct closing {
 };
 
 /* The request that a waiter makes as it goes on, by slot: the target of its path or row, and the mode. */
-static struct { bs_node node; bs_mode mode; } paths[MOST_TABLES][BS_SLOTS];
+static struct { bs_node node; bs_mode mode; } paths[MOST_TABLES][SLOTS];
 
 static void note_path(const struct served *s) {
   const struct call *call = &s->call;

@@ -25,7 +25,7 @@
  * nodes, and other files, which are dropped.
  */
 
-enum { FEW_AREAS = 2, EACH = 8, BOUNDS = 2, MOST_INDEXES = 2, MOST_INTERVALS = 6, THREADS = 128, SLOTS = 120 };
+enum { FEW_AREAS = 2, EACH = 8, BOUNDS = 2, MOST_INDEXES = 2, MOST_INTERVALS = 6, THREADS = 128 };
 enum { PLAIN = 0, ROWS_BY_KEY = 1, CROSSED = 2, SPREAD = 3, FILES = 4 };
 
 /* Protects the names that change. */
