@@ -1,27 +1,28 @@
 /*
- * group_laws.h: the laws of a group as a whole, checked after each call of a replay by plain code over questions to the
- * managers: one of one thread for each table.
+ * group_laws.h: the laws of a group as a whole, checked after each call of a replay by plain code over questions to
+ * the managers: one of one thread for each table.
  *
- * Who holds what in the whole is a flat map: for each node and each slot the supremum of the modes in all tables. An
- * inner node is one node there, whatever its names in the tables are. A slot is one holder: what rests for it counts,
- * and what it still holds in the tables that its transaction has not yet left at its end. So the laws hold after each
- * call:
- *   - NO CONFLICT. The effective modes of two slots on a node are compatible. A slot's effective mode is the least that
- *     covers what it holds there and what that above implies: BS_S if it has BS_S, BS_SIX or BS_X on a parent, and BS_X
- *     if it has BS_X on all. So an intention in a part and a strong mode of another in the main table never conflict.
- *   - COPIES. While a slot holds an inner node in the main table in more than an intention, or waits there for that, each
- *     slot holds there at least what it holds of the node in the parts. So does, of each inner node, who waits in the
- *     main table.
- *   - THE RULE OF THE GRAPH. Who holds a node to write holds all parents in BS_IX at least, and who holds it to read
- *     one in BS_IS at least.
- *   - ONE TRANSACTION. As a transaction begins, nobody is in its slot in any table but those who rest there.
- *   - ONE AGE. All joins of a transaction name the `since` with which it began in the group. What rests for a slot is
- *     younger than each transaction of the slot before, and no younger than the one that takes it up, which is new
- *     work.
+ * A flat map says who holds what in the whole: for each node and each slot the supremum of the modes in all tables.
+ * An inner node is one node there, whatever its names in the tables are. A slot is one holder: a transaction that
+ * rests for it counts, and so does what a transaction still holds in the tables that it has not yet left at its end.
+ * So the laws hold after each call:
+ *   - NO CONFLICT. The effective modes of two slots on a node are compatible. A slot's effective mode is the least
+ *     that covers what it holds there and what that above implies: BS_S if it has BS_S, BS_SIX or BS_X on a
+ *     parent, and BS_X if it has BS_X on all. So an intention in a part and a strong mode of another in the main
+ *     table never conflict.
+ *   - COPIES. While a slot holds an inner node in the main table in more than an intention, or waits there for
+ *     that, each slot holds there at least what it holds of the node in the parts. A slot that waits in the main
+ *     table does so for each inner node.
+ *   - THE RULE OF THE GRAPH. A slot that holds a node to write holds all parents in BS_IX at least; one that holds
+ *     it to read holds one parent in BS_IS at least.
+ *   - ONE TRANSACTION. When a transaction begins, its slot is free in each table, or a transaction rests there.
+ *   - ONE AGE. All joins of a transaction name the `since` with which it began in the group. A transaction that
+ *     rests is younger than the earlier ones of its slot, and no younger than the one that takes it up, which is
+ *     new work.
  *   - ONE PART. A row of a spread file is named in one table alone.
- *   - NO PHANTOM. Who is condemned within a table is on a cycle of the waits in that table, with the request that
- *     closes it. Who falls by a look at all tables is on a cycle of the waits in all, and has the latest `since` of all
- *     on cycles.
+ *   - NO PHANTOM. A victim that a table chooses is on a cycle of the waits in that table, with the request that
+ *     closes the cycle. A victim that the group chooses is on a cycle of the waits in all tables, and has the
+ *     latest `since` of all transactions on cycles.
  */
 #ifndef GROUP_LAWS_H
 #define GROUP_LAWS_H
@@ -137,17 +138,16 @@ static uint32_t place_of(uint32_t table, bs_node name) {
 /* Reads the parents of a place, if they may have changed. */
 static void read_parents(uint32_t at) {
   uint32_t table = places[at].table;
+  uint32_t above;
   bs_reply parent;
+  size_t i;
   if (places[at].graph == graphs[table]) return;
   places[at].graph = graphs[table];
-  places[at].parent_count = 0;
-  for (;;) {
-    parent = bs_parent(&managers[table], places[at].name, places[at].parent_count);
-    if (parent.status != BS_DONE) break;
-    /* The parent may be a new place, and the places move. */
-    uint32_t above = place_of(table, parent.node);
-    places[at].parents[places[at].parent_count++] = above;
+  for (i = 0; (parent = bs_parent(&managers[table], places[at].name, i)).status == BS_DONE; i++) {
+    above = place_of(table, parent.node); /* which may move the places */
+    places[at].parents[i] = above;
   }
+  places[at].parent_count = i;
 }
 
 /* The supremum of what a slot holds of an inner node in all tables. */
@@ -437,7 +437,8 @@ static void note_began(const struct call *call) {
   began_since[slot] = call->key;
 }
 
-/* Who was woken is ended at once, or taken up by a transaction that is as old or younger, and did not begin again. */
+/* A transaction that was woken ends at once, or a transaction takes it up that is as old or younger, and has not begun
+ * again. */
 static void want_taken_up(const struct call *call, uint32_t table) {
   bs_txn txn = woken[table];
   bool is_end = call->kind == COMMIT || call->kind == ABORT || call->kind == (enum kind)COMMIT_AND_REST;
@@ -494,9 +495,9 @@ static void want_one_part(const struct served *s) {
  */
 
 static bs_board waits; /* who waits for whom, before the present call */
-static struct { bs_node node; bs_mode mode; } awaited[SLOTS]; /* in its table, before it */
-static bool has_fallen;  /* the request of the present call is of one that was condemned before */
-static uint64_t condemned, fallen; /* how many were so within a table, and over several */
+static struct { bs_node node; bs_mode mode; } awaited[SLOTS]; /* what the slots wait for in its table, before it */
+static bool has_fallen; /* the transaction of its request was condemned before */
+static uint64_t condemned, fallen; /* how many victims the tables have chosen, and the group */
 
 /* Reads who waits for whom in a table, and for what; or the first in all. */
 static void read_waits(uint32_t table) {
@@ -524,7 +525,7 @@ static void read_all_waits(void) {
   }
 }
 
-/* Adds to the slots that were reached those for which they wait. */
+/* Adds to the slots that were reached those for which they wait; whether there are more now. */
 static bool reach_more(bool *reached) {
   bool more = false;
   uint32_t slot, other;
@@ -546,7 +547,7 @@ static bool is_on_cycle(uint32_t slot) {
   return reached[slot];
 }
 
-/* Who falls by a look at all tables. */
+/* The group has chosen this victim. */
 static void want_youngest_on_cycles(uint32_t victim) {
   uint32_t slot;
   fallen++;
@@ -579,7 +580,8 @@ static void add_request(const bs_manager *m, bs_txn txn, bs_node node, bs_mode m
   }
 }
 
-/* Those wait for a request too that wanted a node on which it has got a mode on its way that is not compatible. */
+/* A request may have acquired modes on its way: the slots wait for it that want such a node in a mode that is not
+ * compatible. */
 static void add_waits_for(const bs_manager *m, uint32_t own) {
   bs_txn txn = bs_living(m, own).txn;
   uint32_t slot;

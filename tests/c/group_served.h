@@ -11,14 +11,15 @@
 
 #include <pthread.h>
 
-/* The calls that only a group's tables make, and no command of a client. They are logged and made again as they are. */
+/* More calls, which the tables of a group make. They are logged, and made again, as they are. The last is no call: a
+ * thread logs it when its transaction has begun. */
 enum {
   RELEASE_SINCE = KINDS, ADOPT, FORGET, SPLIT, MERGE, INDEX_RECORDS, JOIN, COMMIT_AND_REST, CLEAR_WAY, CLEAR_NODE,
   MAKE_ROOM, WAKE, BEGIN_IN_TURN, TAKE_BEGUN, TAKE_LATE_BEGIN, WITHDRAW_BEGIN, AWAIT_NODE, AWAIT_PATH, AWAIT_ROW,
   AWAIT_ROW_PATH, CLIMB_TO_ROW, WITHDRAW_WAITER, GO_ON, TIME_OUT, BEGAN
 };
 
-/* The tables, their number after that the one whose queue begins wait in, and the begins of all. */
+/* There is a log for each table, one for the table in whose queue begins wait, and one for the begins. */
 enum { MOST_TABLES = 16 + 1, MOST_LOGS = MOST_TABLES + 2 };
 
 struct served {
@@ -30,7 +31,7 @@ struct served {
   uint64_t number;   /* in the order of all */
   uint32_t table;
   uint32_t victims;  /* how many it has condemned */
-  bs_status cut;     /* of a wait that the group has ended: with what */
+  bs_status cut;     /* with what the group has ended the wait, if it has */
 };
 
 struct served_log {

@@ -1,6 +1,6 @@
 /*
- * served.h: the calls that a table makes with its manager, for the crowds: each with all its arguments, so that it can be
- * logged, and made again with a manager of one thread. A program defines how it serves a call, and then includes the
+ * served.h: the calls that a table makes with its manager, for the crowds: each with all its arguments, so that it can
+ * be logged, and made again with a manager of one thread. A program defines how it serves a call, and then includes the
  * table's source, whose calls are served.
  */
 #ifndef SERVED_H
