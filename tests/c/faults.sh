@@ -371,6 +371,7 @@ group-joins-as-old-as-it-is	/ group_join(/,/^}/s/own->number, own->since/own->nu
 group-joins-the-main-table-as-old-as-it-is	/ group_join_main(/,/^}/s/own->number, own->since/own->number, own->age/
 group-lets-any-sleeper-fall	/ group_settle_one(/,/^}/s/bs_suspects(&group->joined).slots/(bs_slots){ { UINT64_MAX, UINT64_MAX } }/
 group-looks-at-ages-of-tables	/ group_add_board(/,/^}/s/^    group->joined.ages\[slot\] = .*/    group->joined.ages[slot] = group->one.ages[slot];/
+group-looks-at-one-table-after-the-other	/^static void group_settle_all(bs_table_group \*group) {/,/^}/{s/^  group_take_all(group);//;s/^  group_release_all(group);//};/ group_settle_one(/,/^}/{s/^    if (\(!bs_inside_any_waits.*\)) continue;/    bool none = (bs_inside_take(t->table), \1);\n    bs_inside_release(t->table);\n    if (none) continue;/;s/^    if (\(bs_inside_end_sleep(.*)\)) return true;/    bool fell = (bs_inside_take(group->tables[table].table), \1);\n    bs_inside_release(group->tables[table].table);\n    if (fell) return true;/}
 group-frees-the-part-before-it-requests	/ group_reach(/,/^}/s/^  way->own->target = \*way->target;/&\n  bs_inside_release(t->table), sched_yield(), bs_inside_take(t->table);/
 group-visits-no-sleepers	s/^    if (!bs_inside_sleeps(t->table, slot)) continue;/    continue;/
 group-visits-no-parents	s/^    if (!group_is_marked(t, inner->above\[above\])) status = .*/    ;/
