@@ -499,7 +499,7 @@ static struct { bs_node node; bs_mode mode; } awaited[SLOTS]; /* what the slots 
 static bool has_fallen; /* the transaction of its request was condemned before */
 static uint64_t condemned, fallen; /* how many victims the tables have chosen, and the group */
 
-/* Reads who waits for whom in a table, and for what; or the first in all. */
+/* Reads who waits for whom in a table, and for what. */
 static void read_waits(uint32_t table) {
   const bs_manager *m = &managers[table];
   uint32_t slot;
@@ -512,6 +512,7 @@ static void read_waits(uint32_t table) {
   }
 }
 
+/* Reads who waits for whom in all tables. */
 static void read_all_waits(void) {
   static bs_board one;
   uint32_t table, slot;
@@ -611,7 +612,7 @@ static void note_path(const struct served *s) {
   paths[s->table][call->txn.slot].mode = call->mode;
 }
 
-/* Whether a node is above others, of which a path needs an intention alone. */
+/* Whether a node is the target of a path or a row itself. On a node above the target a request wants an intention. */
 static bool is_target(const bs_manager *m, bs_node node, bs_node target) {
   if (target.birth != 0) return same_node(node, target);
   return bs_kind(m, node).count == BS_RECORD;

@@ -21,8 +21,8 @@
 
 /* ------------------------------------------------------------------------------------------------
  * The nodes: a base, two areas, and four files: of records in one area; of rows with an index, which is in the other
- * area; of records in both areas, which gets indexes beside its records; and a spread file. A thread makes more inner
- * nodes, and other files, which are dropped.
+ * area; of records in both areas, which gets indexes beside its records; and a spread file. The threads make a few more
+ * inner nodes, and other files, most of which they drop.
  */
 
 enum { FEW_AREAS = 2, EACH = 8, BOUNDS = 2, MOST_INDEXES = 2, MOST_INTERVALS = 6, THREADS = 128 };
@@ -106,10 +106,9 @@ static void make_few(void) {
  */
 
 struct session {
-  size_t number;
   pcg dice;
   bs_txn txn;
-  uint64_t since;    /* of work whose transaction fell, its first begin; else UINT64_MAX */
+  uint64_t since;    /* of work whose transaction was a victim, its first begin; else UINT64_MAX */
   bs_group_savepoint savepoint;
   bool has_savepoint;
   bs_reply end;      /* of its ask */
@@ -439,7 +438,7 @@ static bs_reply any_command(struct session *s) {
  * Transactions.
  */
 
-/* Work whose transaction fell begins again, and keeps its turn. */
+/* Work whose transaction was a victim begins again, and keeps its turn. */
 static void begin_work(struct session *s) {
   bs_reply reply = bs_group_begin_again(group, s->since);
   struct timespec time;
@@ -457,7 +456,7 @@ static void name_work(struct session *s) {
   s->has_savepoint = false;
 }
 
-/* Makes some commands; whether the transaction fell. */
+/* Makes some commands; whether the transaction was chosen as a victim. */
 static bool work(struct session *s) {
   bs_status status = BS_DONE;
   size_t left = 1 + pick(s, 6);
@@ -611,7 +610,6 @@ static void run_all(uint64_t seed) {
   __atomic_store_n(&is_over, false, __ATOMIC_RELEASE);
   start(&clock, run_clock, group);
   for (i = 0; i < THREADS; i++) {
-    sessions[i].number = i;
     sessions[i].dice = pcg_new(seed, i);
     start(&sessions[i].thread, run_session, &sessions[i]);
   }
