@@ -1291,19 +1291,28 @@ static bs_status group_copy_sleeper(bs_table_group *group, const group_table *t,
   return status;
 }
 
+/* The same for all that sleep there. */
+static bs_status group_copy_sleepers(bs_table_group *group, const group_table *t, uint32_t number) {
+  bs_status status = BS_DONE;
+  uint32_t slot;
+  if (!bs_inside_any_waits(t->table)) return BS_DONE;
+  for (slot = 0; slot < group->most && status == BS_DONE; slot++) {
+    if (!bs_inside_sleeps(t->table, slot)) continue;
+    status = group_copy_sleeper(group, t, group_slot_at(group, slot), number);
+  }
+  return status;
+}
+
 /* Marks an inner node in a part, whose latch is held too, after all that others have there was copied. From then on no
  * transaction rests there. */
 static bs_status group_visit(bs_table_group *group, group_table *t, const group_inner *inner) {
   bs_status status = bs_inside_end_resting(t->table);
-  uint32_t above, slot;
+  uint32_t above;
   for (above = 0; above < inner->above_count && status == BS_DONE; above++) {
     if (!group_is_marked(t, inner->above[above])) status = group_copy_holders(group, t, inner->above[above]);
   }
   if (status == BS_DONE) status = group_copy_holders(group, t, inner->number);
-  for (slot = 0; slot < group->most && status == BS_DONE; slot++) {
-    if (!bs_inside_sleeps(t->table, slot)) continue;
-    status = group_copy_sleeper(group, t, group_slot_at(group, slot), inner->number);
-  }
+  if (status == BS_DONE) status = group_copy_sleepers(group, t, inner->number);
   if (status == BS_DONE) group_mark(group, t, inner->number, true);
   return status;
 }

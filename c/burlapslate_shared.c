@@ -2612,13 +2612,13 @@ bool bs_inside_any_waits(const bs_table *table) {
   return any != 0;
 }
 
-/* The wait is cancelled as one whose time is over, which wakes others in the same way. */
 /* How a wait counts that its group has ended with this status. */
 static enum bs_wait_ends table_counts_as(bs_status status) {
   if (status == BS_VICTIM) return BS_END_VICTIM;
   return status == BS_TIMED_OUT ? BS_END_TIMED_OUT : BS_END_CANCELLED;
 }
 
+/* The wait is cancelled as one whose time is over, which wakes others in the same way. */
 bool bs_inside_end_sleep(bs_table *table, uint32_t slot, bs_status status) {
   table_waiter *waiter = table->waiters[slot];
   bs_reply end;
