@@ -20,7 +20,9 @@
  *     no request for more is in progress, which may wait for a node above it;
  *   - if it is marked, who holds it in the part holds at least that in the main table, and who waits in the part for
  *     something below it has there the intention that its path needs.
- * group_reach, before a request in a part, and group_visit, before a request for more in the main table, see to that.
+ * group_reach, before a request in a part, and group_visit, before a request for more in the main table, see to that. Marks
+ * stay until the next path in the part clears them: so the next request for more visits no part where nothing was locked
+ * meanwhile.
  *
  * VISITORS act in the main table for others, with the latch of a part where these hold something or sleep: they join it
  * for them and copy their locks. A transaction looks at its end whether it is in the main table, after it has left its
@@ -96,7 +98,7 @@ typedef struct group_place {
   group_inner *inner;
 } group_place;
 
-/* A table of a group. `at`, `numbers`, `keep` and `dealt` are read and written with its latch. */
+/* A table of a group. `at`, `numbers`, `keep`, `cleared` and `dealt` are read and written with its latch. */
 typedef struct group_table {
   bs_table *table;
   bs_manager *manager;
@@ -109,6 +111,7 @@ typedef struct group_table {
   uint32_t keep;        /* how many intentions a commit keeps at most */
   uint32_t count, room; /* of inner nodes; the room is a power of two */
   uint32_t number;
+  uint64_t cleared;     /* what `over` of the group was as the marks were last cleared */
   uint64_t dealt;       /* bit b: a spread file has a file here whose key has the remainder b by 64 */
 } __attribute__((aligned(GROUP_LINE))) group_table;
 
@@ -220,8 +223,8 @@ struct bs_table_group {
   void *slots_block;
   void (*on_end)(void *context, bs_txn txn, bs_reply end, void *word); /* atomic; null before it is given */
   void *context;            /* written before it */
+  uint64_t over;            /* atomic, and written with the main table's latch: how often marks may have become clear */
   uint64_t *seen;           /* with the main table's latch, as up to `faults`: bits by number, none between two uses */
-  uint32_t *strong;         /* numbers */
   uint64_t faults;          /* how many copies were not granted at once: by the laws there is none */
   bs_board joined, one;     /* with all latches: of a look */
   uint64_t condemned;       /* atomic: how many fell to end deadlocks over several tables */
@@ -507,7 +510,6 @@ static void group_free_group(bs_table_group *group) {
   group_free_rolls(group);
   group_free_places_of_slots(group);
   free(group->seen);
-  free(group->strong);
   free(group->slots_block);
   free(group->block);
 }
@@ -688,19 +690,11 @@ static bool group_make_scratch(bs_table_group *group) {
   const group_table *main = &group->tables[0];
   uint32_t room = main->room == 0 ? GROUP_FIRST_ROOM : 2 * main->room;
   uint64_t *seen;
-  uint32_t *strong;
   if (main->count < main->room) return true;
   seen = (uint64_t *)group_zero((room + 63) / 64 * sizeof *seen);
-  strong = (uint32_t *)group_zero(room * sizeof *strong);
-  if (seen == NULL || strong == NULL) {
-    free(seen);
-    free(strong);
-    return false;
-  }
+  if (seen == NULL) return false;
   free(group->seen);
-  free(group->strong);
   group->seen = seen;
-  group->strong = strong;
   return true;
 }
 
@@ -1179,6 +1173,39 @@ static GROUP_APART bs_reply group_reach_by_main(group_way *way) {
   return group_leave(main, reply);
 }
 
+/* Clears the marks of a part that may be cleared. No latch is held. */
+static GROUP_APART void group_clear(bs_table_group *group, group_table *t) {
+  const group_table *main = &group->tables[0];
+  uint32_t place = 0;
+  bs_inside_take(main->table);
+  bs_inside_take(t->table);
+  t->cleared = group->over;
+  while (place < t->marks) {
+    bs_node node = t->marks_at[place].node;
+    const group_inner *inner = group_inner_of(main, node);
+    if (bs_may_clear(main->manager, node, inner->in_progress).count == 0) place++;
+    else group_mark(group, t, inner->number, false);
+  }
+  bs_inside_release(t->table);
+  bs_inside_release(main->table);
+}
+
+/* As group_reach, up to the join, in a part that has marks, whose latch is held: first clears those that may be cleared,
+ * if there may be such. */
+static GROUP_APART bool group_reach_marked(group_way *way, bs_reply *why) {
+  group_table *t = way->part;
+  if (t->cleared != __atomic_load_n(&way->group->over, __ATOMIC_RELAXED)) {
+    bs_inside_release(t->table);
+    group_clear(way->group, t);
+    *why = group_only(BS_NO_MANAGER);
+    if (!bs_inside_enter(t->table)) return false;
+  }
+  if (t->marks == 0 || group_lacks(way).status == BS_NO_PLACE) return true;
+  bs_inside_release(t->table);
+  *why = group_reach_by_main(way);
+  return why->status == BS_DONE;
+}
+
 /* Before a request in a part: acquires in the main table what it needs there, and joins the part. If that is done, the
  * part's latch is held; else no latch is, and the answer is in `why`. */
 static inline bool group_reach(group_way *way, bs_reply *why) {
@@ -1188,11 +1215,7 @@ static inline bool group_reach(group_way *way, bs_reply *why) {
     *why = group_only(BS_NO_MANAGER);
     return false;
   }
-  if (__builtin_expect(t->marks != 0, 0) && group_lacks(way).status != BS_NO_PLACE) {
-    bs_inside_release(t->table);
-    *why = group_reach_by_main(way);
-    if (why->status != BS_DONE) return false;
-  }
+  if (__builtin_expect(t->marks != 0, 0) && !group_reach_marked(way, why)) return false;
   way->own->target = *way->target;
   status = group_join(way->own, t);
   if (status != BS_DONE) *why = group_leave(t, group_only(status));
@@ -1332,20 +1355,9 @@ static bs_status group_visit_all(bs_table_group *group, const group_inner *inner
   return BS_DONE;
 }
 
-/* Clears the marks of those of these inner nodes for which they may be cleared. */
-static void group_clear(bs_table_group *group, uint32_t *numbers, uint32_t count) {
-  const group_table *main = &group->tables[0];
-  uint32_t i, clear = 0, part;
-  for (i = 0; i < count; i++) {
-    const group_place *at = &main->at[numbers[i]];
-    if (bs_may_clear(main->manager, at->node, at->inner->in_progress).count != 0) numbers[clear++] = numbers[i];
-  }
-  for (part = 1; clear > 0 && part <= group->parts; part++) {
-    group_table *t = &group->tables[part];
-    bs_inside_take(t->table);
-    for (i = 0; i < clear; i++) group_mark(group, t, numbers[i], false);
-    bs_inside_release(t->table);
-  }
+/* A lock or a request of more than an intention is over: marks may be cleared. The next path in each part does that. */
+static void group_more_is_over(bs_table_group *group) {
+  __atomic_store_n(&group->over, group->over + 1, __ATOMIC_RELAXED);
 }
 
 /* ------------------------------------------------------------------------------------------------
@@ -1354,9 +1366,8 @@ static void group_clear(bs_table_group *group, uint32_t *numbers, uint32_t count
 
 /* A request for more than an intention on an inner node has ended so. */
 static void group_more_ended(bs_table_group *group, group_inner *inner, bs_status status) {
-  uint32_t number = inner->number;
   inner->in_progress--;
-  if (status != BS_DONE) group_clear(group, &number, 1);
+  if (status != BS_DONE) group_more_is_over(group);
 }
 
 /* Requests more than an intention on an inner node. One that waits by an ask stays in progress. */
@@ -1396,28 +1407,23 @@ static bs_reply group_lock_inner(bs_table_group *group, group_slot *own, bs_node
  * The ends of transactions.
  */
 
-/* Collects the inner nodes on which a transaction has more than an intention in the main table; how many they are. */
-static uint32_t group_find_strong(bs_table_group *group, bs_txn main_txn) {
-  const group_table *main = &group->tables[0];
-  uint64_t locks = bs_lock_count(main->manager, main_txn).count, place;
-  uint32_t count = 0;
-  for (place = 0; place < locks; place++) {
-    bs_reply lock = bs_lock_at(main->manager, main_txn, (size_t)place);
-    if (lock.status == BS_DONE && lock.mode > BS_IX) group->strong[count++] = group_inner_of(main, lock.node)->number;
-  }
-  return count;
+/* Whether a transaction has more than an intention on an inner node in the main table. */
+static bool group_has_more(const group_table *main, bs_txn main_txn) {
+  uint64_t locks = bs_lock_count(main->manager, main_txn).count, place = 0;
+  while (place < locks && bs_lock_at(main->manager, main_txn, (size_t)place).mode <= BS_IX) place++;
+  return place < locks;
 }
 
 /* Ends a transaction in the main table, after it has ended in all parts. */
 static GROUP_APART bs_status group_end_in_main(bs_table_group *group, group_slot *own, bool commits) {
   group_table *main = &group->tables[0];
-  uint32_t strong;
+  bool has_more;
   bs_reply reply;
   if (!bs_inside_enter(main->table)) return BS_NO_MANAGER;
   reply = bs_living(main->manager, own->number);
-  strong = group_find_strong(group, reply.txn);
+  has_more = group_has_more(main, reply.txn);
   reply = (commits ? bs_inside_commit : bs_inside_abort)(main->table, reply.txn);
-  group_clear(group, group->strong, strong);
+  if (has_more) group_more_is_over(group);
   bs_inside_release(main->table);
   return reply.status;
 }

@@ -364,7 +364,7 @@ a-session-s-list-has-what-others-renewed	/ table_run_in_session(/,/^}/s/^    if 
 a-session-s-list-takes-nothing-up	/ table_session_goes_on(/,/^}/s/^  if (table_session_wakes(table, session)) .*//
 a-session-s-list-begins-another	/ table_session_goes_on(/,/^}/s/  if (!table_lives(table, session->txn)) return/  return/
 a-session-s-list-wakes-nobody	/ table_session_commit(/,/^}/s/^  table_wake(.*//
-group-unmarks-under-a-request	s/, at->inner->in_progress).count/, 0).count/
+group-unmarks-under-a-request	s/, inner->in_progress).count/, 0).count/
 group-takes-latches-downward	/ group_take_all(/,/^}/s/number = 0; number <= group->parts; number++/number = group->parts; number <= group->parts; number--/
 group-visits-all-parts-but-one	/ group_visit_all(/,/^}/s/part <= group->parts/part < group->parts/
 group-joins-as-old-as-it-is	/ group_join(/,/^}/s/own->number, own->since/own->number, own->age/
@@ -380,7 +380,9 @@ group-looks-never	s/^  while (group_settle_one(group)) continue;//
 group-forgets-who-fell	s/^  if (__builtin_expect(reply.status == BS_VICTIM, 0)) group_falls(own);//
 group-sees-no-marks	s/^  if (__builtin_expect(t->marks != 0, 0) \&\& /  if (false \&\& /
 group-needs-nothing-above-an-index	s/^  target.rows = 1;/  target.rows = 0;/
-group-marks-stay	/ group_end_in_main(/,/^}/s/^  group_clear(.*//
+group-marks-stay	/ group_end_in_main(/,/^}/s/^  if (has_more) .*//
+group-clears-any-mark	/ group_clear(/,/^}/s/if (bs_may_clear(.*) place++;/if (inner == NULL) place++;/
+group-clears-marks-never	/ group_reach_marked(/,/^}/s/^    group_clear(.*//
 group-frees-a-slot-early	/ group_end_txn(/,/^}/s/^  bs_status status = group_end_in_all/  bs_status status = (__atomic_store_n(\&own->is_taken, false, __ATOMIC_RELEASE), BS_DONE) + group_end_in_all/
 group-rests-beside-a-mark	/ group_end_in(/,/^}/s/t->marks_at, t->marks)/t->marks_at, 0)/
 group-visits-end-none-who-rests	/ group_visit(/,/^}/s/bs_inside_end_resting(t->table)/BS_DONE/
@@ -398,7 +400,7 @@ group-escalates-not-past-who-rests	/^bs_reply bs_inside_escalate(/,/^}/s/table_d
 group-wakes-nobody-by-what-it-keeps	/^bs_reply bs_inside_commit_and_rest(/,/^}/s/table_wake_after(table, reply, false)/reply/
 group-tries-keep-the-way	/ group_tries(/,/^}/s/^  manner.keep = keep;/  manner.keep = BS_KEEP_WAY;/
 group-tries-sleep	/ group_tries(/,/^}/s/NULL, false,/NULL, true,/
-group-refused-requests-leave-marks	/ group_more_ended(/,/^}/s/^  if (status != BS_DONE) group_clear(.*//
+group-refused-requests-leave-marks	/ group_more_ended(/,/^}/s/^  if (status != BS_DONE) .*//
 group-new-indexes-end-no-sleep	/ group_indexed(/,/^}/s/^    if (end != BS_DONE) .*//
 group-new-indexes-end-no-path	/ group_indexed(/,/^}/s/^    if (end != BS_DONE) /    if (end == BS_BAD_KEYS) /
 group-new-indexes-end-each-path	/ group_indexed(/,/^}/s/^    if (end != BS_DONE) bs_inside_end_sleep(t->table, slot, end)/    bs_inside_end_sleep(t->table, slot, end == BS_DONE ? BS_MOVED : end)/

@@ -93,9 +93,10 @@ static inline void want_rules(bs_table_group *group) {
   group_release_all(group);
 }
 
-/* How many inner nodes a part is marked for. */
+/* How many inner nodes a part is marked for, after what may be cleared was. */
 static inline uint32_t marks_in(bs_table_group *group, uint32_t part) {
   uint32_t marks;
+  if (part != 0) group_clear(group, &group->tables[part]);
   bs_inside_take(group->tables[part].table);
   marks = group->tables[part].marks;
   bs_inside_release(group->tables[part].table);
