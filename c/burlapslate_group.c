@@ -178,7 +178,6 @@ typedef struct group_ask {
 /* A begin that was asked for, until it ends. What is written after it is in the list is used with the list's latch. */
 typedef struct group_asked_begin {
   struct group_asked_begin *next, *before;
-  bs_table_group *group;
   void *word;
   uint64_t since;
   struct timespec until;
@@ -3160,10 +3159,9 @@ static void group_turn_ended(void *context, bs_txn txn, bs_reply end, void *word
 }
 
 /* A begin that is asked for; null if memory is refused. */
-static group_asked_begin *group_new_begin(bs_table_group *group, uint64_t since, const struct timespec *until, void *word) {
+static group_asked_begin *group_new_begin(uint64_t since, const struct timespec *until, void *word) {
   group_asked_begin *begin = (group_asked_begin *)group_zero(sizeof *begin);
   if (begin == NULL) return NULL;
-  begin->group = group;
   begin->word = word;
   begin->since = since;
   begin->has_time = until != NULL;
@@ -3173,7 +3171,7 @@ static group_asked_begin *group_new_begin(bs_table_group *group, uint64_t since,
 
 /* Asks for a begin in its turn. */
 static bs_reply group_ask_in_turn(bs_table_group *group, uint64_t since, const struct timespec *until, void *word) {
-  group_asked_begin *begin = group_new_begin(group, since, until, word);
+  group_asked_begin *begin = group_new_begin(since, until, word);
   bs_reply reply = group_only(begin == NULL ? BS_NO_MEMORY : group_make_turns(group));
   if (reply.status != BS_DONE) {
     free(begin);

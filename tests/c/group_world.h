@@ -93,14 +93,19 @@ static inline void want_rules(bs_table_group *group) {
   group_release_all(group);
 }
 
-/* How many inner nodes a part is marked for, after what may be cleared was. */
-static inline uint32_t marks_in(bs_table_group *group, uint32_t part) {
+/* How many inner nodes a part is marked for. */
+static inline uint32_t marks_left_in(bs_table_group *group, uint32_t part) {
   uint32_t marks;
-  if (part != 0) group_clear(group, &group->tables[part]);
   bs_inside_take(group->tables[part].table);
   marks = group->tables[part].marks;
   bs_inside_release(group->tables[part].table);
   return marks;
+}
+
+/* The same after all were cleared that may be. */
+static inline uint32_t marks_in(bs_table_group *group, uint32_t part) {
+  if (part != 0) group_clear(group, &group->tables[part]);
+  return marks_left_in(group, part);
 }
 
 static uint32_t world_keeps; /* how many intentions the group keeps */

@@ -1285,6 +1285,33 @@ static void times_leave_no_marks(void) {
   want_rest(group);
 }
 
+/* The next path in a part clears its marks, whether a strong lock has ended or was not granted, and no others. */
+static void paths_clear_marks(void) {
+  bs_txn writer = begun(), strong = begun(), other = begun();
+  DONE(lock_path(writer, records[1][0], BS_X));
+  ANSWERS(BS_TIMED_OUT, lock_for(strong, base, BS_S, 5));
+  WANT(marks_left_in(group, 1) == 1 && marks_left_in(group, 2) == 1);
+  DONE(lock_path(other, records[1][1], BS_X));
+  WANT(marks_left_in(group, 1) == 0 && marks_left_in(group, 2) == 1 && held_in(group, 0, other, base) == BS_NL);
+  ANSWERS(BS_WOULD_BLOCK, bs_group_try_path(group, strong, base, BS_S, BS_KEEP_WAY));
+  DONE(lock_path(strong, areas[2], BS_S));
+  WANT(marks_left_in(group, 1) == 2);
+  DONE(lock_path(other, records[1][2], BS_X));
+  WANT(marks_left_in(group, 1) == 1 && group_is_marked(&group->tables[1], 1 + 2));
+  want_rules(group);
+  commit(strong);
+  WANT(marks_left_in(group, 1) == 1);
+  commit(other);
+  commit(writer);
+  other = begun();
+  DONE(lock_path(other, records[1][0], BS_S));
+  WANT(marks_left_in(group, 1) == 0 && marks_left_in(group, 2) == 2);
+  DONE(bs_group_insert(group, other, files[2], NULL, 0));
+  WANT(marks_left_in(group, 2) == 0);
+  commit(other);
+  want_rest(group);
+}
+
 /* Of two that wait for each other in two parts, the younger falls. */
 static void cycles_over_parts_end(void) {
   bs_txn old = begun(), young = begun();
@@ -2785,7 +2812,7 @@ static const struct {
   STORY(paths_to_records_begin_anew),
   STORY(changes_end_waits), STORY_ALONE(savepoints_are_of_parts), STORY(counters_are_summed),
   STORY(marks_stay_for_requests_above),
-  STORY(times_leave_no_marks), STORY(cycles_over_parts_end), STORY(cycles_over_main_end), STORY(one_of_a_cycle_falls),
+  STORY(times_leave_no_marks), STORY(paths_clear_marks), STORY(cycles_over_parts_end), STORY(cycles_over_main_end), STORY(one_of_a_cycle_falls),
   STORY(cycles_of_one_table_end), STORY_ALONE(what_rests_is_taken_up),
   STORY_ALONE(what_is_released_does_not_rest),
   STORY_ALONE(each_part_has_what_rests), STORY_ALONE(only_intentions_rest),

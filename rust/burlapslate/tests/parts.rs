@@ -1305,7 +1305,7 @@ const THREADS: usize = 16;
 const ROUNDS: usize = 150;
 const CELLS: usize = 2 * FILES + 8;
 
-/// Who has each record and each of eight rows: so many read it, or -1: one writes it.
+/// The holders of each record and each of eight rows: how many read it, or -1 if one writes it.
 struct Cells([AtomicI32; CELLS]);
 
 impl Cells {
@@ -1435,7 +1435,7 @@ fn threads_never_hold_what_conflicts() {
     assert!(cells.0.iter().all(|cell| cell.load(Ordering::SeqCst) == 0));
 }
 
-/// Who has only a name may cancel a wait and ask; a session's transaction is never ended by that.
+/// By its name alone a transaction has its waits cancelled and is asked about, and is never ended.
 #[test]
 fn others_have_the_names() {
     let s = &Store::with(4, 5);
