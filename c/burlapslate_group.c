@@ -20,9 +20,8 @@
  *     no request for more is in progress, which may wait for a node above it;
  *   - if it is marked, who holds it in the part holds at least that in the main table, and who waits in the part for
  *     something below it has there the intention that its path needs.
- * group_reach, before a request in a part, and group_visit, before a request for more in the main table, see to that. Marks
- * stay until the next path in the part clears them: so the next request for more visits no part where nothing was locked
- * meanwhile.
+ * group_reach, before a request in a part, and group_visit, before a request for more in the main table, see to that. In a
+ * part that is not used marks stay until the next path there clears them: so the next request for more does not visit it.
  *
  * VISITORS act in the main table for others, with the latch of a part where these hold something or sleep: they join it
  * for them and copy their locks. A transaction looks at its end whether it is in the main table, after it has left its
@@ -98,7 +97,7 @@ typedef struct group_place {
   group_inner *inner;
 } group_place;
 
-/* A table of a group. `at`, `numbers`, `keep`, `cleared` and `dealt` are read and written with its latch. */
+/* A table of a group. `at`, `numbers`, `keep`, `cleared`, `accepted` and `dealt` are read and written with its latch. */
 typedef struct group_table {
   bs_table *table;
   bs_manager *manager;
@@ -112,6 +111,8 @@ typedef struct group_table {
   uint32_t count, room; /* of inner nodes; the room is a power of two */
   uint32_t number;
   uint64_t cleared;     /* what `over` of the group was as the marks were last cleared */
+  uint64_t accepted;    /* how many commands had been accepted as a visitor last came */
+  bool is_used;         /* some were since the visit before; read and written with the main table's latch */
   uint64_t dealt;       /* bit b: a spread file has a file here whose key has the remainder b by 64 */
 } __attribute__((aligned(GROUP_LINE))) group_table;
 
@@ -1172,11 +1173,10 @@ static GROUP_APART bs_reply group_reach_by_main(group_way *way) {
   return group_leave(main, reply);
 }
 
-/* Clears the marks of a part that may be cleared. No latch is held. */
-static GROUP_APART void group_clear(bs_table_group *group, group_table *t) {
+/* Clears the marks of a part that may be cleared, with the main table's latch held. */
+static void group_clear_in(bs_table_group *group, group_table *t) {
   const group_table *main = &group->tables[0];
   uint32_t place = 0;
-  bs_inside_take(main->table);
   bs_inside_take(t->table);
   t->cleared = group->over;
   while (place < t->marks) {
@@ -1186,7 +1186,14 @@ static GROUP_APART void group_clear(bs_table_group *group, group_table *t) {
     else group_mark(group, t, inner->number, false);
   }
   bs_inside_release(t->table);
-  bs_inside_release(main->table);
+}
+
+/* The same with no latch held. */
+static GROUP_APART void group_clear(bs_table_group *group, group_table *t) {
+  bs_table *main = group->tables[0].table;
+  bs_inside_take(main);
+  group_clear_in(group, t);
+  bs_inside_release(main);
 }
 
 /* As group_reach, up to the join, in a part that has marks, whose latch is held: first clears those that may be cleared,
@@ -1328,8 +1335,11 @@ static bs_status group_copy_sleepers(bs_table_group *group, const group_table *t
 /* Marks an inner node in a part, whose latch is held too, after all that others have there was copied. From then on no
  * transaction rests there. */
 static bs_status group_visit(bs_table_group *group, group_table *t, const group_inner *inner) {
+  uint64_t accepted = bs_call_accepted(t->manager).count;
   bs_status status = bs_inside_end_resting(t->table);
   uint32_t above;
+  t->is_used = accepted != t->accepted;
+  t->accepted = accepted;
   for (above = 0; above < inner->above_count && status == BS_DONE; above++) {
     if (!group_is_marked(t, inner->above[above])) status = group_copy_holders(group, t, inner->above[above]);
   }
@@ -1354,9 +1364,14 @@ static bs_status group_visit_all(bs_table_group *group, const group_inner *inner
   return BS_DONE;
 }
 
-/* A lock or a request of more than an intention is over: marks may be cleared. The next path in each part does that. */
+/* A lock or a request of more than an intention is over: clears marks of the parts that are used. In the others the next
+ * path does that. */
 static void group_more_is_over(bs_table_group *group) {
+  uint32_t part;
   __atomic_store_n(&group->over, group->over + 1, __ATOMIC_RELAXED);
+  for (part = 1; part <= group->parts; part++) {
+    if (group->tables[part].is_used) group_clear_in(group, &group->tables[part]);
+  }
 }
 
 /* ------------------------------------------------------------------------------------------------

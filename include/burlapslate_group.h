@@ -9,9 +9,9 @@
  * A lock on a file or below it is made in its part alone, with the intentions above it. More than an intention on an
  * inner node (BS_S, BS_SIX, BS_X) is requested in the main table, after a visit of each part: from then on, until the
  * last such lock of the node is over, who locks below it acquires the intention in the main table first. So such a lock
- * costs a visit of each part where something was locked since the one before, and as long as it lasts each transaction
- * that comes below it costs a call of the main table more, which takes memory if more than 32 nodes are above. After it
- * the first path in each part costs the main table's latch. It is for what is rare: a backup, a change of the schema.
+ * costs two visits of each part that was used since the one before, and as long as it lasts each transaction that comes
+ * below it costs a call of the main table more, which takes memory if more than 32 nodes are above. After it the first
+ * path in a part that was not used costs the main table's latch. It is for what is rare: a backup, a change of the schema.
  * What is locked below conflicts with it as in one table; a group is one lock manager, with the rules of burlapslate.h.
  * Two things differ. To read by a node that has several inner nodes as parents, a transaction needs the first of them,
  * also if it has BS_S or more on another. And a lock of an inner node in BS_IS or BS_IX is made in the main table: none

@@ -381,7 +381,8 @@ group-forgets-who-fell	s/^  if (__builtin_expect(reply.status == BS_VICTIM, 0)) 
 group-sees-no-marks	s/^  if (__builtin_expect(t->marks != 0, 0) \&\& /  if (false \&\& /
 group-needs-nothing-above-an-index	s/^  target.rows = 1;/  target.rows = 0;/
 group-marks-stay	/ group_end_in_main(/,/^}/s/^  if (has_more) .*//
-group-clears-any-mark	/ group_clear(/,/^}/s/if (bs_may_clear(.*) place++;/if (inner == NULL) place++;/
+group-clears-any-mark	/ group_clear_in(/,/^}/s/if (bs_may_clear(.*) place++;/if (inner == NULL) place++;/
+group-clears-marks-of-no-used-part	/ group_more_is_over(/,/^}/s/^    if (group->tables\[part\].is_used) .*/    ;/
 group-clears-marks-never	/ group_reach_marked(/,/^}/s/^    group_clear(.*//
 group-frees-a-slot-early	/ group_end_txn(/,/^}/s/^  bs_status status = group_end_in_all/  bs_status status = (__atomic_store_n(\&own->is_taken, false, __ATOMIC_RELEASE), BS_DONE) + group_end_in_all/
 group-rests-beside-a-mark	/ group_end_in(/,/^}/s/t->marks_at, t->marks)/t->marks_at, 0)/

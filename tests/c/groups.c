@@ -1285,17 +1285,21 @@ static void times_leave_no_marks(void) {
   want_rest(group);
 }
 
-/* The next path in a part clears its marks, whether a strong lock has ended or was not granted, and no others. */
+/* The end of a strong lock, or of a request for one, clears the marks of the parts that were used since the one before. In
+ * another the next path clears those that may be, and no others. */
 static void paths_clear_marks(void) {
   bs_txn writer = begun(), strong = begun(), other = begun();
   DONE(lock_path(writer, records[1][0], BS_X));
+  ANSWERS(BS_TIMED_OUT, lock_for(strong, base, BS_S, 5));
+  WANT(marks_left_in(group, 1) == 0 && marks_left_in(group, 2) == 0);
   ANSWERS(BS_TIMED_OUT, lock_for(strong, base, BS_S, 5));
   WANT(marks_left_in(group, 1) == 1 && marks_left_in(group, 2) == 1);
   DONE(lock_path(other, records[1][1], BS_X));
   WANT(marks_left_in(group, 1) == 0 && marks_left_in(group, 2) == 1 && held_in(group, 0, other, base) == BS_NL);
   ANSWERS(BS_WOULD_BLOCK, bs_group_try_path(group, strong, base, BS_S, BS_KEEP_WAY));
+  WANT(marks_left_in(group, 1) == 0 && marks_left_in(group, 2) == 1);
   DONE(lock_path(strong, areas[2], BS_S));
-  WANT(marks_left_in(group, 1) == 2);
+  WANT(marks_left_in(group, 1) == 1 && marks_left_in(group, 2) == 2);
   DONE(lock_path(other, records[1][2], BS_X));
   WANT(marks_left_in(group, 1) == 1 && group_is_marked(&group->tables[1], 1 + 2));
   want_rules(group);
