@@ -169,8 +169,8 @@ typedef struct group_ask {
   size_t count, room;
   bool has_ended;         /* it is a list's, and came to this end */
   bs_reply end;
-  bool is_told;           /* it is a list's, whose end the callback is told, since it was asked for */
-  bool is_limited;        /* and whose wait ends at a time, if bs_group_expire is called then */
+  bool is_told;           /* it is a list's, whose end the callback is told or was, since it was asked for */
+  bool is_limited;        /* it still waits, and its wait ends at a time, if bs_group_expire is called then */
   struct timespec limit;
   pthread_mutex_t latch;
   pthread_cond_t ended;
@@ -2367,6 +2367,7 @@ static bool group_write_ask(bs_table_group *group, group_slot *own, const bs_com
   ask->is_list = is_list;
   ask->has_ended = false;
   ask->is_told = false;
+  ask->is_limited = false;
   pthread_mutex_unlock(&ask->latch);
   return true;
 }
@@ -2448,7 +2449,7 @@ static bool group_is_told(group_ask *ask, bs_reply end, void **word) {
   is_told = ask->is_told || !ask->is_list;
   *word = ask->word;
   if (!is_told) group_end_list(ask, end);
-  ask->is_told = false;
+  ask->is_limited = false;
   pthread_mutex_unlock(&ask->latch);
   return is_told;
 }
@@ -2560,11 +2561,11 @@ static bs_status group_expire_in(bs_table *table, bs_reply *all, struct timespec
   return one.status;
 }
 
-/* Whether the end of what a list left waiting was asked for up to a time, which is written into `limit`. */
+/* Whether what a list left waiting still waits, and its end was asked for up to a time, which is written into `limit`. */
 static bool group_is_limited(group_ask *ask, struct timespec *limit) {
   bool is_limited;
   pthread_mutex_lock(&ask->latch);
-  is_limited = ask->is_told && ask->is_limited;
+  is_limited = ask->is_limited;
   if (is_limited) *limit = ask->limit;
   pthread_mutex_unlock(&ask->latch);
   return is_limited;
