@@ -2899,19 +2899,18 @@ bs_reply bs_inside_session_commit(bs_session *session) {
   return reply;
 }
 
-/* Ends what rests for a slot, unless a transaction has it by now. */
+/* Ends what rests for a slot, whoever has it by now: others may do so at any time. */
 static void group_end_rests(bs_table_group *group, uint32_t slot) {
-  group_slot *own;
-  if (slot >= group->most || !group_takes(group, slot)) return;
-  own = group_slot_at(group, slot);
-  for (; own->resting != 0; own->resting &= own->resting - 1) {
-    const group_table *t = &group->tables[__builtin_ctzll(own->resting)];
-    bs_txn rests = { slot, own->kept[t->number].age };
-    if (!bs_inside_enter(t->table)) break;
-    if (bs_call_wake(t->manager, rests).status == BS_DONE) bs_inside_commit(t->table, rests);
+  uint32_t part;
+  for (part = 1; part <= group->parts; part++) {
+    const group_table *t = &group->tables[part];
+    if (!bs_inside_enter(t->table)) return;
+    if (bs_has(bs_call_resting(t->manager).slots, slot)) {
+      bs_txn rests = bs_living(t->manager, slot).txn;
+      if (bs_call_wake(t->manager, rests).status == BS_DONE) bs_inside_commit(t->table, rests);
+    }
     bs_inside_release(t->table);
   }
-  group_free_slot(group, own);
 }
 
 bs_reply bs_inside_session_end(bs_session *session) {
