@@ -2779,13 +2779,14 @@ static bs_reply group_await_end(group_ask *ask, const struct timespec *until) {
 bs_reply bs_group_await(bs_table_group *group, bs_txn txn, const struct timespec *until) {
   bs_status status = group != NULL && !bs_inside_is_time(until) ? BS_BAD_NUMBER : group_shut_to_sleep(group);
   group_slot *own;
-  bool is_limited;
+  bool waits, is_limited;
   if (status != BS_DONE) return group_only(status);
   own = group_named(group, txn);
   if (own == NULL) return group_only(BS_NO_SUCH_TXN);
   if (own->ask == NULL || !own->ask->is_list || own->ask->age != txn.age) return group_only(BS_NOT_WAITING);
-  if (!group_asks(own) && !own->ask->has_ended) return group_only(BS_NOT_WAITING);
-  if (!own->ask->has_ended && own->ask->is_told) return group_only(BS_IN_USE);
+  waits = group_asks(own);
+  if (!waits && !own->ask->has_ended) return group_only(BS_NOT_WAITING);
+  if (waits && own->ask->is_told) return group_only(BS_IN_USE);
   is_limited = own->has_deadline && (until == NULL || group_is_before(&own->deadline, until));
   return group_await_end(own->ask, is_limited ? &own->deadline : until);
 }

@@ -457,7 +457,7 @@ group-notes-no-second-table	/ group_join(/,/^}/s/is_spread, true/is_spread, fals
 group-settles-nothing	/^bs_reply bs_group_settle(/,/^}/s/^  if (status == BS_DONE) group_settle_all(group);//
 group-keeps-ends-that-were-asked-for	/^static bool group_is_told(/,/^}/s/ask->is_told || //
 group-asks-for-an-end-twice	/^bs_reply bs_group_ask_await(/,/^}/s/ \&\& !ask->is_told//
-group-awaits-what-is-told	/^bs_reply bs_group_await(/,/^}/s/^  if (!own->ask->has_ended .*//
+group-awaits-what-is-told	/^bs_reply bs_group_await(/,/^}/s/^  if (waits .*//
 group-tells-with-latches	/ group_settle_all(/,/^}/s/^  bs_inside_keep_ends(&ends);/  ends.first = NULL;/
 group-tells-with-the-latch-of-a-part	/ group_reach_by_main(/,/^}/s/^    bs_inside_tell(main->table);//
 group-goes-on-for-who-has-ended	/ group_still_lives(/,/^}/s/^  return .*/  return way != NULL;/

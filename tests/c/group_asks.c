@@ -518,12 +518,14 @@ static void end_caller_in_callback(bs_txn txn) {
 }
 
 static void callers_are_ended_by_callbacks(void) {
-  bs_txn victim;
+  bs_txn victim, user;
   callback_caller = DONE(bs_group_begin_again(group, 0)).txn;
   callback_holder = DONE(bs_group_begin_again(group, 1)).txn;
   victim = begun();
   listen();
   DONE(lock_path(callback_holder, areas[1], BS_S));
+  DONE(lock_path(user = begun(), records[2][1], BS_S)); /* so the part is used, and its marks do not stay */
+  commit(user);
   DONE(lock_path(callback_caller, areas[2], BS_X));
   waits_for(ask(victim, areas[1], BS_X), victim, areas[1]);
   waits_for(ask(callback_holder, areas[2], BS_S), callback_holder, areas[2]);
