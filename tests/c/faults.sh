@@ -204,7 +204,7 @@ metrics-continue-after-a-failure	/^static void metrics_flush(/,/^}/s/!to->has_fa
 metrics-hide-a-failure	s/to.has_failed ? BS_NOT_WRITTEN : BS_DONE/BS_DONE/
 metrics-buckets-do-not-add-up	/^static void metrics_put_histogram(/,/^}/s/^    count += histogram->buckets\[i\];/    count = histogram->buckets[i];/
 metrics-are-cancelled	/^bs_reply bs_table_metrics(/,/^}/s/PTHREAD_CANCEL_DISABLE/PTHREAD_CANCEL_ENABLE/
-metrics-are-written-under-the-latch	/^bs_reply bs_table_metrics(/,/^}/{s/^  bs_table_let_go(table);//;s/^  metrics_flush(&to);/&\n  bs_table_let_go(table);/}
+metrics-are-written-under-the-latch	/ metrics_copy_of(/,/^}/s/^  bs_table_let_go(table);//;/^bs_reply bs_table_metrics(/,/^}/s/^  metrics_flush(&to);/&\n  bs_table_let_go(table);/
 trace-tells-nobody	/^static void trace_say_many(/,/^}/s/told == NULL ? 0 : told->count/0/
 trace-leaves-one-notice-out	/^static void trace_say_many(/,/^}/s/told == NULL ? 0 : told->count/told == NULL || told->count == 0 ? 0 : told->count - 1/
 trace-says-a-command-twice	/^static bs_reply trace_end(/,/^}/s/^  if (trace_is_accepted(reply.status)) trace_say(.*/&\n&/
