@@ -19,5 +19,7 @@ mod OldWays
 mod Adopting
 mod BesideRecords
 mod NewIndexes
+mod Moves
+mod MovesAct
 mod Rests
 mod Boards

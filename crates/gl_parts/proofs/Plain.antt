@@ -17,7 +17,7 @@ use Rattle.gl_parts.proofs.Leading.{each_follower, more_is_in}
 use Rattle.gl_parts.proofs.Lists.{each_at, each_both, each_map}
 
 -- no node is new
-not_new : (p p' : Part) (n : NodeId) → KeepsName n p p' → is_in n p' ≡ true → is_in n p ≡ true
+pub not_new : (p p' : Part) (n : NodeId) → KeepsName n p p' → is_in n p' ≡ true → is_in n p ≡ true
 not_new p p' n same here = ap is_some (sym same) ∙ here
 
 -- one part of those that work as one

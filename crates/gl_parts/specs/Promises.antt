@@ -1,5 +1,6 @@
 -- What is promised of managers that work as one, whatever they do.
-use Rattle.std.specs.Prelude.{◌≡◌, ◌≢◌, ◌⊎◌, ℕ, true, false, ◌&&◌, ◌||◌, ◌<◌, ◌↔◌, is_none, is_some, List, [], ◌∷◌, ◌++◌, Some, None, if◌then◌else◌}
+use Rattle.std.specs.Prelude.{◌≡◌, ◌≢◌, ◌⊎◌, ℕ, true, false, ◌&&◌, ◌||◌, ◌<◌, ◌↔◌, is_none, is_some, List, [], ◌∷◌, ◌++◌, Some, None, if◌then◌else◌, map}
+use denote.Bor.{Bor}
 use Rattle.std.specs.List.{list_all, list_any}
 use Rattle.gl_modes.specs.declared.mode.Mode.{Mode}
 use Rattle.gl_modes.specs.declared.mode.Mode.TheVariants.{NL}
@@ -7,7 +8,7 @@ use Rattle.gl_modes.specs.declared.node.NodeId.{NodeId}
 use Rattle.gl_modes.specs.declared.refusal.Refusal.TheVariants as no
 use Rattle.gl_modes.specs.Modes.{is_at_least}
 use Rattle.gl_modes.specs.Nodes.{same_node}
-use Rattle.gl_graph.specs.Changes.{IsAdopted}
+use Rattle.gl_graph.specs.Changes.{IsAdopted, with_parents}
 use Rattle.gl_graph.specs.Graph.{Graph, first_parent, is_live, parents_of, shape_of}
 use Rattle.gl_graph.specs.Lawful.{IsLawfulGraph}
 use Rattle.gl_graph.specs.Over.{IsIndexOver, are_keyed}
@@ -341,6 +342,51 @@ OthersPassTheSame =
     (g g' : Graph) (i : NodeId) (ps : List NodeId) (f : NodeId) (bs : List ℕ) (rs : List NodeId) (ks : List ℕ) (x : Target) → IsLawfulGraph g
     → IsIndexOver g g' i ps f bs rs ks → are_keyed g f rs ks ≡ true → is_live g x.node ≡ true
     → (after_index g' x f ≡ after.WaitsOn) ⊎ (is_write x.mode ≡ false) → (n : NodeId) → Passes g' x n ↔ Passes g x n
+
+-- Moves.
+
+-- after a node was moved to other parents, a path passes it if it passed it before, and only then
+abbrev pub MovesPassTheNode : Type 0
+MovesPassTheNode = (g : Graph) (n : NodeId) (ps : List NodeId) (x : Target) → is_live g n ≡ true → Passes (with_parents g n ps) x n ↔ Passes g x n
+
+-- a path that does not pass it passes what it passed
+abbrev pub MovesPassTheSame : Type 0
+MovesPassTheSame =
+    (g : Graph) (n : NodeId) (ps : List NodeId) (x : Target) → is_live g n ≡ true → (Passes g x n → ⊥) → (m : NodeId)
+    → Passes (with_parents g n ps) x m ↔ Passes g x m
+
+-- a part has the node n by the name k, which no other node has there, and no other manager has it
+pub record IsAlone (w : Managers) (before after : List Follower) (f : Follower) (n k : NodeId) : Type 0 where
+  pub followers : w.followers ≡ before ++ f ∷ after
+  pub name : f.part.name n ≡ Some k
+  pub one : (q : NodeId) → f.part.name q ≡ Some k → q ≡ n
+  pub apart : list_any (is_in n) (w.main ∷ parts (before ++ after)) ≡ false
+
+-- the graph of the whole in which the node has these parents; each other node has there those that it had
+pub record HasNewParents (g g' : Graph) (n : NodeId) (ps : List NodeId) : Type 0 where
+  pub here : parents_of g' n ≡ ps
+  pub others : (q : NodeId) → q ≢ n → parents_of g' q ≡ parents_of g q
+
+-- in the part the node has the parents with these names, and no name changed
+pub record IsMoved (f : Follower) (k : NodeId) (ps qs : List NodeId) (next : Part) : Type 0 where
+  pub named : map f.part.name ps ≡ map (λ q. Some q) qs
+  pub graph : next.state.graph ≡ with_parents f.part.state.graph k qs
+  pub names : (n : NodeId) → KeepsName n f.part next
+
+-- after a node that one part alone has was moved there to nodes of that part, all managers agree with the graph in which it has these parents
+abbrev pub MovesAgree : Type 0
+MovesAgree =
+    (w : Managers) (before after : List Follower) (f : Follower) (n k : NodeId) (ps qs : List NodeId) (next : Part) (g' : Graph)
+    → Each (AgreesWith w.graph) (managers w) → IsAlone w before after f n k → IsMoved f k ps qs next → HasNewParents w.graph g' n ps
+    → Each (AgreesWith g') (managers (record w { followers = before ++ record f { part = next } ∷ after }))
+
+-- the move is an action
+abbrev pub MovesAct : Type 0
+MovesAct =
+    (w : Managers) (before after : List Follower) (f : Follower) (t : TxnId) (n k : NodeId) (ps : List NodeId) (qs : Bor (List NodeId)) (next : Part)
+    (g' : Graph) → WorkAsOne w → IsAlone w before after f n k → Takes f.part (command.Move t k qs) next → IsMoved f k ps qs.now next
+    → HasNewParents w.graph g' n ps
+    → Acts w (record w { graph = g'; followers = before ++ record f { part = next } ∷ after })
 
 -- Requests in progress.
 

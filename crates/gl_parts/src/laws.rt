@@ -8,7 +8,7 @@ ghost use Rattle.gl_parts.specs.Promises.{RunsHaveNoConflict, UnusedWorkAsOne, V
 ghost use Rattle.gl_parts.specs.Promises.{AfterMainIsAllowed, ClearMayUnmark, CopiedMayMark, HereIsAllowed, InMainIsRefused, NextIsUncovered};
 ghost use Rattle.gl_parts.specs.Promises.{AdoptsPassNoMore, BoardsJoin, ClearsKeepProgress, ListedLackNothing, MainStepsKeepPaths, MarksKeepPaths};
 ghost use Rattle.gl_parts.specs.Promises.{IndexesNeedKeys, IndexesPassMore, OthersPassTheSame, OwnIsUncovered, PartStepsKeepPaths, PathsMayRequest};
-ghost use Rattle.gl_parts.specs.Promises.{ProgressIsVisited, RowPathsMayRequest};
+ghost use Rattle.gl_parts.specs.Promises.{MovesAct, MovesAgree, MovesPassTheNode, MovesPassTheSame, ProgressIsVisited, RowPathsMayRequest};
 ghost use Rattle.gl_parts.specs.Resting.{AbsentAreUncovered, AbsentHaveNoneMarked, EndsBesideRest, RestCountsFrom, UnmarkedMayRest};
 
 /// Several managers work as one: a main one and parts. The main manager has each node that is in
@@ -137,6 +137,17 @@ pub fn new_indexes()
     ensures keys { IndexesNeedKeys }
     ensures more { IndexesPassMore }
     ensures others { OthersPassTheSame }
+{}
+
+/// After a node was moved to other parents, a path passes it if it passed it before, and a path that does not
+/// passes what it passed. So `passes`, asked before the move or after it, says which waits may go on. A part
+/// may move a node that no other manager has, to nodes of its own; then all managers agree with the graph of
+/// the whole in which the node has these parents.
+pub fn moves()
+    ensures node { MovesPassTheNode }
+    ensures same { MovesPassTheSame }
+    ensures agree { MovesAgree }
+    ensures action { MovesAct }
 {}
 
 /// What rests in a part is held there by a slot that may have no transaction in the main manager. Such a

@@ -216,6 +216,24 @@ fn writes_record_of(graph: &Graph, target: Target, file: NodeId) -> bool
         && is_among(graph.parents(target.node), file)
 }
 
+/// Whether a path to this target passes a node: it is one where the path may request an intention, or where
+/// it begins. A path that does not passes the same nodes after the node was moved to other parents. Takes
+/// memory if such paths pass more than 32 nodes.
+pub fn passes(
+    alloc: Global,
+    part: &Manager,
+    target: Target,
+    node: NodeId,
+) -> Result<bool, AllocError>
+    ensures { IfOk result (λ found. IsTrue found ↔ Passes (state_of part.now).graph target node) }
+{
+    if let Some(few) = few_passed(part.graph(), target) {
+        return Ok(is_among(few.as_slice(), node));
+    }
+    let passed = passed(alloc, part.graph(), target)?;
+    Ok(is_among(passed.as_slice(), node))
+}
+
 /// The nodes that a path to a target passes: where it may request an intention, and where it begins. A
 /// path to write passes each node above its own, and a path to read the first parents. That of a row
 /// begins at its file and, to write, at the indexes of that. What the part refuses passes nothing. The set
