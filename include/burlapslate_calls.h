@@ -127,6 +127,7 @@ bs_reply bs_call_path_lacks(const bs_manager *manager, const bs_manager *part, u
 bs_reply bs_call_path_lacks_there(const bs_manager *part, uint32_t slot, const struct bs_target *target,
                                   const struct bs_marked *marks, size_t count);
 bs_reply bs_call_after_index(const bs_manager *part, const struct bs_target *target, bs_node file);
+bs_reply bs_call_after_move(const bs_manager *part, const struct bs_target *target, bs_node node);
 uint32_t bs_call_may_rest(uint32_t commits, uint64_t most, const struct bs_marked *marks, size_t count);
 uint32_t bs_call_takes_up(uint64_t age, uint64_t since);
 void bs_call_join_board(bs_board *joined, const bs_board *added);

@@ -101,6 +101,14 @@ static inline bs_reply bs_after_index(const bs_manager *part, bs_target target, 
   return bs_call_can_ask(part) ? bs_call_after_index(part, &target, file) : bs_call_unasked(part);
 }
 
+/* What becomes of a wait in a part, for this target, if this node is moved there to other parents; asked before the
+ * move or after it. BS_DONE: no path to the target passes the node, so each passes what it passed before, and waits on.
+ * BS_MOVED: one does, and may lack something in the main manager after the move, so end the wait, and begin the path
+ * anew. Refused with BS_BAD_NUMBER if there is no such mode. Takes memory if such paths pass more than 32 nodes. */
+static inline bs_reply bs_after_move(const bs_manager *part, bs_target target, bs_node node) {
+  return bs_call_can_ask(part) ? bs_call_after_move(part, &target, node) : bs_call_unasked(part);
+}
+
 /* Whether a transaction that ends in a part may leave locks there that rest for the next transaction of its slot, at most
  * so many, if the part is marked for these nodes: it commits, some are to be kept, and there is no mark. What rests
  * belongs to no transaction of the main manager; and on a node for which a part is marked every transaction holds there

@@ -1535,6 +1535,66 @@ static void waits_end_after_an_index(void) {
   WANT(bs_after_index(&part, to, file).status == BS_NO_MANAGER);
 }
 
+static bool ends_by_a_move(bs_manager *part, bs_target to, bs_node node) {
+  bs_status status = bs_after_move(part, to, node).status;
+  WANT(status == BS_MOVED || status == BS_DONE);
+  return status == BS_MOVED;
+}
+
+/* Which waits end if a node is moved: a file with an index below another area than its own. */
+static void waits_end_after_a_move(void) {
+  bs_manager part = BS_NO_MANAGER_HERE;
+  const uint64_t bound = 10, key = 3;
+  bs_node root = begin_manager(&part, BS_AT_BLOCK);
+  bs_node area = DONE(bs_add_inner(&part, &root, 1)).node, far = DONE(bs_add_inner(&part, &root, 1)).node;
+  bs_node file = DONE(bs_add_file(&part, &area, 1)).node, other = DONE(bs_add_file(&part, &far, 1)).node;
+  bs_node index = DONE(bs_add_index(&part, &far, 1, file, &bound, 1)).node, record;
+  bs_target read = { file, BS_S, 1 }, write = { file, BS_X, 1 }, to = { file, BS_X, 0 };
+  bs_txn txn = begin(&part);
+  DONE(bs_lock_path(&part, txn, file, BS_X, &told));
+  DONE(bs_lock_path(&part, txn, DONE(bs_interval_of(&part, index, key)).node, BS_X, &told));
+  record = DONE(bs_insert(&part, txn, file, &key, 1)).node;
+  WANT(ends_by_a_move(&part, read, file) && ends_by_a_move(&part, read, area) && ends_by_a_move(&part, read, root));
+  WANT(!ends_by_a_move(&part, read, index) && !ends_by_a_move(&part, read, far) && !ends_by_a_move(&part, read, other));
+  WANT(ends_by_a_move(&part, write, file) && ends_by_a_move(&part, write, index) && ends_by_a_move(&part, write, far));
+  WANT(!ends_by_a_move(&part, write, other));
+  WANT(ends_by_a_move(&part, to, file) && ends_by_a_move(&part, to, area) && !ends_by_a_move(&part, to, index));
+  to.node = record;
+  WANT(ends_by_a_move(&part, to, record) && ends_by_a_move(&part, to, index) && ends_by_a_move(&part, to, far));
+  to.mode = BS_S;
+  WANT(ends_by_a_move(&part, to, file) && !ends_by_a_move(&part, to, index) && !ends_by_a_move(&part, to, far));
+  to.node = other;
+  WANT(ends_by_a_move(&part, to, far) && !ends_by_a_move(&part, to, file) && !ends_by_a_move(&part, to, area));
+  DONE(bs_lock_path(&part, txn, far, BS_X, &told));
+  DONE(bs_move(&part, txn, file, &far, 1, &told));
+  WANT(ends_by_a_move(&part, read, file) && !ends_by_a_move(&part, to, file) && !ends_by_a_move(&part, read, area));
+  read.mode = BS_IX;
+  WANT(!ends_by_a_move(&part, read, file));
+  read.mode = 6;
+  WANT(bs_after_move(&part, read, file).status == BS_BAD_NUMBER);
+  WANT(bs_after_move(NULL, write, file).status == BS_NULL_POINTER);
+  DONE(bs_end(&part));
+  WANT(bs_after_move(&part, write, file).status == BS_NO_MANAGER);
+}
+
+/* A path passes as many nodes as are found without memory; then one more, and memory is refused once. */
+static void waits_end_far_below(void) {
+  bs_manager part = BS_NO_MANAGER_HERE;
+  bs_node root = begin_manager(&part, BS_AT_BLOCK), last = root, other = DONE(bs_add_inner(&part, &root, 1)).node;
+  bs_target to = { root, BS_X, 0 };
+  int i;
+  for (i = 0; i < 31; i++) to.node = last = DONE(bs_add_inner(&part, &last, 1)).node;
+  refused_allocation = 1;
+  WANT(ends_by_a_move(&part, to, root) && ends_by_a_move(&part, to, last) && !ends_by_a_move(&part, to, other));
+  WANT(refused_allocation == 1);
+  refused_allocation = 0;
+  to.node = DONE(bs_add_file(&part, &last, 1)).node;
+  refused_allocation = 1;
+  WANT(bs_after_move(&part, to, root).status == BS_NO_MEMORY && refused_allocation == 0);
+  WANT(ends_by_a_move(&part, to, root) && ends_by_a_move(&part, to, last) && !ends_by_a_move(&part, to, other));
+  DONE(bs_end(&part));
+}
+
 /* What may rest beside which marks, and who takes it up. */
 static void some_may_rest(void) {
   const bs_marked mark = { { 1, 1 }, { 1, 2 } };
@@ -2190,6 +2250,8 @@ int main(void) {
   TELL(a_part_is_visited);
   TELL(paths_lack_intentions);
   TELL(waits_end_after_an_index);
+  TELL(waits_end_after_a_move);
+  TELL(waits_end_far_below);
   TELL(some_may_rest);
   TELL(boards_are_joined);
   TELL(visits_are_refused);

@@ -1,5 +1,5 @@
 -- Replies to what a path in a part lacks in the main manager, what a transaction has to copy of its own, when marks may be cleared, and what becomes of a wait
--- after an index was made.
+-- after an index was made or a node moved.
 use Rattle.std.specs.Prelude.{◌≡◌, ◌⊎◌, ℕ, not, ◌==◌, List, map, Option, Some, None}
 use Rattle.gl_modes.specs.declared.mode.Mode.{Mode}
 use Rattle.gl_modes.specs.declared.node.NodeId.{NodeId}
@@ -13,7 +13,7 @@ use Rattle.gl_parts.specs.declared.passing.AfterIndex.{AfterIndex}
 use Rattle.gl_parts.specs.declared.passing.AfterIndex.TheVariants.{BeginsAnew, LacksKey, WaitsOn}
 use Rattle.gl_parts.specs.declared.passing.Mark.{Mark as TheMark}
 use Rattle.gl_parts.specs.declared.passing.Target.{Target as TheTarget}
-use Rattle.gl_parts.specs.Passing.{IsFirst, Lacks, MayClear, after_index}
+use Rattle.gl_parts.specs.Passing.{IsFirst, Lacks, MayClear, Passes, after_index}
 use Rattle.gl_parts.specs.Visiting.{own_copy}
 use Rattle.gl_c.specs.declared.answers.reply.Reply.{Reply}
 use Rattle.gl_c.specs.declared.questions.passing.Mark.{Mark}
@@ -115,3 +115,20 @@ TellsAfterIndex s x f r = Where (mode_at x.mode) (λ m. r ≡ wait_reply (after_
 abbrev pub AsksAfterIndex : Option GuardedView → Target → NodeId → Reply → Option GuardedView → Type 0
 AsksAfterIndex None x f r s' = Declines None no_manager r s'
 AsksAfterIndex (Some g) x f r s' = TellsAfterIndex (state_of g.manager) x f r × (s' ≡ Some g)
+
+-- What becomes of a wait if a node is moved.
+
+-- moved if a path to the target passes the node, else done; only memory may refuse it
+abbrev pub TellsMove : State → TheTarget → NodeId → Reply → Type 0
+TellsMove s x n r =
+    ((r ≡ status_reply moved) × Passes s.graph x n)
+    ⊎ (((r ≡ status_reply done) × (Passes s.graph x n → ⊥)) ⊎ (r ≡ refused_reply no.NoMemory))
+
+-- the same, if the number names a mode
+abbrev pub TellsAfterMove : State → Target → NodeId → Reply → Type 0
+TellsAfterMove s x n r = Where (mode_at x.mode) (λ m. TellsMove s (target_id x m) n r) (r ≡ status_reply bad_number)
+
+-- a call that asks what becomes of a wait if a node is moved: nothing changes
+abbrev pub AsksAfterMove : Option GuardedView → Target → NodeId → Reply → Option GuardedView → Type 0
+AsksAfterMove None x n r s' = Declines None no_manager r s'
+AsksAfterMove (Some g) x n r s' = TellsAfterMove (state_of g.manager) x n r × (s' ≡ Some g)

@@ -1,6 +1,6 @@
 //! Several managers that work as one: what a path in a part lacks in the main manager, what a transaction
-//! has to copy of its own, whether marks may be cleared, and what becomes of a wait after an index was made.
-//! The calls change nothing.
+//! has to copy of its own, whether marks may be cleared, and what becomes of a wait after an index was made
+//! or a node moved. The calls change nothing.
 
 ghost use Rattle.std.specs.Option.{option_map};
 ghost use Rattle.std.specs.Prelude.{◌≡◌, None};
@@ -9,7 +9,7 @@ ghost use Rattle.gl_model.specs.Calls.{group_tests};
 ghost use Rattle.gl_catalog.specs.Manager.{state_of};
 ghost use Rattle.gl_c.specs.managers.Handle.{guarded_in};
 ghost use Rattle.gl_c.specs.questions.Passing.{AnswersLack, AnswersOwn, AsksAfterIndex, AsksLack, AsksMayClear, AsksOwn, FindsLack, TellsAfterIndex};
-ghost use Rattle.gl_c.specs.questions.Passing.{TellsMayClear, lack_reply, own_reply, target_id, wait_reply};
+ghost use Rattle.gl_c.specs.questions.Passing.{AsksAfterMove, TellsAfterMove, TellsMayClear, lack_reply, own_reply, target_id, wait_reply};
 ghost use Rattle.gl_c.specs.questions.Visits.{Unless};
 ghost use Rattle.gl_c.specs.Names.{node_id};
 
@@ -20,7 +20,9 @@ use crate::numbers::{BAD_NUMBER, DONE, MOVED, NO_PLACE, mode_at, mode_number, sl
 use crate::questions::visits::refusal_of;
 use gl_catalog::Manager;
 use gl_modes::{Mode, NodeId, Refusal};
-use gl_parts::{AfterIndex, Marked, after_index, first_lack, intention, may_clear, own_copy};
+use gl_parts::{
+    AfterIndex, Marked, after_index, first_lack, intention, may_clear, own_copy, passes,
+};
 use std::alloc::{AllocError, Global};
 
 /// A node for which a part is marked, by its names in the main manager and in the part.
@@ -126,6 +128,14 @@ pub extern "C" fn bs_call_after_index(part: &mut Handle, target: &Target, file: 
     part.after_index(*target, file.id())
 }
 
+/// What becomes of a wait in a part, for this target, if this node is moved there to other parents.
+#[unsafe(no_mangle)]
+pub extern "C" fn bs_call_after_move(part: &mut Handle, target: &Target, node: Node) -> Reply
+    ensures { AsksAfterMove (guarded_in part.old) target.now (node_id node) result (guarded_in part.new) }
+{
+    part.after_move(*target, node.id())
+}
+
 /// The reply for what a path lacks.
 pub(crate) fn lacks_reply(
     alloc: Global,
@@ -226,5 +236,20 @@ fn wait_reply(after: AfterIndex) -> Reply
         AfterIndex::WaitsOn => Reply::with_status(DONE),
         AfterIndex::BeginsAnew => Reply::with_status(MOVED),
         AfterIndex::LacksKey => Reply::refused(Refusal::BadKeys),
+    }
+}
+
+/// What becomes of a wait if a node is moved, if the number of its mode names one: it ends if a path to its
+/// target passes the node.
+pub(crate) fn after_move_reply(alloc: Global, part: &Manager, target: Target, node: NodeId) -> Reply
+    ensures { TellsAfterMove (state_of part.now) target node result }
+{
+    let Some(mode) = mode_at(target.mode) else {
+        return Reply::with_status(BAD_NUMBER);
+    };
+    match passes(alloc, part, target.id(mode), node) {
+        Ok(true) => Reply::with_status(MOVED),
+        Ok(false) => Reply::with_status(DONE),
+        Err(AllocError) => Reply::refused(Refusal::NoMemory),
     }
 }

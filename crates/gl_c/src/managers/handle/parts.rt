@@ -3,13 +3,13 @@
 ghost use Rattle.std.specs.Option.{option_map};
 ghost use Rattle.gl_catalog.specs.Manager.{state_of};
 ghost use Rattle.gl_c.specs.managers.Handle.{guarded_in};
-ghost use Rattle.gl_c.specs.questions.Passing.{AsksAfterIndex, AsksLack, AsksMayClear, AsksOwn, FindsLack, FindsOwn};
+ghost use Rattle.gl_c.specs.questions.Passing.{AsksAfterIndex, AsksAfterMove, AsksLack, AsksMayClear, AsksOwn, FindsLack, FindsOwn};
 
 use super::Handle;
 use crate::answers::reply::Reply;
 use crate::numbers::NO_MANAGER;
 use crate::questions::passing::{
-    Mark, Target, after_index_reply, lacks_reply, may_clear_reply, own_copy_reply,
+    Mark, Target, after_index_reply, after_move_reply, lacks_reply, may_clear_reply, own_copy_reply,
 };
 use gl_catalog::Manager;
 use gl_modes::NodeId;
@@ -107,6 +107,19 @@ impl Handle {
             return Reply::with_status(NO_MANAGER);
         };
         let reply = after_index_reply(session.manager(), target, file);
+        *self = Handle::of(alloc, session);
+        reply
+    }
+
+    /// What becomes of a wait in this part if a node is moved here.
+    pub(crate) fn after_move(&mut self, target: Target, node: NodeId) -> Reply
+        ensures { AsksAfterMove (guarded_in self.old) target node result (guarded_in self.new) }
+    {
+        let alloc = self.alloc;
+        let Some(session) = self.take() else {
+            return Reply::with_status(NO_MANAGER);
+        };
+        let reply = after_move_reply(alloc, session.manager(), target, node);
         *self = Handle::of(alloc, session);
         reply
     }
