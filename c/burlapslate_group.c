@@ -6,10 +6,11 @@
  * allowed leaves it so. What is decided of a group is the library's too, and proved: what a path lacks in the main table
  * (bs_path_lacks), where each request of a path that lacks nothing is such a step; what a visit copies (bs_next_copy),
  * and what a transaction copies of its own (bs_own_copy); when marks may be cleared (bs_may_clear); who waits for whom
- * in all tables (bs_join_board), and who falls (bs_suspects, bs_youngest); which waits a new index ends (bs_after_index);
- * where something may rest, and who takes it up (bs_may_rest, bs_takes_up); and the order of begins that sleep for a slot,
- * since they are in the queue of a node of a table. This source keeps the latches, the sleeps, the marks and the counts
- * of requests in progress, and asks all that at its time. That is written in C, and tested.
+ * in all tables (bs_join_board), and who falls (bs_suspects, bs_youngest); which waits a new index or a move ends
+ * (bs_after_index, bs_after_move); where something may rest, and who takes it up (bs_may_rest, bs_takes_up); and the
+ * order of begins that sleep for a slot, since they are in the queue of a node of a table. This source keeps the latches,
+ * the sleeps, the marks and the counts of requests in progress, and asks all that at its time. That is written in C, and
+ * tested.
  *
  * LATCHES are acquired by rising number: nobody acquires the main table's while holding a part's.
  *
@@ -39,6 +40,9 @@
  * was dropped meanwhile, so that the file has as many as before. A path to write a record by its node begins anew, and
  * so requests what it lacks by now. No other call makes a path that waits pass more.
  *
+ * MOVES. A file or an index that moves in its part has other nodes above it. So each wait in the part whose path passes it
+ * ends as it moves, with the latch held, and its path begins anew. None of them goes on before all have ended.
+ *
  * BEFORE A SLEEP in the main table all that a transaction holds in its parts on inner nodes is copied there, since
  * nobody can copy it while it waits.
  *
@@ -65,7 +69,7 @@
 #define GROUP_APART __attribute__((noinline))
 #define GROUP_IN_LINE inline __attribute__((always_inline))
 
-enum { GROUP_LINE = 64, GROUP_AGES = 64, GROUP_FIRST_ROOM = 16 };
+enum { GROUP_AGES = 64, GROUP_FIRST_ROOM = 16 };
 
 /* An inner node. Its number is its place in each table, and rises from parents to children. It never changes, but for
  * `in_progress`, which is read and written with the main table's latch. */
@@ -114,7 +118,7 @@ typedef struct group_table {
   uint64_t accepted;    /* how many commands had been accepted as a visitor last came */
   bool is_used;         /* some were since the visit before; read and written with the main table's latch */
   uint64_t dealt;       /* bit b: a spread file has a file here whose key has the remainder b by 64 */
-} __attribute__((aligned(GROUP_LINE))) group_table;
+} __attribute__((aligned(BS_LINE))) group_table;
 
 /* What rests in a part for the next transaction of a slot. */
 typedef struct group_kept {
@@ -211,6 +215,12 @@ typedef struct group_watch {
 
 typedef enum group_stage { GROUP_OPEN = 0, GROUP_ENDING, GROUP_ENDED } group_stage;
 
+/* What is before the slots in memory. They are freed by the last that uses them: the group, or a watcher of it. */
+typedef struct group_users {
+  void *block;    /* what malloc gave */
+  uint64_t count; /* atomic */
+} group_users;
+
 struct bs_table_group {
   void *block;              /* what malloc gave */
   uint32_t parts, most;     /* how many parts there are, and slots */
@@ -220,7 +230,7 @@ struct bs_table_group {
   size_t stride;            /* from a slot to the next */
   unsigned char *slots;
   group_roll *roll;         /* atomic; null if there is no spread file. It is changed with all latches */
-  void *slots_block;
+  group_users *users;
   void (*on_end)(void *context, bs_txn txn, bs_reply end, void *word); /* atomic; null before it is given */
   void *context;            /* written before it */
   uint64_t over;            /* atomic, and written with the main table's latch: how often marks may have become clear */
@@ -230,9 +240,9 @@ struct bs_table_group {
   uint64_t condemned;       /* atomic: how many fell to end deadlocks over several tables */
   group_turns turns;
   group_watch watch;
-  uint64_t ages __attribute__((aligned(GROUP_LINE)));   /* atomic: the next ages for a slot */
+  uint64_t ages __attribute__((aligned(BS_LINE)));   /* atomic: the next ages for a slot */
   uint64_t next_part;                                   /* atomic: for the next file by turns */
-  uint64_t looked __attribute__((aligned(GROUP_LINE))); /* atomic: the time of the last look */
+  uint64_t looked __attribute__((aligned(BS_LINE))); /* atomic: the time of the last look */
   group_table tables[];
 };
 
@@ -425,38 +435,47 @@ static bool group_make_room(group_table *t) {
 static bs_inside_look group_look;
 static void group_ask_ended(void *context, bs_txn txn, bs_reply end, void *word);
 
-/* Memory that is zero and begins a cache line, in `block` to be freed; null if it is refused. */
-static void *group_lines(size_t size, void **block) {
-  *block = group_zero(size + GROUP_LINE);
-  if (*block == NULL) return NULL;
-  return (void *)(((uintptr_t)*block + GROUP_LINE - 1) & ~(uintptr_t)(GROUP_LINE - 1));
-}
-
 /* A size in whole cache lines. */
 static size_t group_lines_of(size_t size) {
-  return (size + GROUP_LINE - 1) / GROUP_LINE * GROUP_LINE;
+  return (size + BS_LINE - 1) / BS_LINE * BS_LINE;
+}
+
+/* Makes the slots of a group; false if memory is refused. */
+static bool group_make_slots(bs_table_group *group) {
+  size_t names = (group->parts + 1) * sizeof(bs_txn);
+  void *block;
+  uint32_t slot;
+  group->stride = group_lines_of(sizeof(group_slot) + names + (group->parts + 1) * sizeof(group_kept));
+  group->users = (group_users *)bs_call_lines(BS_LINE + group->most * group->stride, &block);
+  if (group->users == NULL) return false;
+  group->users->block = block;
+  group->users->count = 1;
+  group->slots = (unsigned char *)group->users + BS_LINE;
+  for (slot = 0; slot < group->most; slot++) {
+    group_slot *own = group_slot_at(group, slot);
+    own->number = slot;
+    own->kept = (group_kept *)(void *)((unsigned char *)own->in + names);
+  }
+  return true;
+}
+
+/* One of those that use them does so no more. */
+static void group_leave_slots(group_users *users) {
+  if (__atomic_sub_fetch(&users->count, 1, __ATOMIC_ACQ_REL) == 0) free(users->block);
 }
 
 /* A group without tables; null if memory is refused. */
 static bs_table_group *group_new(uint32_t parts, uint32_t most) {
   void *block;
-  uint32_t slot;
-  bs_table_group *group = (bs_table_group *)group_lines(sizeof *group + (parts + 1) * sizeof(group_table), &block);
+  bs_table_group *group = (bs_table_group *)bs_call_lines(sizeof *group + (parts + 1) * sizeof(group_table), &block);
   if (group == NULL) return NULL;
   group->block = block;
   group->parts = parts;
   group->most = most;
   group->ages = 1;
-  group->stride = group_lines_of(sizeof(group_slot) + (parts + 1) * (sizeof(bs_txn) + sizeof(group_kept)));
-  group->slots = (unsigned char *)group_lines(most * group->stride, &group->slots_block);
-  if (group->slots == NULL) {
+  if (!group_make_slots(group)) {
     free(block);
     return NULL;
-  }
-  for (slot = 0; slot < most; slot++) {
-    group_slot *own = group_slot_at(group, slot);
-    own->number = slot;
-    own->kept = (group_kept *)(void *)(own->in + parts + 1);
   }
   pthread_mutex_init(&group->turns.latch, NULL);
   bs_call_make_steady(&group->turns.freed);
@@ -510,7 +529,7 @@ static void group_free_group(bs_table_group *group) {
   group_free_rolls(group);
   group_free_places_of_slots(group);
   free(group->seen);
-  free(group->slots_block);
+  group_leave_slots(group->users);
   free(group->block);
 }
 
@@ -1807,7 +1826,11 @@ static inline bs_reply group_row_path(bs_table_group *group, bs_txn txn, bs_node
 bs_reply bs_group_lock_row_path(bs_table_group *group, bs_txn txn, bs_node file, uint64_t number, const uint64_t *keys,
                                 size_t count, bs_mode mode, const struct timespec *until) {
   group_manner manner = group_until(until);
-  return group_row_path(group, txn, file, number, keys, count, mode, &manner);
+  bs_reply reply;
+  do {
+    reply = group_row_path(group, txn, file, number, keys, count, mode, &manner);
+  } while (__builtin_expect(reply.status == BS_MOVED, 0));
+  return reply;
 }
 
 bs_reply bs_group_try_row_path(bs_table_group *group, bs_txn txn, bs_node file, uint64_t number, const uint64_t *keys,
@@ -1980,6 +2003,100 @@ static bs_reply group_intend(bs_table_group *group, const group_call *call, bs_n
   return group_leave(call->at, group_request(call->at, call->txn, target.node, BS_IX, &manner));
 }
 
+/* The slots whose requests wait in a part and pass a node. One also counts if memory is refused to find that out. */
+static bs_slots group_passers(const bs_table_group *group, const group_table *t, bs_node there) {
+  bs_slots passers;
+  uint32_t slot;
+  memset(&passers, 0, sizeof passers);
+  for (slot = 0; slot < group->most; slot++) {
+    if (!bs_inside_sleeps(t->table, slot)) continue;
+    if (bs_after_move(t->manager, group_slot_at(group, slot)->target, there).status == BS_DONE) continue;
+    passers.words[slot / 64] |= (uint64_t)1 << slot % 64;
+  }
+  return passers;
+}
+
+/* Parents of a node, by their names in the group. */
+typedef struct group_parents {
+  bs_node at[BS_MOST_PARENTS];
+  size_t count;
+} group_parents;
+
+/* Those that a node of a part has. */
+static group_parents group_parents_of(const group_table *t, bs_node there) {
+  group_parents above;
+  bs_reply next = bs_parent(t->manager, there, 0);
+  above.count = 0;
+  while (next.status == BS_DONE && above.count < BS_MOST_PARENTS) {
+    above.at[above.count++] = group_name_here(t, next.node);
+    next = bs_parent(t->manager, there, above.count);
+  }
+  return above;
+}
+
+/* Moves a node of a part with what the transaction holds there: BS_NEED_PARENTS names an inner node that it lacks in the
+ * part. The parents that the node has had are in `above`. */
+static bs_reply group_move_once(bs_table_group *group, const group_call *call, bs_node node, const bs_node *parents,
+                                size_t count, group_parents *above) {
+  bs_node there[BS_MOST_PARENTS], name = group_name_there(call->at, node);
+  bs_slots passers;
+  if (group_any_is_spread(group, parents, count) || group_is_dealt(group, call->at, name)) {
+    return group_leave(call->at, group_only(BS_BAD_PARENTS));
+  }
+  *above = group_parents_of(call->at, name);
+  group_parents_there(call->at, parents, count, there);
+  passers = group_passers(group, call->at, name);
+  return group_leave(call->at, bs_inside_move(call->table, call->txn, name, there, count, &passers));
+}
+
+/* What a transaction holds on a node in a table; BS_NL if it has not joined. */
+static bs_reply group_held_in(const group_table *t, bs_txn txn, bs_node node) {
+  bs_node there = group_name_there(t, node);
+  bs_reply reply = bs_kind(t->manager, there);
+  reply.count = 0;
+  if (reply.status == BS_DONE && txn.age != 0) reply = bs_held(t->manager, txn, there);
+  return reply;
+}
+
+/* Whether a transaction has BS_X in the main table on each of these inner nodes, and there are any. */
+static bool group_has_exclusive(bs_table_group *group, const group_slot *own, const bs_node *nodes, size_t count) {
+  const group_table *main = &group->tables[0];
+  bs_txn main_txn;
+  size_t i = 0;
+  if (!bs_inside_enter(main->table)) return false;
+  main_txn = bs_living(main->manager, own->number).txn;
+  while (i < count && group_held_in(main, main_txn, nodes[i]).mode == BS_X) i++;
+  bs_inside_release(main->table);
+  return count > 0 && i == count;
+}
+
+/* Acquires BS_X on a node of a part that was refused so, if the transaction has it on all parents that the node has and
+ * will have: nobody else has a lock there then, so that this is granted at once. */
+static bs_reply group_exclude(bs_table_group *group, const group_call *call, bs_node node, const group_parents *above,
+                              const bs_node *parents, size_t count, bs_reply refused) {
+  group_manner manner = group_tries(BS_KEEP_WAY);
+  if (!group_has_exclusive(group, call->own, above->at, above->count)) return refused;
+  if (!group_has_exclusive(group, call->own, parents, count)) return refused;
+  return group_path_of(group, call->own, node, BS_X, &manner);
+}
+
+bs_reply bs_group_move(bs_table_group *group, bs_txn txn, bs_node node, const bs_node *parents, size_t count) {
+  bs_status status = group == NULL ? BS_NULL_POINTER : group_bad_parents(parents, count);
+  bs_reply reply = group_only(status);
+  while (status == BS_DONE) {
+    group_call call;
+    group_parents above;
+    status = group_enter(group, txn, node, BS_BAD_PARENTS, &call);
+    if (status != BS_DONE) return group_only(status);
+    reply = group_move_once(group, &call, node, parents, count, &above);
+    if (reply.status == BS_NEED_PARENTS) reply = group_intend(group, &call, reply.node);
+    else if (reply.status != BS_NEED_EXCLUSIVE) return reply;
+    else reply = group_exclude(group, &call, node, &above, parents, count, reply);
+    status = reply.status;
+  }
+  return reply;
+}
+
 /* An index of a file that is to be made, beside these records; `there` has room for their names in the part. */
 typedef struct group_index {
   const bs_node *parents;
@@ -2109,15 +2226,6 @@ bs_reply bs_group_file_of_row(bs_table_group *group, bs_node file, uint64_t numb
 static bs_mode group_join_modes(bs_mode one, bs_mode other) {
   bs_mode low = one < other ? one : other, high = one < other ? other : one;
   return low == BS_IX && high == BS_S ? BS_SIX : high;
-}
-
-/* What a transaction holds on a node in a table; BS_NL if it has not joined. */
-static bs_reply group_held_in(const group_table *t, bs_txn txn, bs_node node) {
-  bs_node there = group_name_there(t, node);
-  bs_reply reply = bs_kind(t->manager, there);
-  reply.count = 0;
-  if (reply.status == BS_DONE && txn.age != 0) reply = bs_held(t->manager, txn, there);
-  return reply;
 }
 
 /* The same of an inner node in all tables. */
@@ -2263,22 +2371,24 @@ static bool group_settle_one(bs_table_group *group) {
 }
 
 /* Ends all cycles of waits over several tables: after each victim the boards are read again, since its end may have opened
- * other cycles. No latch is held before and after: ends of asks are told after all were released. */
-static void group_settle_all(bs_table_group *group) {
+ * other cycles. Answers how many fell. No latch is held before and after: ends of asks are told after all were released. */
+static uint64_t group_settle_all(bs_table_group *group) {
   bs_inside_asks ends;
+  uint64_t victims = 0;
   bs_inside_keep_ends(&ends);
   group_take_all(group);
   __atomic_store_n(&group->looked, bs_call_now(), __ATOMIC_RELAXED);
-  while (group_settle_one(group)) continue;
+  while (group_settle_one(group)) victims++;
   group_release_all(group);
   bs_inside_tell_ends(&ends);
+  return victims;
 }
 
 bs_reply bs_group_settle(bs_table_group *group, bs_txn txn) {
-  bs_status status = group_shut(group);
-  if (status == BS_DONE && group_named(group, txn) == NULL) status = BS_NO_SUCH_TXN;
-  if (status == BS_DONE) group_settle_all(group);
-  return group_only(status);
+  bs_reply reply = group_only(group_shut(group));
+  if (reply.status == BS_DONE && group_named(group, txn) == NULL) reply.status = BS_NO_SUCH_TXN;
+  if (reply.status == BS_DONE) reply.count = group_settle_all(group);
+  return reply;
 }
 
 /* A thread that sleeps in a table of the group looks for cycles over several tables: its own latch is held before and
@@ -2373,17 +2483,18 @@ static bool group_write_ask(bs_table_group *group, group_slot *own, const bs_com
 }
 
 /* Requests what an ask is for, in the first table where it lacks something. */
-static bs_reply group_ask_goes(group_ask *ask) {
+static bs_reply group_ask_once(group_ask *ask) {
   group_manner manner = group_until(ask->has_time ? &ask->until : NULL);
-  bs_reply reply;
   manner.ask = ask;
   manner.instant = ask->instant;
-  if (ask->is_row) {
-    return group_row_path_of(ask->group, ask->own, ask->node, ask->number, ask->keys, ask->count, ask->mode, &manner);
-  }
-  do {
-    reply = group_path_of(ask->group, ask->own, ask->node, ask->mode, &manner);
-  } while (reply.status == BS_MOVED);
+  if (!ask->is_row) return group_path_of(ask->group, ask->own, ask->node, ask->mode, &manner);
+  return group_row_path_of(ask->group, ask->own, ask->node, ask->number, ask->keys, ask->count, ask->mode, &manner);
+}
+
+/* The same, and again if its wait has ended already, and must begin anew. */
+static bs_reply group_ask_goes(group_ask *ask) {
+  bs_reply reply = group_ask_once(ask);
+  while (reply.status == BS_MOVED) reply = group_ask_once(ask);
   return reply;
 }
 
@@ -2429,7 +2540,7 @@ static void group_ask_leaves(group_ask *ask, bs_status status) {
  * must begin anew. Answers BS_WAITING if it waits again, else its end. */
 static bs_reply group_ask_goes_on(group_ask *ask, bs_reply end) {
   bool is_on_the_way = ask->at->number == 0 && (ask->is_row || bs_group_table(ask->node) != 0);
-  if (is_on_the_way ? end.status == BS_DONE : end.status == BS_MOVED && !ask->is_row) return group_ask_goes(ask);
+  if (end.status == (is_on_the_way ? BS_DONE : BS_MOVED)) return group_ask_goes(ask);
   if (ask->inner != NULL) group_ask_leaves(ask, end.status);
   return group_ended_at(ask->at, end);
 }
@@ -2682,6 +2793,7 @@ static bs_reply group_made(bs_table_group *group, const bs_command *c, bs_txn tx
     case BS_DO_FORGET: return bs_group_forget(group, c->node);
     case BS_DO_REKEY: return bs_group_rekey(group, txn, c->node, c->index, c->key);
     case BS_DO_REKEY_ROW: return bs_group_rekey_row(group, txn, c->file, c->number, c->index, c->key);
+    case BS_DO_MOVE: return bs_group_move(group, txn, c->node, c->parents, c->parent_count);
     case BS_DO_DROP: return bs_group_drop(group, txn, c->node);
     case BS_DO_SPLIT: return bs_group_split(group, txn, c->node, c->key);
     case BS_DO_MERGE: return bs_group_merge(group, txn, c->node);
@@ -3271,4 +3383,118 @@ bs_reply bs_group_watch_thread(bs_table_group *group, uint64_t pace) {
   }
   pthread_mutex_unlock(&watch->latch);
   return reply;
+}
+
+/* ------------------------------------------------------------------------------------------------
+ * Watchers: who waits for whom in all tables, without a latch.
+ */
+
+/* A watcher of a group: one of each table. It may be looked at after the group was freed. */
+struct bs_watched {
+  group_users *users;
+  const unsigned char *slots; /* of the group, as long as it is a user */
+  size_t stride;
+  uint32_t most, count;       /* how many slots and tables there are */
+  bs_board one;               /* that of a table, while it is joined with the others */
+  bs_watcher in[];
+};
+
+/* Ends the watchers of tables that were made. */
+static void group_end_eyes(struct bs_watched *eye) {
+  while (eye->count > 0) bs_watch_end(&eye->in[--eye->count]);
+}
+
+/* Makes a watcher of each table. */
+static bs_status group_open_eyes(bs_table_group *group, struct bs_watched *eye) {
+  bs_status status = BS_DONE;
+  while (eye->count <= group->parts && status == BS_DONE) {
+    const group_table *t = &group->tables[eye->count];
+    if (!bs_inside_enter(t->table)) return BS_NO_MANAGER;
+    status = bs_watch(t->manager, &eye->in[eye->count]).status;
+    bs_inside_release(t->table);
+    if (status == BS_DONE) eye->count++;
+  }
+  return status;
+}
+
+/* A watcher uses the slots of its group from now on. */
+static void group_share_slots(bs_table_group *group, struct bs_watched *eye) {
+  __atomic_fetch_add(&group->users->count, 1, __ATOMIC_RELAXED);
+  eye->users = group->users;
+  eye->slots = group->slots;
+  eye->stride = group->stride;
+  eye->most = group->most;
+}
+
+bs_reply bs_call_group_watch(bs_table_group *group, bs_watcher *watcher) {
+  bs_status status = group_shut(group);
+  struct bs_watched *eye;
+  if (status == BS_DONE && watcher->is_open) status = BS_IN_USE;
+  if (status != BS_DONE) return group_only(status);
+  eye = (struct bs_watched *)group_zero(sizeof *eye + (group->parts + 1) * sizeof eye->in[0]);
+  if (eye == NULL) return group_only(BS_NO_MEMORY);
+  status = group_open_eyes(group, eye);
+  if (status != BS_DONE) {
+    group_end_eyes(eye);
+    free(eye);
+    return group_only(status);
+  }
+  group_share_slots(group, eye);
+  watcher->is_open = true;
+  watcher->parts = eye;
+  return group_only(BS_DONE);
+}
+
+/* The age by which the transaction in a slot is named in the group; 0 if there is none. */
+static uint64_t group_age_in(const struct bs_watched *eye, uint32_t slot) {
+  const group_slot *own = (const group_slot *)(const void *)(eye->slots + slot * eye->stride);
+  return __atomic_load_n(&own->age, __ATOMIC_RELAXED);
+}
+
+/* Takes a transaction off a board that has ended meanwhile: it waits for nobody, and nobody for it. */
+static void group_take_off(bs_board *board, uint32_t slot) {
+  static const bs_slots none = { { 0 } };
+  uint32_t other;
+  board->rows[slot] = none;
+  for (other = 0; other < BS_SLOTS; other++) board->rows[other].words[slot / 64] &= ~((uint64_t)1 << slot % 64);
+}
+
+/* Names the transactions on a board as the group does. */
+static void group_name_waiters(const struct bs_watched *eye, bs_board *board) {
+  uint32_t slot;
+  for (slot = 0; slot < eye->most; slot++) {
+    bool was_there = board->ages[slot] != 0;
+    board->ages[slot] = group_age_in(eye, slot);
+    if (was_there && board->ages[slot] == 0) group_take_off(board, slot);
+  }
+}
+
+/* Adds the board of a table to that of those before it. */
+static void group_join_board(bs_board *all, const bs_board *one) {
+  uint32_t slot;
+  all->epoch = group_sum(all->epoch, one->epoch);
+  for (slot = 0; slot < BS_SLOTS; slot++) all->ages[slot] |= one->ages[slot];
+  bs_join_board(all, one);
+}
+
+bs_reply bs_call_group_look(bs_watcher *watcher, bs_board *board) {
+  struct bs_watched *eye = watcher->parts;
+  uint32_t table;
+  memset(board, 0, sizeof *board);
+  for (table = 0; table < eye->count; table++) {
+    bs_look(&eye->in[table], &eye->one);
+    group_join_board(board, &eye->one);
+  }
+  group_name_waiters(eye, board);
+  return group_only(BS_DONE);
+}
+
+bs_reply bs_call_group_watch_end(bs_watcher *watcher) {
+  struct bs_watched *eye = watcher->parts;
+  group_end_eyes(eye);
+  group_leave_slots(eye->users);
+  free(eye);
+  watcher->is_open = false;
+  watcher->parts = NULL;
+  return group_only(BS_DONE);
 }

@@ -83,6 +83,12 @@ bool bs_call_waits_since(const bs_running *running, uint32_t slot, uint64_t *sin
 /* The present time of the clock by which waits are timed. */
 uint64_t bs_call_now(void);
 
+/* The bytes of a cache line. */
+enum { BS_LINE = 64 };
+
+/* Memory that is zero and begins a cache line; null if it is refused. What is to be freed is in `block`. */
+void *bs_call_lines(size_t size, void **block);
+
 /* Of burlapslate_shared.c: what the table notes that this thread holds with this manager; null if it is no table's. */
 bs_running *bs_call_running(const bs_manager *manager);
 
@@ -236,6 +242,10 @@ bs_reply bs_inside_rekey(bs_table *table, bs_txn txn, bs_node record, bs_node in
 bs_reply bs_inside_unlock(bs_table *table, bs_txn txn, bs_node node);
 bs_reply bs_inside_release_since(bs_table *table, bs_txn txn, uint64_t savepoint);
 bs_reply bs_inside_drop(bs_table *table, bs_txn txn, bs_node node);
+
+/* As bs_table_move. If it is done, the requests of these slots end with BS_MOVED, which all wait. */
+bs_reply bs_inside_move(bs_table *table, bs_txn txn, bs_node node, const bs_node *parents, size_t count,
+                        const bs_slots *passers);
 bs_reply bs_inside_split(bs_table *table, bs_txn txn, bs_node interval, uint64_t at);
 bs_reply bs_inside_merge(bs_table *table, bs_txn txn, bs_node interval);
 bs_reply bs_inside_index_records(bs_table *table, bs_txn txn, const bs_node *parents, size_t count, bs_node file,

@@ -121,9 +121,6 @@ typedef struct table_asks {
 /* A table is ending as soon as it must wake all sleepers, and ended when its manager is gone. */
 typedef enum table_stage { TABLE_OPEN = 0, TABLE_ENDING, TABLE_ENDED } table_stage;
 
-/* The bytes of a cache line. */
-enum { TABLE_LINE = 64 };
-
 /* All fields but the latch, `group` and `looks` are read and written with the latch held. The latch is in a cache line
  * with what no call writes: who retries it takes that line from its holder, and not the next one, which has what each call
  * writes, up to the count of `told`. */
@@ -132,7 +129,7 @@ struct bs_table {
   bs_table_group *group;          /* null; of a table with parts its group, and then nothing else is used. No latch is
                                    * needed: it stays as long as the table does */
   bs_manager manager;
-  table_stage stage __attribute__((aligned(TABLE_LINE)));
+  table_stage stage __attribute__((aligned(BS_LINE)));
   bool is_due;                    /* this hold has ended waits: waiters are woken or told as it ends */
   bool is_traced;                 /* it has a trace */
   bool has_rested;                /* a transaction of a session has rested: one may rest still */
@@ -886,14 +883,18 @@ static TABLE_APART bs_reply table_no_sleep(bs_table *table) {
  * Tables.
  */
 
+void *bs_call_lines(size_t size, void **block) {
+  *block = malloc(size + BS_LINE);
+  if (*block == NULL) return NULL;
+  memset(*block, 0, size + BS_LINE);
+  return (void *)(((uintptr_t)*block + BS_LINE - 1) & ~(uintptr_t)(BS_LINE - 1));
+}
+
 /* A place for a table, whose fields are zero; null if memory is refused. */
 static bs_table *table_new_place(void) {
-  void *block = malloc(sizeof(bs_table) + TABLE_LINE);
-  bs_table *table;
-  if (block == NULL) return NULL;
-  table = (bs_table *)(((uintptr_t)block + TABLE_LINE - 1) & ~(uintptr_t)(TABLE_LINE - 1));
-  memset(table, 0, sizeof *table);
-  table->block = block;
+  void *block;
+  bs_table *table = (bs_table *)bs_call_lines(sizeof(bs_table), &block);
+  if (table != NULL) table->block = block;
   return table;
 }
 
@@ -1406,6 +1407,7 @@ bs_reply bs_table_rekey(bs_table *table, bs_txn txn, bs_node record, bs_node ind
 
 bs_reply bs_table_move(bs_table *table, bs_txn txn, bs_node node, const bs_node *parents, size_t count,
                        bs_notices *told) {
+  TABLE_TELL_BY_GROUP(table, told, bs_group_move(table->group, txn, node, parents, count));
   TABLE_TELL(table, told, false, table_make_move(table, txn, node, parents, count, list));
 }
 
@@ -2375,6 +2377,7 @@ bs_call_namer bs_call_table_namer(bs_table *table, const bs_manager *manager) {
  */
 
 bs_reply bs_call_table_watch(bs_table *table, bs_watcher *watcher) {
+  TABLE_BY_GROUP(table, bs_call_group_watch(table->group, watcher));
   TABLE_ASK(table, bs_watch(&table->manager, watcher));
 }
 
@@ -2703,6 +2706,41 @@ bs_reply bs_inside_release_since(bs_table *table, bs_txn txn, uint64_t savepoint
 
 bs_reply bs_inside_drop(bs_table *table, bs_txn txn, bs_node node) {
   return table_wake_after(table, table_make_drop(table, txn, node, &table->told), false);
+}
+
+/* From now on nobody continues the requests of these slots. */
+static void table_withdraw_all(bs_table *table, const bs_slots *slots) {
+  uint32_t slot;
+  for (slot = 0; slot < BS_SLOTS; slot++) {
+    if (!bs_has(*slots, slot)) continue;
+    bs_call_withdraw_waiter(&table->manager, bs_call_living(&table->manager, slot).txn);
+  }
+}
+
+/* Ends the request of a slot with BS_MOVED, which nobody continues. A move may have ended its wait. */
+static void table_end_moved(bs_table *table, uint32_t slot) {
+  bs_txn txn = bs_call_living(&table->manager, slot).txn;
+  bs_notices more;
+  if (table_make_cancel(table, txn, &more).status == BS_DONE) {
+    bs_call_wait_cut(&table->running, slot, BS_END_MOVED);
+    table_note_ended(table, &more);
+  }
+  table_end(table, table->waiters[slot], slot, bs_call_only(BS_MOVED));
+}
+
+/* Nobody continues before all of them have ended: they would pass what they may lack in another table. */
+bs_reply bs_inside_move(bs_table *table, bs_txn txn, bs_node node, const bs_node *parents, size_t count,
+                        const bs_slots *passers) {
+  bs_reply reply = table_make_move(table, txn, node, parents, count, &table->told);
+  uint32_t slot;
+  if (reply.status != BS_DONE) return reply;
+  table_note_ended(table, &table->told);
+  table_withdraw_all(table, passers);
+  for (slot = 0; slot < BS_SLOTS; slot++) {
+    if (bs_has(*passers, slot)) table_end_moved(table, slot);
+  }
+  table_go_on(table, &table->told);
+  return reply;
 }
 
 bs_reply bs_inside_split(bs_table *table, bs_txn txn, bs_node interval, uint64_t at) {

@@ -66,7 +66,7 @@ extern "C" {
 /* The version of these declarations. The first number rises if programs must be changed, or the second while the first
  * is 0. The second rises if something is added, the third if neither. */
 #define BS_VERSION_MAJOR 0
-#define BS_VERSION_MINOR 35
+#define BS_VERSION_MINOR 36
 #define BS_VERSION_PATCH 0
 
 /* How many transactions can live at once, and so how many notices a call can have. A library can be built for another
@@ -181,9 +181,10 @@ typedef struct bs_manager {
 typedef struct bs_watcher {
   bool is_open;
   void *at;
+  struct bs_watched *parts; /* null unless it is a watcher of a table with parts */
 } bs_watcher;
 
-#define BS_NO_WATCHER_HERE { false, NULL }
+#define BS_NO_WATCHER_HERE { false, NULL, NULL }
 
 /* The answer of a call. */
 typedef struct bs_reply {
@@ -675,13 +676,15 @@ static inline bs_reply bs_watch(bs_manager *manager, bs_watcher *watcher) {
 static inline bs_reply bs_look(bs_watcher *watcher, bs_board *board) {
   bs_status misfit = bs_call_misfit();
   if (watcher == NULL || board == NULL) return bs_call_null();
-  return misfit == BS_DONE ? bs_call_look(watcher, board) : bs_call_only(misfit);
+  if (misfit != BS_DONE) return bs_call_only(misfit);
+  return watcher->parts != NULL ? bs_call_group_look(watcher, board) : bs_call_look(watcher, board);
 }
 
 /* Ends a watcher, without a mutex. The place then has no watcher, and may be used for another. Refused with
  * BS_NO_WATCHER. */
 static inline bs_reply bs_watch_end(bs_watcher *watcher) {
-  return watcher == NULL ? bs_call_null() : bs_call_watch_end(watcher);
+  if (watcher == NULL) return bs_call_null();
+  return watcher->parts != NULL ? bs_call_group_watch_end(watcher) : bs_call_watch_end(watcher);
 }
 
 /* ------------------------------------------------------------------------------------------------

@@ -87,6 +87,8 @@ bs_found bs_call_ended(const bs_manager *manager);
 bs_reply bs_call_watch(bs_manager *manager, bs_watcher *watcher);
 bs_reply bs_call_look(bs_watcher *watcher, bs_board *board);
 bs_reply bs_call_watch_end(bs_watcher *watcher);
+bs_reply bs_call_group_look(bs_watcher *watcher, bs_board *board);
+bs_reply bs_call_group_watch_end(bs_watcher *watcher);
 bs_reply bs_call_group(const bs_manager *manager, bs_node node);
 bs_reply bs_call_held(const bs_manager *manager, bs_txn txn, bs_node node);
 bs_reply bs_call_effective(const bs_manager *manager, bs_txn txn, bs_node node);

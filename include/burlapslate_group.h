@@ -119,7 +119,7 @@ bs_reply bs_group_end(bs_table_group *group);
 bs_reply bs_group_free(bs_table_group **group);
 
 /* ------------------------------------------------------------------------------------------------
- * The graph. Its nodes do not move, and inner nodes are not dropped.
+ * The graph. Inner nodes do not move, and are not dropped.
  */
 
 /* Makes an inner node, in all tables. Costs the latches of all tables at once. Refused as bs_add_inner, and with
@@ -275,18 +275,30 @@ bs_reply bs_group_ask_row_path(bs_table_group *group, bs_txn txn, bs_node file, 
  * a program without a thread that sleeps or watches makes this call now and then. */
 bs_reply bs_group_expire(bs_table_group *group, struct timespec *next);
 
-/* Ends all deadlocks over several tables, that of this transaction among them. Those of one table have been ended as they
- * arose. Costs the latches of all tables. Refused with BS_NO_SUCH_TXN. */
+/* Ends all deadlocks over several tables, that of this transaction among them; `count` is how many fell. Those of one
+ * table have been ended as they arose. Costs the latches of all tables. Refused with BS_NO_SUCH_TXN. */
 bs_reply bs_group_settle(bs_table_group *group, bs_txn txn);
 
 /* Starts a thread that looks for deadlocks over several tables each `pace` nanoseconds, until the group ends; 0 stands for
  * 2 ms. Refused with BS_IN_USE if the group has one, and with BS_NO_MEMORY if it cannot be started. */
 bs_reply bs_group_watch_thread(bs_table_group *group, uint64_t pace);
 
+bs_reply bs_call_group_watch(bs_table_group *group, bs_watcher *watcher);
+
+/* As bs_table_watch: makes a watcher of all tables, with the names of the group. A board is joined of those that the
+ * tables have shown last, each whole, and of its own moment; its epoch is the sum of theirs. It shows each present wait,
+ * but may also show a cycle that never was. So settle a suspect (bs_group_settle): that looks again with the latches, and
+ * ends what is a cycle by then. The watcher can be used after the group was freed. Takes memory. */
+static inline bs_reply bs_group_watch(bs_table_group *group, bs_watcher *watcher) {
+  bs_status misfit = bs_call_misfit();
+  if (group == NULL || watcher == NULL) return bs_call_null();
+  return misfit == BS_DONE ? bs_call_group_watch(group, watcher) : bs_call_only(misfit);
+}
+
 /* As bs_table_run, but each command is a critical section of its own, in the tables that it needs. BS_DO_LOCK and
  * BS_DO_LOCK_ROW also lock what must be held above, as BS_DO_TRY and BS_DO_TRY_ROW do: these keep nothing if they are
  * refused. So does BS_DO_INSERT_PATH, whatever its `keep` is. A new file is in each part by turns. `told` is emptied.
- * There is no BS_DO_MOVE: it is refused with BS_BAD_NUMBER. BS_DO_MARK and BS_DO_RELEASE_SINCE have a number for a
+ * BS_DO_MARK and BS_DO_RELEASE_SINCE have a number for a
  * savepoint of all parts, as bs_table_mark of a table with parts. A lock that is left waiting goes on by itself. */
 size_t bs_group_run(bs_table_group *group, bs_command *commands, size_t count);
 
@@ -308,6 +320,12 @@ size_t bs_group_try_first(bs_table_group *group, bs_command *commands, size_t co
 
 /* As bs_table_drop, of a file or an index. */
 bs_reply bs_group_drop(bs_table_group *group, bs_txn txn, bs_node node);
+
+/* As bs_table_move, of a file or an index, which stays in its part. If it lacks BS_IX on a new parent in the part, the
+ * call tries that, as bs_group_index_by does. If the transaction has BS_X on all old and new parents, but not on the node,
+ * it acquires that too, at once. If the call is refused, what it acquired stays. If it is done, each call that waits in
+ * the part for the node, or for something below it, begins anew, and so comes last where it waits. */
+bs_reply bs_group_move(bs_table_group *group, bs_txn txn, bs_node node, const bs_node *parents, size_t count);
 
 /* As bs_table_index_by: the transaction must hold BS_X on the file. If it lacks BS_IX on a parent in the part, the call
  * tries that, as bs_group_insert does: also in the main table, if the parent or a node above it is locked or requested

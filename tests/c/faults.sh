@@ -244,7 +244,6 @@ instant-stays-held-at-once	s/  if (is_instant \&\& reply.status == BS_DONE) tabl
 wait-is-not-registered	/ table_register(bs_table/,/^}/s/^  table_enlist(table, request, wait, waiter);//
 lock-wakes-before-it-registers	/ table_lock_by(/,/^}/{/^    table_register(/d;s/^  table_wake(table, .*/&\n  if (reply.status == BS_WAITING) { table_request request = table_request_of(TABLE_NODE, txn, node, mode, is_instant); table_wait wait = { node, mode }; table_register(table, \&request, wait, waiter, told); }/}
 path-wakes-before-it-registers	/ table_path_by(/,/^}/{/^    table_register(/d;s/^  table_wake(table, .*/&\n  if (reply.status == BS_WAITING) { table_request request = table_request_of(TABLE_PATH, txn, node, mode, is_instant); table_wait wait = { reply.node, reply.mode }; table_register(table, \&request, wait, waiter, told); }/}
-path-asks-for-its-mode-too-late	/ table_path_by(/,/^}/s/wait.mode = bs_call_doing(&table->manager, txn).mode;/wait.mode = BS_IS;/
 wait-that-begins-is-not-noted	/^static void table_note_wait(/,/^}/s/^  bs_call_wait_began(.*//
 instant-that-came-is-the-next-wait	/^static void table_note_wait(/,/^}/s/^  table->instants.*//
 nobody-goes-on	/ table_wake_told(bs_table/,/^}/s/^  table_go_on(table, told);//
@@ -344,7 +343,6 @@ a-list-begins-without-a-slot	s/^    case BS_DO_BEGIN: return table_begin_now(tab
 one-rests-while-others-sleep	s/^  if (table->queued == 0) reply = table_let_rest(/  reply = table_let_rest(/
 a-session-keeps-more	s/session->kept, session->most, told);/session->kept, 2 * session->most, told);/
 a-session-keeps-what-it-kept-alone	s/session->kept, session->most, told);/session->kept, session->kept == 0 ? session->most : session->kept, told);/
-what-is-not-kept-was-kept	s/^  } else if (reply.status == BS_DONE \&\& reply.txn.age != 0) {/  } else if (reply.status == BS_DONE) {/
 one-in-the-way-alone-is-ended	/ table_clear_all(/,/^}/s/^  while (\(.*\)) any = true;/  if (\1) any = true;/
 a-try-ends-one-alone	/ table_clears_node(/,/^}/s/^  while (\(.*\)) any = true;/  if (\1) any = true;/
 who-rests-ends-no-wait	/ table_ended_resting(/,/^}/s/^  table_note_ended(table, more);//
@@ -376,7 +374,7 @@ group-frees-the-part-before-it-requests	/ group_reach(/,/^}/s/^  way->own->targe
 group-visits-no-sleepers	s/^    if (!bs_inside_sleeps(t->table, slot)) continue;/    continue;/
 group-visits-no-parents	s/^    if (!group_is_marked(t, inner->above\[above\])) status = .*/    ;/
 group-copies-nothing-before-a-sleep	s/^  if (status == BS_DONE \&\& way->manner.may_wait) status = group_copy_own(.*//
-group-looks-never	s/^  while (group_settle_one(group)) continue;//
+group-looks-never	s/^  while (group_settle_one(group)) victims++;//
 group-forgets-who-fell	s/^  if (__builtin_expect(reply.status == BS_VICTIM, 0)) group_falls(own);//
 group-sees-no-marks	s/^  if (__builtin_expect(t->marks != 0, 0) \&\& /  if (false \&\& /
 group-needs-nothing-above-an-index	s/^  target.rows = 1;/  target.rows = 0;/
@@ -427,8 +425,8 @@ group-asks-are-not-in-progress	/ group_lock_more(/,/^}/s/^  if (reply.status == 
 group-asks-stay-in-progress	/ group_ask_goes_on(/,/^}/s/^  if (ask->inner != NULL) .*//
 group-asks-end-in-the-main-table	/ group_ask_goes_on(/,/^}/s/bool is_on_the_way = .*/bool is_on_the_way = false;/
 group-asks-for-rows-end-in-the-main-table	/ group_ask_goes_on(/,/^}/s/(ask->is_row || \(.*\));/\1;/
-group-asks-go-on-after-any-end	/ group_ask_goes_on(/,/^}/s/? end.status == BS_DONE :/? true :/
-group-asks-do-not-begin-anew	/ group_ask_goes_on(/,/^}/s/: end.status == BS_MOVED .*) return/: false) return/
+group-asks-go-on-after-any-end	/ group_ask_goes_on(/,/^}/s/end.status == (is_on_the_way ? BS_DONE : BS_MOVED)/is_on_the_way || end.status == BS_MOVED/
+group-asks-do-not-begin-anew	/ group_ask_goes_on(/,/^}/s/? BS_DONE : BS_MOVED)/? BS_DONE : BS_NO_PLACE)/
 group-asks-leave-their-transaction-free	s/^  __atomic_fetch_or(&own->barred, GROUP_WAITS, .*//
 group-asks-bar-their-transaction	/ group_ask_for(/,/^}/s/^  if (reply.status != BS_WAITING) .*//
 group-callbacks-find-it-barred	/ group_ask_ended(/,/^}/s/^  __atomic_fetch_and(.*//
@@ -454,7 +452,8 @@ group-expires-no-begin	/^bs_reply bs_group_expire(/,/^}/s/^  if (all.status == B
 group-expires-no-list	/^bs_reply bs_group_expire(/,/^}/s/^  group_end_late_lists(.*//
 group-counts-no-list-with-a-time	/ group_end_late_lists(/,/^}/s/^    all->count++;//
 group-notes-no-second-table	/ group_join(/,/^}/s/is_spread, true/is_spread, false/
-group-settles-nothing	/^bs_reply bs_group_settle(/,/^}/s/^  if (status == BS_DONE) group_settle_all(group);//
+group-settles-nothing	/^bs_reply bs_group_settle(/,/^}/s/^  if (reply.status == BS_DONE) reply.count = .*//
+group-settles-an-unknown-number	/ group_settle_all(/,/^}/s/^  return victims;/  return 0;/
 group-keeps-ends-that-were-asked-for	/^static bool group_is_told(/,/^}/s/ask->is_told || //
 group-asks-for-an-end-twice	/^bs_reply bs_group_ask_await(/,/^}/s/ \&\& !ask->is_told//
 group-awaits-what-is-told	/^bs_reply bs_group_await(/,/^}/s/^  if (waits .*//
@@ -510,6 +509,29 @@ parts-session-commits-others	/^size_t bs_inside_session_run(/,/^}/s/if (is_own \
 parts-session-loses-what-it-renewed	/^size_t bs_inside_session_run(/,/^}/s/^    if (is_own \&\& next->kind == BS_DO_RENEW) .*//
 parts-insert-with-any-keep	/^bs_reply bs_table_insert_path(/,/^}/s/keep > BS_KEEP_WAY ?/false ?/
 a-refused-list-of-a-session-tells	/^size_t bs_session_run(/,/^}/s/^    table_list_of(table, commands\[0\].told)->count = 0;//
+group-move-lets-waits-go-on	/^bs_reply bs_inside_move(/,/^}/s/^  table_withdraw_all(.*//
+group-move-ends-no-wait	/ group_passers(/,/^}/s/ == BS_DONE) continue;/ != BS_NO_MEMORY) continue;/
+group-move-ends-all-waits	/ group_passers(/,/^}/s/^    if (bs_after_move(.*//
+group-move-leaves-who-could-wait-on	/ table_end_moved(/,/^}/s/table_make_cancel(table, txn, &more).status == BS_DONE/false/
+group-move-counts-no-wait	/ table_end_moved(/,/^}/s/^    bs_call_wait_cut(.*//
+group-move-wakes-nobody	/ table_end_moved(/,/^}/s/^  table_end(table, .*//
+group-move-needs-what-is-above	/^bs_reply bs_group_move(/,/^}/s/^    if (reply.status == BS_NEED_PARENTS) .*/    if (false) continue;/
+group-move-by-new-parents-alone	/ group_exclude(/,/^}/s/^  if (!group_has_exclusive(group, call->own, above.*//
+group-move-by-old-parents-alone	/ group_exclude(/,/^}/s/^  if (!group_has_exclusive(group, call->own, parents.*//
+group-move-by-any-lock-above	/ group_has_exclusive(/,/^}/s/ == BS_X) i++/ >= BS_S) i++/
+group-move-of-a-dealt-file	/ group_move_once(/,/^}/s/ || group_is_dealt(group, call->at, name)) {/) {/
+group-move-below-a-spread-file	/ group_move_once(/,/^}/s/group_any_is_spread(group, parents, count) || //
+group-row-ends-as-moved	/^bs_reply bs_group_lock_row_path(/,/^}/s/(reply.status == BS_MOVED, 0)/(false, 0)/
+group-asked-row-ends-as-moved	/ group_ask_goes_on(/,/^}/s/? BS_DONE : BS_MOVED)) return/? BS_DONE : BS_MOVED) \&\& (is_on_the_way || !ask->is_row)) return/
+group-watcher-names-by-table	/ group_name_waiters(/,/^}/s/^    board->ages\[slot\] = group_age_in(.*//
+group-watcher-shows-who-has-ended	/ group_name_waiters(/,/^}/s/^    if (was_there .*//
+group-watcher-shows-the-last-table	/^bs_reply bs_call_group_look(/,/^}/s/^    group_join_board(.*/    *board = eye->one;/
+group-watcher-has-no-epoch	/ group_join_board(/,/^}/s/^  all->epoch = .*//
+group-watcher-watches-twice	/^bs_reply bs_call_group_watch(/,/^}/s/status == BS_DONE \&\& watcher->is_open/false/
+group-watcher-keeps-the-slots	/^bs_reply bs_call_group_watch_end(/,/^}/s/^  group_leave_slots(.*//
+group-watcher-keeps-its-seats	/ group_end_eyes(/,/^}/s/while (eye->count > 0)/while (eye->count > 1)/
+group-refused-watcher-keeps-its-seats	/^bs_reply bs_call_group_watch(/,/^}/s/^    group_end_eyes(.*//
+group-frees-slots-beside-a-watcher	/ group_share_slots(/,/^}/s/^  __atomic_fetch_add(.*//
 FAULTS
 }
 

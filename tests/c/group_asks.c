@@ -624,7 +624,14 @@ static void lists_are_made_in_order(void) {
   WANT(list[7].reply.status == BS_NO_SUCH_TXN && notices.count == 0 && list[4].reply.mode == BS_X);
   WANT(bs_group_table(list[2].reply.node) != 0 && bs_group_table(list[1].reply.node) == 0);
   WANT(bs_group_run(group, NULL, 3) == 0 && bs_group_run(group, list, 0) == 0);
-  list[0] = bs_do(BS_DO_MOVE, bs_begun());
+  list[0] = bs_do(BS_DO_BEGIN, bs_begun());
+  list[1] = bs_do_at(BS_DO_LOCK, bs_begun(), files[1], BS_X);
+  list[2] = bs_do_at(BS_DO_MOVE, bs_begun(), files[1], BS_NL);
+  list[2].parents = &areas[1];
+  list[2].parent_count = 1;
+  list[3] = bs_do(BS_DO_COMMIT, bs_begun());
+  WANT(bs_group_run(group, list, 4) == 4);
+  list[0] = bs_do(1000, bs_begun());
   WANT(bs_group_run(group, list, 2) == 0);
   WANT(list[0].reply.status == BS_BAD_NUMBER && list[1].reply.status == BS_NOT_MADE);
   WANT(bs_group_run(NULL, list, 1) == 0);
@@ -660,6 +667,43 @@ static void lists_wait(void) {
   ANSWERS(BS_NULL_POINTER, bs_group_await(NULL, txn, NULL));
   commit(txn);
   ANSWERS(BS_NO_SUCH_TXN, bs_group_await(group, txn, NULL));
+}
+
+/* Asks and lists that wait for what moves begin anew: those whose path lacks something by then wait in the main table. */
+static void asks_begin_anew_after_a_move(void) {
+  bs_txn mover = begun(), reader = begun(), writer = begun(), rows = begun(), listed = begun();
+  bs_command list = bs_do(BS_DO_LOCK_ROW_PATH, listed);
+  const uint64_t key = 200;
+  listen();
+  list.file = row_files[1];
+  list.number = 8;
+  list.keys = &key;
+  list.key_count = 1;
+  list.mode = BS_X;
+  DONE(lock_path(mover, files[1], BS_X));
+  DONE(lock_path(mover, indexes[1], BS_X));
+  waits_for(ask(writer, records[1][0], BS_X), writer, files[1]);
+  waits_for(ask_row(rows, row_files[1], 7, BS_X), rows, indexes[1]);
+  WANT(bs_group_run(group, &list, 1) == 0 && list.reply.status == BS_WAITING);
+  DONE(lock_path(mover, areas[2], BS_IX));
+  ANSWERS(BS_WAITING, ask(reader, areas[2], BS_S));
+  DONE(bs_group_move(group, mover, files[1], &areas[2], 1));
+  DONE(bs_group_move(group, mover, indexes[1], &areas[2], 1));
+  index_areas[1] = 2;
+  want_rules(group);
+  tells_nobody();
+  WANT(sleeps_in(0, writer) && sleeps_in(0, rows) && sleeps_in(0, listed));
+  commit(mover);
+  tells(reader, BS_DONE);
+  WANT(sleeps_in(0, writer) && sleeps_in(0, rows) && sleeps_in(0, listed));
+  commit(reader);
+  WANT(heard() == 2 && told[0].end.status == BS_DONE && told[1].end.status == BS_DONE);
+  told_count = 0;
+  DONE(bs_group_await(group, listed, NULL));
+  WANT(held_in(group, 1, writer, areas[2]) == BS_IX && held_in(group, 1, rows, areas[2]) == BS_IX);
+  commit(writer);
+  commit(rows);
+  commit(listed);
 }
 
 /* A thread that awaits what a list left waiting. */
@@ -886,7 +930,7 @@ static const struct {
   STORY(victims_are_told_before_a_part_is_entered),
   STORY(callers_are_ended_by_callbacks), STORY(asks_are_cancelled_between_tables),
   STORY(late_cancels_change_nothing), STORY(refused_memory_asks_for_nothing), STORY(lists_are_made_in_order),
-  STORY(lists_wait), STORY(awaits_are_woken), STORY(cycles_of_lists_end), STORY(the_first_is_acquired),
+  STORY(lists_wait), STORY(asks_begin_anew_after_a_move), STORY(awaits_are_woken), STORY(cycles_of_lists_end), STORY(the_first_is_acquired),
   STORY(transactions_are_renewed),
   { "begins_are_served_in_order", begins_are_served_in_order, 2 }, { "no_turn_is_lost", no_turn_is_lost, 2 },
 };

@@ -359,7 +359,7 @@ static void want_no_conflict_anywhere(void) {
 /* Whether a call may have given nodes other parents, or taken a node from between others. */
 static bool changes_graph(const struct call *call) {
   switch ((uint32_t)call->kind) {
-    case REKEY: case REKEY_ROW: case DROP: case INDEX_BY: case INDEX_RECORDS: case ADD_INDEX: case SPLIT: case MERGE:
+    case REKEY: case REKEY_ROW: case MOVE: case DROP: case INDEX_BY: case INDEX_RECORDS: case ADD_INDEX: case SPLIT: case MERGE:
       return true;
     default: return false;
   }

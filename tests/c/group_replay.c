@@ -114,7 +114,7 @@ struct session {
   bs_reply end;      /* of its ask */
   bool is_told;      /* atomic */
   uint64_t named_slot, named_age; /* atomic: its transaction */
-  long late, asks, commits, inner, indexes;
+  long late, asks, commits, inner, indexes, moves;
   pthread_t thread;
 };
 
@@ -376,6 +376,24 @@ static bs_reply make_node(struct session *s) {
   return reply.status == BS_DONE ? bs_group_drop(group, s->txn, file) : reply;
 }
 
+/* Moves a file or an index below one area or two, by a lock of it or, at times, of all areas. */
+static bs_reply move_below(struct session *s) {
+  bs_node file = few_files[pick(s, SPREAD)], index = named(pick(s, 2) == 0 ? &row_index : &crossed_indexes[0]);
+  bs_node node = pick(s, 2) == 0 ? file : index;
+  size_t first = pick(s, FEW_AREAS), i;
+  bs_reply reply;
+  if (pick(s, 20) != 0) {
+    reply = lock_node(s, node, BS_X);
+  } else {
+    reply = lock_node(s, areas[0], BS_X);
+    for (i = 1; i < FEW_AREAS && reply.status == BS_DONE; i++) reply = lock_node(s, areas[i], BS_X);
+  }
+  if (reply.status != BS_DONE) return reply;
+  reply = bs_group_move(group, s->txn, node, areas + first, 1 + pick(s, FEW_AREAS - first));
+  if (reply.status == BS_DONE) s->moves++;
+  return reply;
+}
+
 static bs_reply escalate(struct session *s) {
   size_t file = pick(s, FILES);
   return bs_group_escalate(group, s->txn, file == SPREAD ? any_part_of_spread(s) : few_files[file]);
@@ -421,7 +439,7 @@ static bs_reply any_command(struct session *s) {
     case 9: return change_index(s);
     case 10: return index_records(s);
     case 11: return split_or_merge(s);
-    case 12: return make_node(s);
+    case 12: return pick(s, 2) == 0 ? make_node(s) : move_below(s);
     case 13: return meddle(s);
     case 14: return run_some(s);
     case 15: case 16: return skip_rows(s);
@@ -619,7 +637,7 @@ static void run_all(uint64_t seed) {
 }
 
 static void say(const char *name, uint64_t crowd, uint64_t replayed) {
-  long late = 0, asks = 0, commits = 0, inner = 0, indexes = 0;
+  long late = 0, asks = 0, commits = 0, inner = 0, indexes = 0, moves = 0;
   size_t i;
   for (i = 0; i < THREADS; i++) {
     late += sessions[i].late;
@@ -627,11 +645,12 @@ static void say(const char *name, uint64_t crowd, uint64_t replayed) {
     commits += sessions[i].commits;
     inner += sessions[i].inner;
     indexes += sessions[i].indexes;
+    moves += sessions[i].moves;
   }
   fprintf(stderr, "%s: %lu calls, %ld commits, %lu condemned in a table, %lu fell over tables, ", name,
           (unsigned long)calls, commits, (unsigned long)condemned, (unsigned long)fallen);
-  fprintf(stderr, "%ld too late, %ld asks waited, %ld inner, %ld indexes, %lu ms, replayed in %lu ms\n", late, asks,
-          inner, indexes, (unsigned long)(crowd / 1000000), (unsigned long)(replayed / 1000000));
+  fprintf(stderr, "%ld too late, %ld asks waited, %ld inner, %ld indexes, %ld moves, %lu ms, replayed in %lu ms\n", late, asks,
+          inner, indexes, moves, (unsigned long)(crowd / 1000000), (unsigned long)(replayed / 1000000));
   printf("%s\n", name);
 }
 

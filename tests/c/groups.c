@@ -19,6 +19,7 @@ static void calls_of_parts_are_refused(bs_table_group *of, bs_txn txn, bs_status
   memset(&savepoint, 0, sizeof savepoint);
   ANSWERS(status, bs_group_unlock(of, txn, file));
   ANSWERS(status, bs_group_drop(of, txn, file));
+  ANSWERS(status, bs_group_move(of, txn, file, &base, 1));
   ANSWERS(status, bs_group_split(of, txn, file, 1));
   ANSWERS(status, bs_group_merge(of, txn, file));
   ANSWERS(status, bs_group_index_by(of, txn, &base, 1, file, NULL, 0));
@@ -66,6 +67,8 @@ static void null_calls_of_parts_are_refused(bs_txn txn) {
   bs_counts counts;
   ANSWERS(BS_NULL_POINTER, bs_group_unlock(NULL, txn, files[1]));
   ANSWERS(BS_NULL_POINTER, bs_group_drop(NULL, txn, files[1]));
+  ANSWERS(BS_NULL_POINTER, bs_group_move(NULL, txn, files[1], &base, 1));
+  ANSWERS(BS_NULL_POINTER, bs_group_move(group, txn, files[1], NULL, 1));
   ANSWERS(BS_NULL_POINTER, bs_group_split(NULL, txn, files[1], 1));
   ANSWERS(BS_NULL_POINTER, bs_group_merge(NULL, txn, files[1]));
   ANSWERS(BS_NULL_POINTER, bs_group_index_by(NULL, txn, &base, 1, files[1], NULL, 0));
@@ -495,6 +498,80 @@ static void an_index_is_made_beside_records(void) {
 }
 
 /* More than an intention on an inner node is held in the main table; what its holder has below needs it there. */
+/* What a move of a file or an index may be refused with, and what it needs. */
+static void wrong_moves_are_refused(void) {
+  bs_txn txn = begun();
+  bs_node nine[9];
+  size_t i;
+  for (i = 0; i < 9; i++) nine[i] = areas[i % AREAS];
+  ANSWERS(BS_BAD_NUMBER, bs_group_move(group, txn, files[1], nine, 9));
+  ANSWERS(BS_NO_SUCH_TXN, bs_group_move(group, (bs_txn){ 0, 77 }, files[1], &areas[1], 1));
+  ANSWERS(BS_NO_SUCH_NODE, bs_group_move(group, txn, (bs_node){ 77, 3 }, &areas[1], 1));
+  ANSWERS(BS_BAD_PARENTS, bs_group_move(group, txn, areas[0], &base, 1));
+  ANSWERS(BS_BAD_PARENTS, bs_group_move(group, txn, records[1][0], &areas[1], 1));
+  ANSWERS(BS_BAD_PARENTS, bs_group_move(group, txn, files[1], &row_files[1], 1));
+  ANSWERS(BS_NO_SUCH_NODE, bs_group_move(group, txn, files[1], &files[2], 1));
+  ANSWERS(BS_NEED_EXCLUSIVE, bs_group_move(group, txn, files[1], &areas[1], 1));
+  DONE(lock_path(txn, areas[0], BS_X));
+  ANSWERS(BS_NEED_EXCLUSIVE, bs_group_move(group, txn, files[1], &areas[1], 1));
+  DONE(lock_path(txn, areas[1], BS_SIX));
+  ANSWERS(BS_NEED_EXCLUSIVE, bs_group_move(group, txn, files[1], &areas[1], 1));
+  ANSWERS(BS_NEED_EXCLUSIVE, bs_group_move(group, txn, files[2], &areas[0], 1));
+  WANT(held_in(group, 1, txn, areas[1]) == BS_NL && DONE(bs_group_held(group, txn, files[1])).mode == BS_NL);
+  commit(txn);
+  want_rest(group);
+}
+
+/* A file moves below another area: whoever reads that area excludes the mover, and then waits for it. After it, who
+ * writes below the file needs that area, and the old one no more. */
+static void files_move_in_their_parts(void) {
+  bs_txn txn = begun(), reader = begun();
+  DONE(lock_path(txn, files[1], BS_X));
+  DONE(lock_path(reader, areas[1], BS_S));
+  WANT(group_is_node(ANSWERS(BS_WOULD_BLOCK, bs_group_move(group, txn, files[1], &areas[1], 1)).node, areas[1]));
+  WANT(held_in(group, 1, txn, areas[1]) == BS_NL);
+  commit(reader);
+  DONE(bs_group_move(group, txn, files[1], &areas[1], 1));
+  WANT(held_in(group, 1, txn, areas[1]) == BS_IX && held_in(group, 1, txn, areas[0]) == BS_IX);
+  want_rules(group);
+  reader = begun();
+  ANSWERS(BS_WOULD_BLOCK, bs_group_try_path(group, reader, areas[1], BS_S, 0));
+  commit(txn);
+  DONE(lock_path(reader, areas[1], BS_S));
+  txn = begun();
+  WANT(group_is_node(ANSWERS(BS_WOULD_BLOCK, bs_group_try_path(group, txn, records[1][0], BS_X, 0)).node, areas[1]));
+  commit(reader);
+  reader = begun();
+  DONE(lock_path(reader, areas[0], BS_X));
+  DONE(bs_group_try_path(group, txn, records[1][0], BS_X, 0));
+  WANT(held_in(group, 1, txn, areas[1]) == BS_IX && held_in(group, 1, txn, areas[0]) == BS_NL);
+  commit(reader);
+  commit(txn);
+  want_rest(group);
+}
+
+/* Who has all parents of a file, old and new, in BS_X may move it, as in a table, and then has the file too. So may who
+ * has the file and reads a new parent. An index is moved likewise. */
+static void parents_stand_for_their_file(void) {
+  bs_node both[2] = { areas[0], areas[1] };
+  bs_txn txn = begun();
+  DONE(lock_path(txn, areas[0], BS_X));
+  DONE(lock_path(txn, areas[1], BS_X));
+  DONE(bs_group_move(group, txn, files[1], both, 2));
+  WANT(DONE(bs_group_held(group, txn, files[1])).mode == BS_X && held_in(group, 1, txn, areas[1]) == BS_IX);
+  want_rules(group);
+  DONE(bs_group_move(group, txn, files[1], &areas[1], 1));
+  commit(txn);
+  txn = begun();
+  DONE(lock_path(txn, areas[2], BS_SIX));
+  DONE(lock_path(txn, indexes[1], BS_X));
+  DONE(bs_group_move(group, txn, indexes[1], &areas[2], 1));
+  WANT(held_in(group, 1, txn, areas[2]) == BS_IX && held_in(group, 0, txn, areas[2]) == BS_SIX);
+  index_areas[1] = 2;
+  commit(txn);
+  want_rest(group);
+}
+
 static void strong_locks_are_in_main(void) {
   bs_txn txn = begun();
   uint32_t part;
@@ -882,6 +959,25 @@ static void refused_memory_makes_no_index(void) {
   want_rest(group);
 }
 
+/* The same of a move, which the transaction's locks on the parents allow. */
+static void refused_memory_moves_nothing(void) {
+  bs_txn txn = begun();
+  bs_reply reply;
+  long next;
+  DONE(lock_path(txn, areas[0], BS_X));
+  DONE(lock_path(txn, areas[1], BS_X));
+  for (next = 1, reply.status = BS_NO_MEMORY; reply.status == BS_NO_MEMORY; next++) {
+    refused_allocation = next;
+    reply = bs_group_move(group, txn, files[1], &areas[1], 1);
+    refused_allocation = 0;
+    want_rules(group);
+  }
+  DONE(reply);
+  WANT(next > 2 && DONE(bs_group_held(group, txn, files[1])).mode == BS_X);
+  commit(txn);
+  want_rest(group);
+}
+
 /* ------------------------------------------------------------------------------------------------
  * Stories of several threads.
  */
@@ -1135,6 +1231,98 @@ static void paths_to_records_begin_anew(void) {
   WANT(held_in(group, 1, writer, root) == BS_IX);
   commit(writer);
   commit(third);
+  want_rest(group);
+}
+
+/* A path that waits begins anew as a file above it moves below a node that somebody waits to read: so it waits for that
+ * reader, though it had no lock to request there before. Paths to other nodes wait on. */
+static void paths_begin_anew_after_a_move(void) {
+  bs_txn mover = begun(), reader = begun(), writer = begun(), behind = begun(), third = begun();
+  bs_node other = DONE(bs_group_add_file(group, 1, &areas[0], 1)).node;
+  sleeper reads, writes, next, goes_on;
+  DONE(lock_path(mover, files[1], BS_X));
+  DONE(lock_path(mover, other, BS_X));
+  sleep_in(&writes, 1, writer, records[1][0], BS_X);
+  sleep_in(&next, 1, behind, files[1], BS_IX);
+  sleep_in(&goes_on, 1, third, other, BS_IX);
+  DONE(lock_path(mover, areas[1], BS_IX));
+  sleep_in(&reads, 0, reader, areas[1], BS_S);
+  WANT(group_is_marked(&group->tables[1], (uint32_t)areas[1].key) && held_in(group, 0, writer, areas[1]) == BS_NL);
+  DONE(bs_group_move(group, mover, files[1], &areas[1], 1));
+  want_rules(group);
+  while (!sleeps_in(0, writer) || !sleeps_in(0, behind)) nap();
+  WANT(sleeps_in(1, third) && held_in(group, 1, writer, areas[1]) == BS_NL);
+  commit(mover);
+  wakes_with(&reads, BS_DONE);
+  wakes_with(&goes_on, BS_DONE);
+  WANT(sleeps_in(0, writer) && sleeps_in(0, behind));
+  commit(reader);
+  wakes_with(&next, BS_DONE);
+  wakes_with(&writes, BS_DONE);
+  WANT(held_in(group, 1, writer, areas[1]) == BS_IX && held_in(group, 1, behind, areas[1]) == BS_IX);
+  commit(behind);
+  commit(writer);
+  commit(third);
+  want_rest(group);
+}
+
+/* So does one to a row as an index of its file moves. If the move is refused, all wait on, in their order. */
+static void paths_to_rows_begin_anew(void) {
+  bs_txn mover = begun(), reader = begun(), writer = begun();
+  sleeper reads, writes;
+  DONE(lock_path(mover, indexes[1], BS_X));
+  sleep_for_row(&writes, writer, 200, BS_X);
+  DONE(lock_path(reader, areas[2], BS_S));
+  ANSWERS(BS_WOULD_BLOCK, bs_group_move(group, mover, indexes[1], &areas[2], 1));
+  WANT(sleeps_in(1, writer));
+  commit(reader);
+  reader = begun();
+  DONE(lock_path(mover, areas[2], BS_IX));
+  sleep_in(&reads, 0, reader, areas[2], BS_S);
+  DONE(bs_group_move(group, mover, indexes[1], &areas[2], 1));
+  index_areas[1] = 2;
+  while (!sleeps_in(0, writer)) nap();
+  WANT(held_in(group, 1, writer, areas[2]) == BS_NL);
+  commit(mover);
+  wakes_with(&reads, BS_DONE);
+  WANT(sleeps_in(0, writer));
+  commit(reader);
+  wakes_with(&writes, BS_DONE);
+  WANT(held_in(group, 1, writer, areas[2]) == BS_IX);
+  commit(writer);
+  want_rest(group);
+}
+
+/* How many waits in part 1 have ended so. */
+static uint64_t ended_so(enum bs_wait_ends end) {
+  uint64_t count = 0;
+  bs_waits waits;
+  size_t i;
+  DONE(bs_table_waits(group->tables[1].table, &waits));
+  for (i = 0; i < BS_WAIT_BUCKETS; i++) count += waits.ended[end].buckets[i];
+  return count;
+}
+
+/* Each wait that passes what moved begins anew, also one that has what it needs above, and would wait on in a table. */
+static void all_waits_begin_anew(void) {
+  bs_txn mover = begun(), one = begun(), other = begun();
+  bs_node beside = DONE(bs_group_add_file(group, 1, &areas[2], 1)).node;
+  sleeper first, second;
+  uint64_t moved = ended_so(BS_END_MOVED), cancelled = ended_so(BS_END_CANCELLED);
+  DONE(lock_path(one, beside, BS_IX));
+  DONE(lock_path(mover, files[1], BS_X));
+  sleep_in(&first, 1, one, records[1][0], BS_X);
+  sleep_in(&second, 1, other, files[1], BS_IS);
+  DONE(bs_group_move(group, mover, files[1], &areas[2], 1));
+  want_rules(group);
+  while (!sleeps_in(1, one) || !sleeps_in(1, other)) nap();
+  WANT(held_in(group, 1, one, areas[2]) == BS_IX && held_in(group, 1, other, areas[2]) == BS_IS);
+  WANT(ended_so(BS_END_MOVED) == moved + 2 && ended_so(BS_END_CANCELLED) == cancelled);
+  commit(mover);
+  wakes_with(&second, BS_DONE);
+  wakes_with(&first, BS_DONE);
+  commit(one);
+  commit(other);
   want_rest(group);
 }
 
@@ -1986,6 +2174,8 @@ static void files_of_parts_stay_as_they_are(void) {
   DONE(lock_path(txn, file, BS_X));
   DONE(lock_path(txn, row_files[1], BS_X));
   ANSWERS(BS_BAD_PARENTS, bs_group_drop(group, txn, file));
+  ANSWERS(BS_BAD_PARENTS, bs_group_move(group, txn, file, &base, 1));
+  ANSWERS(BS_BAD_PARENTS, bs_group_move(group, txn, row_files[1], &spread, 1));
   ANSWERS(BS_BAD_PARENTS, bs_group_index_by(group, txn, &base, 1, file, NULL, 0));
   ANSWERS(BS_BAD_PARENTS, bs_group_index_by(group, txn, &spread, 1, row_files[1], NULL, 0));
   DONE(lock_dealt(txn, spread, number, BS_X, NULL));
@@ -2608,8 +2798,16 @@ static bool has_for_change(crowd_thread *own, uint32_t part, bs_node node, bool 
   return true;
 }
 
-/* Puts another index in the place of that of a file of rows, mostly in another area. Rows that wait for the file have
- * one key, before and after that. */
+/* Moves the index of a file of rows below an area. */
+static void move_index(crowd_thread *own, uint32_t part, uint32_t area, bool *fell) {
+  if (!was_granted(own, bs_group_move(group, own->txn, indexes[part], &areas[area], 1), fell)) return;
+  below(own, &of_areas[area], true);
+  index_areas[part] = area;
+  own->changes++;
+}
+
+/* Puts another index in the place of that of a file of rows, mostly in another area, or moves it there. Rows that wait
+ * for the file have one key, before and after that. */
 static void touch_schema(crowd_thread *own, bool *fell) {
   const uint64_t bound = BOUND;
   uint32_t part = 1 + draw(own, world_parts), area = draw(own, AREAS);
@@ -2618,6 +2816,10 @@ static void touch_schema(crowd_thread *own, bool *fell) {
   has(own, &of_row_files[part], BS_X);
   if (!has_for_change(own, part, indexes[part], fell)) return;
   below(own, &of_areas[index_areas[part]], true);
+  if (draw(own, 2) == 0) {
+    move_index(own, part, area, fell);
+    return;
+  }
   reply = bs_group_index_by(group, own->txn, &areas[area], 1, row_files[part], &bound, 1);
   if (reply.status == BS_FILE_IN_USE || !was_granted(own, reply, fell)) return;
   below(own, &of_areas[area], true);
@@ -2802,18 +3004,21 @@ static const struct {
 } stories[] = {
   STORY(null_groups_are_refused), STORY(wrong_graphs_are_refused), STORY(wrong_requests_are_refused),
   STORY(wrong_changes_are_refused), STORY(changes_need_their_locks), STORY(nodes_are_unlocked), STORY(intervals_are_split_and_merged),
-  STORY(schemas_change_in_a_part), STORY(an_index_is_made_beside_records),
+  STORY(schemas_change_in_a_part), STORY(an_index_is_made_beside_records), STORY(wrong_moves_are_refused),
+  STORY(files_move_in_their_parts), STORY(parents_stand_for_their_file),
   STORY(who_holds_a_table_is_refused), STORY(names_are_translated), STORY(one_part_needs_no_other),
   STORY(begins_have_ages), STORY_ALONE(records_come_and_go), STORY(rows_have_numbers), STORY(strong_locks_are_in_main),
   STORY(inserts_are_tried), STORY(paths_are_tried), STORY(row_paths_are_tried), STORY(instants_are_released), STORY(nodes_are_made_at_any_time), STORY(many_marks_are_reached),
   STORY_ALONE(answers_are_those_of_a_table),
   STORY(refused_memory_makes_no_group), STORY(refused_memory_breaks_no_rule),
   STORY(refused_memory_makes_no_index), STORY(refused_memory_makes_no_index_beside_records),
+  STORY(refused_memory_moves_nothing),
   STORY(instants_are_awaited), STORY(strong_waits_for_records_of_any_part), STORY(records_wait_for_strong),
   STORY(sleepers_are_visited),
   STORY(rows_that_wait_are_visited), STORY(new_indexes_end_paths), STORY(readers_that_wait_are_visited),
   STORY(indexes_need_what_is_above), STORY(other_indexes_end_paths), STORY(new_roots_end_paths),
-  STORY(paths_to_records_begin_anew),
+  STORY(paths_to_records_begin_anew), STORY(paths_begin_anew_after_a_move), STORY(paths_to_rows_begin_anew),
+  STORY(all_waits_begin_anew),
   STORY(changes_end_waits), STORY_ALONE(savepoints_are_of_parts), STORY(counters_are_summed),
   STORY(marks_stay_for_requests_above),
   STORY(times_leave_no_marks), STORY(paths_clear_marks), STORY(cycles_over_parts_end), STORY(cycles_over_main_end), STORY(one_of_a_cycle_falls),

@@ -114,14 +114,8 @@ static void hears_nothing(void *context, const bs_long_wait *wait, const bs_dead
 /* What a table with parts has not is refused so, and changes nothing. */
 static void what_parts_have_not_is_refused(world *w) {
   bs_txn txn = begun(w);
-  bs_watcher watcher = BS_NO_WATCHER_HERE;
-  bs_notices told;
-  told.count = 4;
   WANT(bs_table_hold(w->table) == NULL);
   ANSWERS(BS_NOT_HELD, bs_table_let_go(w->table));
-  ANSWERS(BS_IN_PARTS, bs_table_move(w->table, txn, w->files[0], &w->base, 1, &told));
-  WANT(told.count == 0);
-  ANSWERS(BS_IN_PARTS, bs_table_watch(w->table, &watcher));
   ANSWERS(BS_IN_PARTS, bs_table_on_long_wait(w->table, 1, hears_nothing, NULL));
   ANSWERS(BS_IN_PARTS, bs_table_trace(w->table, 1));
   ANSWERS(BS_IN_PARTS, bs_table_trace_end(w->table));
@@ -688,6 +682,7 @@ static void deadlocks_are_settled(world *w) {
   WANT(bs_table_run(w->table, &settle, 1) == 1);
   was_told(1, BS_VICTIM);
   if (bs_table_group_of(w->table) != NULL) {
+    WANT(settle.reply.count == 1);
     DONE(bs_group_counters(bs_table_group_of(w->table), &counts));
     WANT(counts.condemned == 1);
   }
@@ -695,6 +690,239 @@ static void deadlocks_are_settled(world *w) {
   DONE(bs_table_abort(w->table, young, NULL));
   was_told(0, BS_DONE);
   commit(w, old);
+}
+
+/* A file is moved by who has it in BS_X and writes below its new parents. Whoever waits for it does so after that too. */
+static void files_are_moved(world *w) {
+  bs_node area = DONE(bs_table_add_inner(w->table, &w->base, 1)).node;
+  bs_txn txn = begun(w), waiter = begun(w);
+  bs_notices told;
+  listen(w);
+  told.count = 3;
+  ANSWERS(BS_NEED_EXCLUSIVE, bs_table_move(w->table, txn, w->files[0], &area, 1, &told));
+  WANT(told.count == 0);
+  DONE(bs_table_lock_path(w->table, txn, w->files[0], BS_X, NULL));
+  DONE(bs_table_lock_path(w->table, txn, area, BS_IX, NULL));
+  ANSWERS(BS_WAITING, bs_table_ask_path(w->table, waiter, w->records[0][0], BS_X, NULL, &words[0]));
+  DONE(bs_table_move(w->table, txn, w->files[0], &area, 1, &told));
+  WANT(told_in_all == 0);
+  commit(w, txn);
+  was_told(0, BS_DONE);
+  WANT(held(w, waiter, area) == BS_IX && held(w, waiter, w->records[0][0]) == BS_X);
+  commit(w, waiter);
+}
+
+/* ------------------------------------------------------------------------------------------------
+ * Watchers.
+ */
+
+static bool is_shown(const bs_board *board, bs_txn one, bs_txn other) {
+  return bs_has(board->rows[one.slot], other.slot) && board->ages[one.slot] == one.age &&
+         board->ages[other.slot] == other.age;
+}
+
+static size_t shown_waits(const bs_board *board) {
+  size_t i, j, count = 0;
+  for (i = 0; i < BS_SLOTS; i++) {
+    for (j = 0; j < BS_SLOTS; j++) count += bs_has(board->rows[i], (uint32_t)j);
+  }
+  return count;
+}
+
+/* A watcher shows each present wait, by the names that the table has given; and a settle ends the cycle that it shows. */
+static void watchers_show_cycles(world *w) {
+  static bs_board board;
+  bs_watcher watcher = BS_NO_WATCHER_HERE;
+  bs_txn old = begun(w), young = begun(w), third = begun(w);
+  bs_txn suspect;
+  uint64_t seen;
+  if (old.age > young.age) {
+    suspect = old;
+    old = young;
+    young = suspect;
+  }
+  listen(w);
+  ANSWERS(BS_NULL_POINTER, bs_table_watch(NULL, &watcher));
+  ANSWERS(BS_NULL_POINTER, bs_table_watch(w->table, NULL));
+  DONE(bs_table_watch(w->table, &watcher));
+  ANSWERS(BS_IN_USE, bs_table_watch(w->table, &watcher));
+  DONE(bs_look(&watcher, &board));
+  WANT(shown_waits(&board) == 0);
+  seen = board.epoch;
+  DONE(bs_table_lock_path(w->table, old, w->records[0][0], BS_X, NULL));
+  DONE(bs_table_lock_path(w->table, young, w->records[1][0], BS_X, NULL));
+  ANSWERS(BS_WAITING, bs_table_ask_path(w->table, old, w->records[1][0], BS_S, NULL, &words[0]));
+  DONE(bs_look(&watcher, &board));
+  WANT(is_shown(&board, old, young) && shown_waits(&board) == 1 && board.epoch > seen);
+  ANSWERS(BS_NO_PLACE, bs_youngest(&board, bs_suspects(&board).slots));
+  ANSWERS(BS_WAITING, bs_table_ask_path(w->table, young, w->records[0][0], BS_S, NULL, &words[1]));
+  DONE(bs_look(&watcher, &board));
+  WANT(is_shown(&board, old, young) && is_shown(&board, young, old) && shown_waits(&board) == 2);
+  suspect.slot = (uint32_t)DONE(bs_youngest(&board, bs_suspects(&board).slots)).count;
+  suspect.age = board.ages[suspect.slot];
+  WANT(suspect.slot == young.slot && suspect.age == young.age);
+  DONE(bs_table_settle(w->table, suspect, NULL));
+  was_told(1, BS_VICTIM);
+  DONE(bs_look(&watcher, &board));
+  WANT(is_shown(&board, old, young) && shown_waits(&board) == 1);
+  DONE(bs_table_abort(w->table, young, NULL));
+  was_told(0, BS_DONE);
+  DONE(bs_look(&watcher, &board));
+  WANT(shown_waits(&board) == 0 && board.ages[young.slot] == 0 && board.ages[old.slot] == old.age);
+  ANSWERS(BS_WAITING, bs_table_ask_path(w->table, third, w->records[0][0], BS_S, NULL, &words[2]));
+  commit(w, old);
+  was_told(2, BS_DONE);
+  DONE(bs_watch_end(&watcher));
+  ANSWERS(BS_NO_WATCHER, bs_look(&watcher, &board));
+  ANSWERS(BS_NO_WATCHER, bs_watch_end(&watcher));
+  DONE(bs_table_watch(w->table, &watcher));
+  DONE(bs_look(&watcher, &board));
+  WANT(board.ages[third.slot] == third.age && board.ages[old.slot] == 0);
+  DONE(bs_watch_end(&watcher));
+  commit(w, third);
+}
+
+/* A board that could not be shown, for lack of memory, has a wait of a transaction that has ended. With parts that one is
+ * taken off; else the next command shows the board. */
+static void ended_waits_are_taken_off(world *w) {
+  static bs_board board;
+  bs_watcher watcher = BS_NO_WATCHER_HERE;
+  bs_txn holder = begun(w), waiter = begun(w);
+  bs_command list = bs_do_at(BS_DO_LOCK_PATH, waiter, w->records[0][0], BS_S);
+  DONE(bs_table_watch(w->table, &watcher));
+  DONE(bs_table_lock_path(w->table, holder, w->records[0][0], BS_X, NULL));
+  WANT(bs_table_run(w->table, &list, 1) == 0);
+  DONE(bs_look(&watcher, &board));
+  WANT(is_shown(&board, waiter, holder));
+  refuse_thread(pthread_self());
+  DONE(bs_table_abort(w->table, waiter, NULL));
+  refuse_no_thread();
+  if (bs_table_group_of(w->table) == NULL) commit(w, begun(w));
+  DONE(bs_look(&watcher, &board));
+  WANT(shown_waits(&board) == 0 && board.ages[waiter.slot] != waiter.age && board.ages[holder.slot] == holder.age);
+  DONE(bs_watch_end(&watcher));
+  commit(w, holder);
+}
+
+static void watchers_are_counted(world *w) {
+  static const bs_watcher none = BS_NO_WATCHER_HERE;
+  bs_watcher all[BS_MOST_WATCHERS + 1];
+  size_t i;
+  for (i = 0; i <= BS_MOST_WATCHERS; i++) all[i] = none;
+  for (i = 0; i < BS_MOST_WATCHERS; i++) DONE(bs_table_watch(w->table, &all[i]));
+  ANSWERS(BS_TOO_MANY_WATCHERS, bs_table_watch(w->table, &all[BS_MOST_WATCHERS]));
+  DONE(bs_watch_end(&all[3]));
+  DONE(bs_table_watch(w->table, &all[BS_MOST_WATCHERS]));
+  DONE(bs_table_end(w->table));
+  ANSWERS(BS_NO_MANAGER, bs_table_watch(w->table, &all[3]));
+  for (i = 0; i <= BS_MOST_WATCHERS; i++) ANSWERS(i == 3 ? BS_NO_WATCHER : BS_DONE, bs_watch_end(&all[i]));
+}
+
+/* After its table was freed a watcher shows the last board, and one more may be looked at until it ends. */
+static void watchers_outlive_their_table(uint32_t parts) {
+  static bs_board board;
+  bs_watcher one = BS_NO_WATCHER_HERE, other = BS_NO_WATCHER_HERE;
+  bs_txn holder, waiter;
+  bs_command list;
+  world w;
+  make_world(&w, parts);
+  DONE(bs_table_watch(w.table, &one));
+  DONE(bs_table_watch(w.table, &other));
+  holder = begun(&w);
+  waiter = begun(&w);
+  DONE(bs_table_lock_path(w.table, holder, w.records[0][0], BS_X, NULL));
+  list = bs_do_at(BS_DO_LOCK_PATH, waiter, w.records[0][0], BS_X);
+  WANT(bs_table_run(w.table, &list, 1) == 0);
+  DONE(bs_table_end(w.table));
+  DONE(bs_look(&one, &board));
+  DONE(bs_table_free(&w.table));
+  DONE(bs_watch_end(&one));
+  DONE(bs_look(&other, &board));
+  WANT(is_shown(&board, waiter, holder));
+  DONE(bs_watch_end(&other));
+}
+
+static void refused_memory_makes_no_watcher(uint32_t parts) {
+  bs_watcher watcher = BS_NO_WATCHER_HERE;
+  bs_reply reply = bs_call_only(BS_NO_MEMORY);
+  world w;
+  long next;
+  make_world(&w, parts);
+  for (next = 1; reply.status == BS_NO_MEMORY; next++) {
+    refused_allocation = next;
+    reply = bs_table_watch(w.table, &watcher);
+    refused_allocation = 0;
+  }
+  WANT(next > (long)parts);
+  DONE(reply);
+  DONE(bs_watch_end(&watcher));
+  end_world(&w);
+}
+
+/* A table whose threads a watcher of theirs keeps from waiting for each other. */
+typedef struct watched_crowd {
+  world w;
+  bool is_over; /* atomic */
+  uint64_t fell, done; /* atomic */
+} watched_crowd;
+
+/* Locks two records of files in different parts, in any order. */
+static void *takes_two(void *place) {
+  watched_crowd *crowd = (watched_crowd *)place;
+  pcg dice = pcg_new((uint64_t)(uintptr_t)&dice, 3);
+  size_t round;
+  for (round = 0; round < 200; round++) {
+    bs_txn txn = begun(&crowd->w);
+    size_t first = pcg_below(&dice, 2);
+    bs_reply reply = bs_table_lock_path(crowd->w.table, txn, crowd->w.records[first][0], BS_X, NULL);
+    if (reply.status == BS_DONE) {
+      reply = bs_table_lock_path(crowd->w.table, txn, crowd->w.records[1 - first][0], BS_X, NULL);
+    }
+    if (reply.status == BS_DONE) commit(&crowd->w, txn);
+    else DONE(bs_table_abort(crowd->w.table, txn, NULL));
+    if (reply.status != BS_DONE) ANSWERS(BS_VICTIM, reply);
+    __atomic_fetch_add(reply.status == BS_DONE ? &crowd->done : &crowd->fell, 1, __ATOMIC_RELAXED);
+  }
+  return NULL;
+}
+
+static void *watches(void *place) {
+  watched_crowd *crowd = (watched_crowd *)place;
+  bs_watcher watcher = BS_NO_WATCHER_HERE;
+  static bs_board board;
+  DONE(bs_table_watch(crowd->w.table, &watcher));
+  while (!__atomic_load_n(&crowd->is_over, __ATOMIC_ACQUIRE)) {
+    bs_reply youngest;
+    bs_txn suspect;
+    DONE(bs_look(&watcher, &board));
+    youngest = bs_youngest(&board, bs_suspects(&board).slots);
+    if (youngest.status != BS_DONE) continue;
+    suspect.slot = (uint32_t)youngest.count;
+    suspect.age = board.ages[suspect.slot];
+    bs_table_settle(crowd->w.table, suspect, NULL);
+  }
+  DONE(bs_watch_end(&watcher));
+  return NULL;
+}
+
+/* Threads that lock records of two files in any order, with a watcher of their own that settles what it suspects: so none
+ * waits for ever. */
+static void threads_are_watched(uint32_t parts) {
+  enum { THREADS = 4 };
+  watched_crowd crowd;
+  pthread_t threads[THREADS], watcher;
+  bs_options options = options_with(parts);
+  size_t i;
+  memset(&crowd, 0, sizeof crowd);
+  options.detect = BS_BY_WATCHER;
+  make_world_by(&crowd.w, options);
+  start(&watcher, watches, &crowd);
+  for (i = 0; i < THREADS; i++) start(&threads[i], takes_two, &crowd);
+  for (i = 0; i < THREADS; i++) join(threads[i]);
+  __atomic_store_n(&crowd.is_over, true, __ATOMIC_RELEASE);
+  join(watcher);
+  WANT(crowd.done + crowd.fell == THREADS * 200 && crowd.done > 0);
+  end_world(&crowd.w);
 }
 
 /* ------------------------------------------------------------------------------------------------
@@ -1137,6 +1365,10 @@ int main(void) {
   PLAY_FEW(threads_ask_for_begins);
   PLAY_BOTH(ends_of_lists_are_asked_for);
   PLAY_BOTH(deadlocks_are_settled);
+  PLAY_BOTH(watchers_show_cycles);
+  PLAY_BOTH(ended_waits_are_taken_off);
+  PLAY_BOTH(watchers_are_counted);
+  PLAY_BOTH(files_are_moved);
   PLAY_BOTH(numbers_are_written);
   PLAY_BOTH(the_longest_waits_are_known);
   PLAY_BOTH(nodes_are_named);
@@ -1151,6 +1383,18 @@ int main(void) {
   threads_move_money(16);
   printf("%s\n", story);
   PLAY(refused_memory_sets_no_savepoint);
+  story = "watchers_outlive_their_table";
+  watchers_outlive_their_table(1);
+  watchers_outlive_their_table(PARTS);
+  printf("%s\n", story);
+  story = "threads_are_watched";
+  threads_are_watched(1);
+  threads_are_watched(PARTS);
+  printf("%s\n", story);
+  story = "refused_memory_makes_no_watcher";
+  refused_memory_makes_no_watcher(1);
+  refused_memory_makes_no_watcher(PARTS);
+  printf("%s\n", story);
   story = "refused_memory_makes_no_table";
   refused_memory_makes_no_table();
   printf("%s\n", story);
