@@ -444,12 +444,12 @@ impl Group {
         done(self.group.cancel(txn))
     }
 
-    /// Ends all deadlocks over several tables, that of this transaction among them. Those within one table have been
-    /// ended as they arose. Costs the latches of all tables.
+    /// Ends all deadlocks over several tables, that of this transaction among them; how many fell. Deadlocks within one
+    /// table have been ended as they arose. Costs the latches of all tables.
     ///
     /// Refused with [`NoSuchTxn`](Refusal::NoSuchTxn).
-    pub fn settle(&self, txn: Txn) -> Result<(), Refusal> {
-        done(self.group.settle(txn))
+    pub fn settle(&self, txn: Txn) -> Result<usize, Refusal> {
+        accepted(self.group.settle(txn)).map(|reply| reply.count as usize)
     }
 }
 
@@ -1050,6 +1050,16 @@ impl<'g> GroupSession<'g> {
     /// Refused as that call, and with [`BadParents`](Refusal::BadParents) for an inner node.
     pub fn drop_node(&mut self, node: Node) -> Result<(), Refusal> {
         done(self.transaction.drop_node(node))
+    }
+
+    /// As [`Manager::move_node`], of a file or an index, which stays in its part. An intention on a new parent that is
+    /// missing is tried, and a lock of the node itself if the transaction has [`X`](Mode::X) on all parents, old and new.
+    /// Whoever waits in the part for the node, or for something below it, begins its path anew.
+    ///
+    /// Refused as that call, with [`WouldBlock`](Refusal::WouldBlock) if an intention cannot be granted at once, and with
+    /// [`BadParents`](Refusal::BadParents) for an inner node.
+    pub fn move_node(&mut self, node: Node, parents: &[Node]) -> Result<(), Refusal> {
+        done(self.transaction.move_node(node, parents))
     }
 
     /// As [`Manager::split`]: the new interval. If a thread sleeps for the interval, its path starts again; on the way to a

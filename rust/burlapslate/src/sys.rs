@@ -101,6 +101,7 @@ unsafe impl Send for Place {}
 pub(crate) struct WatcherPlace {
     _is_open: bool,
     _at: *mut c_void,
+    parts: *mut c_void,
 }
 
 impl WatcherPlace {
@@ -108,6 +109,24 @@ impl WatcherPlace {
     pub(crate) fn new() -> Option<Box<WatcherPlace>> {
         // SAFETY: zero in all bytes is a value of it: `false`, and a null pointer.
         unsafe { zeroed() }
+    }
+
+    /// Writes the last board that was shown.
+    pub(crate) fn look(&mut self, board: &mut Board) -> Reply {
+        if self.parts.is_null() {
+            bs_call_look(self, board)
+        } else {
+            bs_call_group_look(self, board)
+        }
+    }
+
+    /// Ends the watcher.
+    pub(crate) fn end(&mut self) -> Reply {
+        if self.parts.is_null() {
+            bs_call_watch_end(self)
+        } else {
+            bs_call_group_watch_end(self)
+        }
     }
 }
 
@@ -482,8 +501,10 @@ unsafe extern "C" {
     pub(crate) safe fn bs_call_verdict(manager: &Place, txn: Txn, node: Node, mode: u32) -> Reply;
     pub(crate) safe fn bs_call_ended(manager: &Place) -> Found;
     pub(crate) safe fn bs_call_watch(manager: &Place, watcher: &mut WatcherPlace) -> Reply;
-    pub(crate) safe fn bs_call_look(watcher: &mut WatcherPlace, board: &mut Board) -> Reply;
-    pub(crate) safe fn bs_call_watch_end(watcher: &mut WatcherPlace) -> Reply;
+    safe fn bs_call_look(watcher: &mut WatcherPlace, board: &mut Board) -> Reply;
+    safe fn bs_call_watch_end(watcher: &mut WatcherPlace) -> Reply;
+    safe fn bs_call_group_look(watcher: &mut WatcherPlace, board: &mut Board) -> Reply;
+    safe fn bs_call_group_watch_end(watcher: &mut WatcherPlace) -> Reply;
 
     pub(crate) safe fn bs_call_group(manager: &Place, node: Node) -> Reply;
     pub(crate) safe fn bs_call_held(manager: &Place, txn: Txn, node: Node) -> Reply;
@@ -748,8 +769,9 @@ mod layouts {
         assert_eq!(offset_of!(Board, epoch), 0);
         assert_eq!(offset_of!(Board, ages), 8);
         assert_eq!(offset_of!(Board, rows), 8 + 8 * SLOTS);
-        assert_eq!(room::<WatcherPlace>(), (16, 8));
+        assert_eq!(room::<WatcherPlace>(), (24, 8));
         assert_eq!(offset_of!(WatcherPlace, _at), 8);
+        assert_eq!(offset_of!(WatcherPlace, parts), 16);
         assert_eq!(room::<Stuck>(), (40 + set, 8));
         assert_eq!((offset_of!(Stuck, node), offset_of!(Stuck, mode)), (16, 32));
         assert_eq!(offset_of!(Stuck, waits_for), 40);

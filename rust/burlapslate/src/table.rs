@@ -69,6 +69,7 @@ pub use running::{Awaited, AwaitedNode, Blocker, Histogram, LongWait, Told, Wait
 ///     transaction of a session ends by that session alone: these calls are refused with [`InParts`](Refusal::InParts).
 ///   - Each call is refused with [`InUse`](Refusal::InUse) while the thread holds any table.
 ///   - The table lends no manager ([`with`](Table::with)).
+///   - [`Session::move_node`] is for a file or an index.
 ///
 /// What the library does not offer over several parts is refused with [`InParts`](Refusal::InParts).
 ///
@@ -385,10 +386,13 @@ impl Table {
     }
 
     /// Condemns victims until a transaction is on no cycle of waits, and wakes them; how many. If the table has parts,
-    /// it ends all deadlocks over several of them, and answers 0: how many victims there were is not told.
+    /// it ends all deadlocks over several of them.
     ///
     /// Refused as [`Manager::settle`].
     pub fn settle(&self, txn: Txn) -> Result<usize, Refusal> {
+        if let Some(group) = self.group() {
+            return group.settle(txn);
+        }
         let (reply, told) = shared::settle(&self.call(), txn);
         accepted(reply)?;
         let is_victim = |notice: &Notice| matches!(notice, Notice::Victim { .. });
@@ -500,7 +504,7 @@ impl Table {
 
     /// A watcher, which looks without the latch.
     ///
-    /// Refused as [`Manager::watch`], and with [`InParts`](Refusal::InParts).
+    /// Refused as [`Manager::watch`].
     pub fn watch(&self) -> Result<Watcher, Refusal> {
         Watcher::made_by(|watcher| shared::bs_call_table_watch(&self.call(), watcher))
     }
@@ -512,7 +516,7 @@ impl Table {
     /// counts as a watcher: a later call waits alone. If the table has parts, the thread is that of
     /// [`Group::watch_over`](crate::Group::watch_over).
     ///
-    /// Refused as [`Manager::watch`], and with [`NoMemory`](Refusal::NoMemory) also if no thread can be started.
+    /// Refused as [`watch`](Table::watch), and with [`NoMemory`](Refusal::NoMemory) also if no thread can be started.
     ///
     /// ```
     /// use burlapslate::{Detect, Mode, Stop, Table, SLOTS};

@@ -2,7 +2,7 @@
 
 use crate::board::Board;
 use crate::refusal::{accepted, Refusal};
-use crate::sys::{self, Reply, WatcherPlace};
+use crate::sys::{Reply, WatcherPlace, DONE};
 use std::fmt;
 
 /// A watcher reads the boards that a manager publishes, with no mutex and no wait.
@@ -12,6 +12,9 @@ use std::fmt;
 /// waiters and of the transactions for which they wait; its epoch and all other ages are of its own
 /// moment. If there is no memory for a board, the next command publishes one. A watcher may outlive its
 /// manager: then it sees the last board that was published.
+///
+/// A watcher of a table with parts joins the boards of all, each of its own moment. So it may show a cycle that never was:
+/// [`Table::settle`](crate::Table::settle) looks again with the latches.
 ///
 /// ```
 /// use burlapslate::{Board, Detect, Mode, Table, SLOTS};
@@ -40,10 +43,10 @@ impl Watcher {
     }
 
     /// Looks: writes the last published board over this one. It is whole, and never older than the board
-    /// that this watcher saw before; with detection at block it has no suspect.
+    /// that this watcher saw before. With detection at block, and without parts, it has no suspect.
     pub fn look(&mut self, board: &mut Board) {
-        let reply = sys::bs_call_look(&mut self.place, board.as_sys());
-        assert_eq!(reply.status, sys::DONE, "a look was refused");
+        let reply = self.place.look(board.as_sys());
+        assert_eq!(reply.status, DONE, "a look was refused");
     }
 
     /// The last board that was shown.
@@ -56,7 +59,7 @@ impl Watcher {
 
 impl Drop for Watcher {
     fn drop(&mut self) {
-        sys::bs_call_watch_end(&mut self.place);
+        self.place.end();
     }
 }
 

@@ -1057,7 +1057,7 @@ fn a_deadlock_of_tasks_is_settled() {
         let name = w.begin().txn();
         assert_eq!(w.group.settle(name), Err(Refusal::NoSuchTxn));
         let own = w.begin();
-        assert_eq!(w.group.settle(own.txn()), Ok(()));
+        assert_eq!(w.group.settle(own.txn()), Ok(1));
         assert_eq!(bell.rung(), 1);
     });
 }

@@ -51,6 +51,7 @@ fn lists_are_made_in_order() {
         Do::Unlock(w.records[1][0].into()),
         Do::Escalate(w.files[0].into()),
         Do::LockInstant(w.records[2][0].into(), Mode::X),
+        Do::MoveNode(w.files[0].into(), &above),
     ];
     let mut answers = Answers::new();
     let mut session = w.begin();
@@ -78,7 +79,7 @@ fn wrong_lists_stop() {
     let under = [w.base.into()];
     let file = w.files[0].into();
     for (wrong, refusal) in [
-        (Do::MoveNode(file, &under), Refusal::BadNumber),
+        (Do::MoveNode(file, &under), Refusal::NeedExclusive),
         (Do::Unlock(w.base.into()), Refusal::BadParents),
         (Do::Lock(Named::Made(7), Mode::S), Refusal::NoSuchNode),
         (Do::LockRow(named(w.row(1)), &[], Mode::S), Refusal::BadKeys),

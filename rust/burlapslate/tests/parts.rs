@@ -1225,20 +1225,64 @@ fn what_there_is_to_see() {
     });
 }
 
+/// A file moves below another inner node, and whoever waits for it continues below that.
+#[test]
+fn files_move() {
+    each(|s| {
+        let area = s.table.add_inner(&[s.base]).unwrap();
+        let (mut mover, waiter) = (s.begin(), s.begin());
+        let moved = mover.move_node(s.files[0], &[area]);
+        assert_eq!(moved, Err(Refusal::NeedExclusive));
+        mover.lock_path(s.files[0], Mode::X).unwrap();
+        mover.lock_path(area, Mode::IX).unwrap();
+        let lock = |session: &mut Session<'_>| {
+            session.lock_path(s.records[0][0], Mode::X).unwrap();
+            session.held(area).unwrap()
+        };
+        let held = s.woken_by(waiter, lock, |_| {
+            mover.move_node(s.files[0], &[area]).unwrap();
+            mover.commit().unwrap();
+        });
+        assert_eq!(held, Mode::IX);
+    });
+}
+
+/// A watcher shows who waits, by the table's names, also after the table is gone.
+#[test]
+fn watchers_look() {
+    each(|s| {
+        let mut watcher = s.table.watch().unwrap();
+        let (mut holder, waiter) = (s.begin(), s.begin());
+        let (first, second) = (holder.txn(), waiter.txn());
+        holder.lock_path(s.records[0][0], Mode::X).unwrap();
+        let lock = |session: &mut Session<'_>| session.lock_path(s.records[0][0], Mode::X);
+        let end = s.woken_by(waiter, lock, |_| {
+            let board = watcher.board();
+            assert!(board.rows()[second.slot()].contains(first.slot()));
+            assert_eq!(board.ages()[second.slot()], second.age());
+            holder.commit().unwrap();
+        });
+        assert_eq!(end, Ok(Mode::X));
+        assert!(watcher.board().rows().iter().all(|row| row.is_empty()));
+    });
+    let s = Store::of(4);
+    let mut watchers = [(); 2].map(|()| s.table.watch().unwrap());
+    drop(s);
+    for watcher in &mut watchers {
+        assert!(watcher.board().ages().iter().all(|age| *age == 0));
+    }
+}
+
 /// What only a table of one part has is refused by name.
 #[test]
 fn what_parts_may_not_offer() {
     each(|s| {
-        let mut session = s.begin();
+        let _session = s.begin();
         let all = [
-            offered(s.table.watch()).map(drop),
             offered(s.table.on_long_wait(MILLISECOND, |_| ())),
             offered(s.table.forget_long_waits()),
         ];
         assert!(s.has_parts() || all.iter().all(Option::is_some));
-        session.lock_path(s.files[0], Mode::X).unwrap();
-        let moved = offered(session.move_node(s.files[0], &[s.base]));
-        assert!(s.has_parts() || moved.is_some());
         let traced = s.table.trace(std::fs::File::open("/dev/null").unwrap());
         assert!(matches!(traced, Err(Refusal::TooLate | Refusal::InParts)));
         let ended = s.table.end_trace();

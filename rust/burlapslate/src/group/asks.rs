@@ -8,6 +8,7 @@ use crate::session::{RowLocked, Stop};
 use crate::sys::group::Transaction;
 use crate::sys::{shared, DONE};
 use crate::table::{Locking, Sought};
+use crate::watcher::Watcher;
 use std::time::{Duration, Instant};
 
 /// Locks for tasks.
@@ -226,6 +227,13 @@ impl Group {
         let start = |pace| self.group.watch_thread(pace);
         let may_call = || self.group.may_call();
         self.watching.watch_over(rest, start, may_call)
+    }
+
+    /// A watcher of all tables, which looks without a latch.
+    ///
+    /// Refused as [`Manager::watch`](crate::Manager::watch).
+    pub fn watch(&self) -> Result<Watcher, Refusal> {
+        Watcher::made_by(|watcher| self.group.watch(watcher))
     }
 
     /// Ends all calls of [`watch_over`](Group::watch_over), now and from now on. The group's thread watches on.

@@ -21,8 +21,7 @@ impl GroupSession<'_> {
     /// [`Do::Lock`], [`Do::LockRow`], [`Do::TryLock`] and [`Do::TryLockRow`] also lock what must be held above. What a try
     /// or a [`Do::InsertPath`] acquired in the part of its node is released if it fails, unless it is a path whose `keep`
     /// says otherwise. A new file is in each part by turns. A savepoint of [`Do::Mark`], for [`Do::ReleaseSince`] alone, is
-    /// one of all parts, and takes memory. There is no [`Do::MoveNode`]: it is refused with
-    /// [`BadNumber`](Refusal::BadNumber).
+    /// one of all parts, and takes memory.
     ///
     /// Each command is refused as its call. The list is refused with [`NoMemory`](Refusal::NoMemory) if there is none
     /// for it.

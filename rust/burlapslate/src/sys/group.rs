@@ -9,7 +9,9 @@
 use super::awaited::{self, Ends, Resumes, Waits};
 use super::begun::{Begins, BeginsAtOnce};
 use super::shared::{self, Calling, Time, Until};
-use super::{assert_fits, nodes, numbers, Options, Pinned, Place, Reply, DONE, IN_USE};
+use super::{
+    assert_fits, nodes, numbers, Options, Pinned, Place, Reply, WatcherPlace, DONE, IN_USE,
+};
 use crate::group::Group as Owner;
 use crate::listing::Counters;
 use crate::manager::Manager;
@@ -133,6 +135,13 @@ unsafe extern "C" {
         key: u64,
     ) -> Reply;
     fn bs_group_drop(group: &Shared, txn: Txn, node: Node) -> Reply;
+    fn bs_group_move(
+        group: &Shared,
+        txn: Txn,
+        node: Node,
+        parents: *const Node,
+        count: usize,
+    ) -> Reply;
     fn bs_group_index_by(
         group: &Shared,
         txn: Txn,
@@ -161,6 +170,7 @@ unsafe extern "C" {
 
     safe fn bs_group_expire(group: &Shared, next: &mut Time) -> Reply;
     safe fn bs_group_watch_thread(group: &Shared, pace: u64) -> Reply;
+    safe fn bs_call_group_watch(group: &Shared, watcher: &mut WatcherPlace) -> Reply;
 
     safe fn bs_group_file_of_row(group: &Shared, file: Node, number: u64) -> Reply;
     safe fn bs_group_counters(group: &Shared, counts: &mut Counters) -> Reply;
@@ -295,6 +305,11 @@ impl Group {
     /// Cancels the waits of asks whose time is over; the next of these times is written.
     pub(crate) fn expire(&self, next: &mut Time) -> Reply {
         bs_group_expire(&self.call(), next)
+    }
+
+    /// Makes a watcher of all tables.
+    pub(crate) fn watch(&self, watcher: &mut WatcherPlace) -> Reply {
+        bs_call_group_watch(&self.call(), watcher)
     }
 
     /// Starts a thread that looks for deadlocks.
@@ -545,6 +560,12 @@ impl<'g> Transaction<'g> {
     pub(crate) fn drop_node(&mut self, node: Node) -> Reply {
         // SAFETY: no other thread is in a call of this transaction.
         unsafe { bs_group_drop(&self.call(), self.name, node) }
+    }
+
+    pub(crate) fn move_node(&mut self, node: Node, parents: &[Node]) -> Reply {
+        let (group, txn, above) = (&self.call(), self.name, nodes(parents));
+        // SAFETY: no other thread is in a call of this transaction, and the count is the list's own.
+        unsafe { bs_group_move(group, txn, node, above, parents.len()) }
     }
 
     pub(crate) fn split(&mut self, interval: Node, at: u64) -> Reply {
