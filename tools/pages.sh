@@ -16,8 +16,8 @@ limit() {
 limit 800 README.md
 limit 5000 docs/ENGINES.md
 limit 5500 docs/LOCKS.md
-limit 7500 docs/SCRIPT.md docs/MODEL.md docs/FIGURES.md
-limit 3500 docs/PROMISES.md
+limit 7320 docs/SCRIPT.md docs/MODEL.md docs/FIGURES.md
+limit 3690 docs/PROMISES.md
 limit 2500 docs/DECISIONS.md
 limit 900 docs/TESTS.md
 limit 6000 docs/ARCHITECTURE.md CONTRIBUTING.md docs/CHOOSING.md docs/CLUSTERS.md docs/PICTURES.md

@@ -20,7 +20,7 @@ Status: 0 at the end, 1 after a fault, 2 for unknown words, 3 by --strict.
 ";
 
 /// The program and the version of the library.
-pub const VERSION: &str = "gltool 0.35.0\n";
+pub const VERSION: &str = "gltool 0.36.0\n";
 
 /// What the program may be asked to do beside the report of a script.
 #[derive(Clone, Copy, Debug, PartialEq, Eq)]
