@@ -670,9 +670,9 @@ static inline bs_reply bs_watch(bs_manager *manager, bs_watcher *watcher) {
 }
 
 /* Writes the last board that was shown into `board`: whole, and never older than one that this watcher was given
- * before. With detection at block it has no suspect. Needs no mutex, never waits, and takes no memory. After the
- * manager was ended it is the last board that the manager showed. Refused with BS_OTHER_VERSION, BS_OTHER_SLOTS,
- * BS_NO_WATCHER; nothing is written then. */
+ * before. With detection at block, and without parts, it has no suspect. Needs no mutex, never waits, and takes no
+ * memory. After the manager was ended it is the last board that the manager showed. Refused with BS_OTHER_VERSION,
+ * BS_OTHER_SLOTS, BS_NO_WATCHER; nothing is written then. */
 static inline bs_reply bs_look(bs_watcher *watcher, bs_board *board) {
   bs_status misfit = bs_call_misfit();
   if (watcher == NULL || board == NULL) return bs_call_null();

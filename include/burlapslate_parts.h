@@ -81,8 +81,8 @@ static inline bs_reply bs_own_copy(const bs_manager *manager, bs_node node, cons
  * own, and one to read the first parents. If `manager` is null, what the transaction holds there is not looked at.
  *
  * Refused with BS_IN_USE if both are one manager, and with BS_BAD_NUMBER if there is no such slot or mode. Costs two
- * look-ups for each mark; and unless all are held, one for each node above the target, which takes memory if there are
- * more than 32. */
+ * look-ups for each mark; and unless all are held, one for each node that such paths pass, which takes memory if there
+ * are more than 32. */
 static inline bs_reply bs_path_lacks(const bs_manager *manager, const bs_manager *part, uint32_t slot, bs_target target,
                                      const bs_marked *marks, size_t count) {
   static const bs_marked none = { { 0, 0 }, { 0, 0 } };
