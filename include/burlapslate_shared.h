@@ -83,7 +83,7 @@
  *   - bs_table_hold lends nothing; bs_group_hold lends the manager of a part;
  *   - what is told of all parts is of one moment in each part alone, and bs_table_metrics counts inner nodes in each;
  *   - a watcher may show a cycle that never was, and bs_table_settle ends only what is one;
- *   - bs_table_move is for a file or an index, and whoever waits for it begins anew;
+ *   - bs_table_move is for a file or an index, and each call that waits for it begins anew;
  *   - bs_table_on_long_wait and traces are refused with BS_IN_PARTS.
  */
 #ifndef BURLAPSLATE_SHARED_H

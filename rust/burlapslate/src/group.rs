@@ -1054,7 +1054,7 @@ impl<'g> GroupSession<'g> {
 
     /// As [`Manager::move_node`], of a file or an index, which stays in its part. An intention on a new parent that is
     /// missing is tried, and a lock of the node itself if the transaction has [`X`](Mode::X) on all parents, old and new.
-    /// Whoever waits in the part for the node, or for something below it, begins its path anew.
+    /// Each call that waits in the part for the node, or for something below it, begins anew.
     ///
     /// Refused as that call, with [`WouldBlock`](Refusal::WouldBlock) if an intention cannot be granted at once, and with
     /// [`BadParents`](Refusal::BadParents) for an inner node.

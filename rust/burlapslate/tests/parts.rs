@@ -1225,7 +1225,7 @@ fn what_there_is_to_see() {
     });
 }
 
-/// A file moves below another inner node, and whoever waits for it continues below that.
+/// A file moves below another inner node, and a session that waits for it continues below that.
 #[test]
 fn files_move() {
     each(|s| {
